@@ -1,4 +1,5 @@
-//! What the rows share: files in memory, how each is made, and calls that are compared with what was wanted.
+//! The common parts of the rows: files in memory, the steps that make them, and calls of the program that are compared
+//! with the expected result.
 
 mod answer;
 mod bytes;

@@ -1,4 +1,5 @@
-//! Tests of intakes and workers, reports and command lines, part by part, and of whole commands where files can't show the result.
+//! Tests of intakes and workers, of reports and of command lines, crate by crate, and tests of whole commands that
+//! files can't show: reads, fetches and writes that fail, inputs that change, and concurrent threads.
 #![tactic(auto)]
 
 #[cfg(test)]

@@ -1,8 +1,8 @@
-//! Tests of what stands above the judges, and of words and pairs, by the part that they call.
+//! Tests of the crates above the judges, and of command lines and pairs of flows.
 
 mod compare;
 
-// Command lines, two flows, what a capture holds, and reports that are read.
+// Command lines, two flows, scans, and reports that are read.
 mod json;
 mod lines;
 mod scan;

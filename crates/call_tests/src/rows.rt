@@ -1,4 +1,4 @@
-//! The rows, by what fails, changes or overlaps.
+//! The rows, by what fails, changes or is concurrent.
 
 mod faults;
 mod plain;

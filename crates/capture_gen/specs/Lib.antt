@@ -1,8 +1,8 @@
--- what is promised
+-- definitions that the crate's clauses cite
 pub mod Capture
 pub mod Flaws
 pub mod Packets
 pub mod Sdp
 pub mod Spreads
--- these only serve proofs
+-- used in proofs only
 pub mod Writing

@@ -1,5 +1,5 @@
-//! Captures and session descriptions that several crates try, with the instants of worked rows. Tests
-//! alone call them, and they take memory.
+//! Captures and session descriptions for the tests of several crates. Only these functions allocate
+//! memory.
 
 mod by_hand;
 mod description;

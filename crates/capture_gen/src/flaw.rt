@@ -1,15 +1,15 @@
-//! What a made capture has wrong.
+//! Flaws of made captures.
 
 ghost use Rattle.std.specs.Prelude.{◌≡◌, ◌≤◌};
 
-/// What a capture has wrong, numbered 0 to 4 in this order.
+/// The flaw of a capture. The variants are numbered 0 to 4 in this order.
 #[derive(Clone, Copy, Debug)]
 pub enum Flaw {
-    /// Nothing.
+    /// No flaw.
     Clean,
-    /// In the last frame packets 1 to 4 have the stamp of packet 0.
+    /// Packets 1 to 4 of the last frame have the capture timestamp of packet 0.
     Burst,
-    /// The packets of each frame stand 1,000,000 ns apart, in place of 960,000.
+    /// The packets of each frame come 1,000,000 ns apart instead of 960,000 ns.
     Slow,
     /// Packet 10 of the last frame is left out.
     Gap,
@@ -20,7 +20,7 @@ pub enum Flaw {
 impl Flaw {
     ghost use Rattle.capture_gen.specs.Flaws.{flaw_of, spacing, is_bunched, is_left_out, marked_place};
 
-    /// The flaw with this number.
+    /// Returns the flaw with this number.
     pub fn of(number: u32) -> Flaw
         requires { number ≤ 4 }
         ensures { result ≡ flaw_of number }
@@ -34,7 +34,7 @@ impl Flaw {
         }
     }
 
-    /// Nanoseconds from one packet of a frame to the next.
+    /// Returns the time from one packet of a frame to the next, in nanoseconds.
     pub fn spacing(self) -> u64
         ensures { result ≡ spacing self }
     {
@@ -44,7 +44,8 @@ impl Flaw {
         }
     }
 
-    /// Whether the packet at this place of a frame, the last one or not, has the stamp of packet 0.
+    /// Returns whether the packet at this place has the capture timestamp of packet 0. `last` is
+    /// true for the last frame of the capture.
     pub fn is_bunched(self, last: bool, place: u32) -> bool
         ensures { result ≡ is_bunched self last place }
     {
@@ -54,7 +55,7 @@ impl Flaw {
         }
     }
 
-    /// Whether the packet at this place is left out.
+    /// Returns whether the packet at this place is left out.
     pub fn is_left_out(self, last: bool, place: u32) -> bool
         ensures { result ≡ is_left_out self last place }
     {
@@ -65,7 +66,7 @@ impl Flaw {
         }
     }
 
-    /// The place of the packet with the marker.
+    /// Returns the place of the packet with the marker.
     pub fn marked_place(self, last: bool) -> u32
         ensures { result ≡ marked_place self last }
     {

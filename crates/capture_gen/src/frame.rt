@@ -1,4 +1,4 @@
-//! The packets of a frame of video, and the one before the first frame.
+//! The packets of a frame of video, and the packet before the first frame.
 
 ghost use Rattle.std.specs.Prelude.{◌≡◌, ◌<◌, ◌+◌, ◌%◌, ◌^◌};
 ghost use Rattle.timing_outside.specs.Causes.{HasCause};
@@ -9,24 +9,26 @@ use crate::flaw::Flaw;
 use crate::packet::Packet;
 use timing_outside::{Failed, Sink, put_all};
 
-/// Packets of a frame that lacks none.
+/// The number of packets in a complete frame.
 const PACKETS: u32 = 20;
 
+/// The time from a frame to the next, in nanoseconds.
 const FRAME_NANOSECONDS: u64 = 20_000_000;
 
-/// From the start of a frame to its first packet.
+/// The time from the start of a frame to its first packet, in nanoseconds.
 const FIRST_NANOSECONDS: u64 = 764_000;
 
+/// The RTP timestamp's step from a frame to the next, in ticks of 90 kHz.
 const FRAME_TICKS: u32 = 1800;
 
-/// The second at which frame 0 starts, in nanoseconds since 1970-01-01 00:00:00.
+/// Returns the second in which frame 0 starts, in nanoseconds since 1970-01-01 00:00:00.
 fn start(number: u64) -> u64
     ensures { result ≡ start number }
 {
     (1_600_000_000 + number % 1_000_000) * 1_000_000_000
 }
 
-/// The packet number so many packets after the head of a capture.
+/// Returns the packet number of the packet `after` places behind the first of a capture.
 fn packet_number(number: u64, after: u32) -> u32
     ensures { result ≡ (number + after) % 2 ^ 32 }
 {
@@ -34,8 +36,8 @@ fn packet_number(number: u64, after: u32) -> u32
     first.wrapping_add(after)
 }
 
-/// The packet before frame 0 of the capture that is made from this number. It ends a frame before
-/// the capture.
+/// Returns the first packet of the capture made from this number. It ends a frame before the
+/// capture.
 pub fn head(number: u64) -> Packet
     ensures { result ≡ head_packet number }
 {
@@ -52,7 +54,7 @@ pub fn head(number: u64) -> Packet
 pub struct Frame {
     /// The number that the capture is made from.
     pub number: u64,
-    /// What the capture has wrong.
+    /// The flaw of the capture.
     pub flaw: Flaw,
     /// The frame's place in the capture, counted from 0.
     pub index: u32,
@@ -64,7 +66,7 @@ impl Frame {
     ghost use Rattle.capture_gen.specs.Capture.{packet_of};
     ghost use Rattle.capture_gen.specs.Writing.{place_bytes, frame_bytes};
 
-    /// The packet at a place of the frame, counted from 0.
+    /// Returns the packet at this place of the frame, counted from 0.
     fn packet(&self, place: u32) -> Packet
         requires early { self.now.index < 20000 }
         requires within { place < 20 }
@@ -86,7 +88,8 @@ impl Frame {
         }
     }
 
-    /// Writes the record of the packet at a place, where the packet isn't left out.
+    /// Writes the packet record of the packet at this place, unless the packet is left out. Returns
+    /// `Err` if a write fails.
     fn put_place<K: Sink>(&self, place: u32, out: &mut K) -> Result<(), Failed>
         requires early { self.now.index < 20000 }
         requires within { place < 20 }
@@ -100,7 +103,7 @@ impl Frame {
         put_all(out, &self.packet(place).record())
     }
 
-    /// Writes the records of the frame's packets.
+    /// Writes the packet records of the frame. Returns `Err` if a write fails.
     pub fn put<K: Sink>(&self, out: &mut K) -> Result<(), Failed>
         requires { self.now.index < 20000 }
         ensures bytes { PutsAll (K.written out.old) (K.written out.new) result

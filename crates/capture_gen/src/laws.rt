@@ -1,5 +1,5 @@
-//! The definition of a capture on bytes that were worked by hand. Each function is a theorem: it
-//! does nothing, and its clauses are proved.
+//! Examples of the definition of a capture, worked by hand. Each function does nothing; its clauses
+//! are what is proved.
 
 ghost use Rattle.std.specs.Prelude.{◌≡◌, [], ◌∷◌, true, false, length, map, take, drop};
 ghost use Rattle.capture_gen.specs.Capture.{capture, frame_of, head_packet, packet_of, packets, packets_of, start};
@@ -8,8 +8,9 @@ ghost use Rattle.pcap_reader.specs.WrittenHeads.{file_head};
 ghost use Rattle.capture_gen.specs.Packets.{extended_number, record_of, rtp_header};
 ghost use Rattle.capture_gen.specs.Sdp.{sdp_text};
 
-/// The file head: the magic of little-endian nanosecond captures, version 2.4, no zone, no sigfigs,
-/// snaplen 262,144, Ethernet. The session description has 346 bytes.
+/// Worked by hand: the file header, with the magic of little-endian nanosecond captures, version
+/// 2.4, no zone, no sigfigs, snaplen 262,144, Ethernet; and the 346 bytes of the session
+/// description.
 pub fn file_by_hand()
     ensures head { file_head
         ≡ 0x4d ∷ 0x3c ∷ 0xb2 ∷ 0xa1 ∷ 0x02 ∷ 0x00 ∷ 0x04 ∷ 0x00
@@ -18,7 +19,8 @@ pub fn file_by_hand()
     ensures sdp { length sdp_text ≡ 346 }
 {}
 
-/// The record heads of the first two packets made from the number 0.
+/// Worked by hand: the record headers of the first two packets of the capture made from the number
+/// 0.
 #[tactic(auto, unfolding(crate::specs::Packets::record_of))]
 pub fn record_heads_by_hand()
     // 1,599,999,999 seconds and 999,000,000 nanoseconds, and twice the length 56.
@@ -31,8 +33,8 @@ pub fn record_heads_by_hand()
         ∷ 0x38 ∷ 0x00 ∷ 0x00 ∷ 0x00 ∷ 0x38 ∷ 0x00 ∷ 0x00 ∷ 0x00 ∷ [] }
 {}
 
-/// The Ethernet frame of the first packet after the head, made from the number 0: packet number 1,
-/// RTP timestamp 1800, no marker.
+/// Worked by hand: the Ethernet frame of the second packet of the capture made from the number 0,
+/// with packet number 1, RTP timestamp 1800, and no marker.
 #[tactic(auto, unfolding(crate::specs::Packets::record_of))]
 pub fn ethernet_frame_by_hand()
     ensures { drop 16 (record_of (packet_of (frame_of 0 2 (flaw_of 0) 0) 0))
@@ -45,15 +47,17 @@ pub fn ethernet_frame_by_hand()
         ∷ 0x00 ∷ 0x00 ∷ [] }
 {}
 
-/// Packet number 65,544 has the halves 1 and 8. A marker sets the highest bit of the second byte.
+/// Worked by hand: packet number 65,544 has the halves 1 and 8. The marker sets the highest bit of
+/// the second byte.
 pub fn numbers_by_hand()
     ensures sequence { take 2 (drop 2 (rtp_header (head_packet 65544))) ≡ 0x00 ∷ 0x08 ∷ [] }
     ensures extended { extended_number (head_packet 65544) ≡ 0x00 ∷ 0x01 ∷ [] }
     ensures marker { take 2 (rtp_header (head_packet 65544)) ≡ 0x80 ∷ 0xe0 ∷ [] }
 {}
 
-/// Frame 0 of the number 999,999 starts 1,600,999,999 seconds after 1970, and that of 1,000,000
-/// again at 1,600,000,000; frame 1 has 1,800 ticks more than frame 0.
+/// Worked by hand: frame 0 made from the number 999,999 starts 1,600,999,999 seconds after 1970,
+/// and that from 1,000,000 again at 1,600,000,000. The RTP timestamp of frame 1 is 1,800 ticks
+/// above that of frame 0.
 pub fn starts_by_hand()
     ensures last { start 999999 ≡ 1600999999000000000 }
     ensures again { start 1000000 ≡ 1600000000000000000 }
@@ -64,17 +68,18 @@ pub fn starts_by_hand()
     ensures second_timestamp { (packet_of (frame_of 0 2 (flaw_of 0) 1) 0).timestamp ≡ 3600 }
 {}
 
-/// A capture's packet numbers go on at 0 after 2^32 - 1.
+/// Worked by hand: packet numbers continue with 0 after 2^32 - 1.
 pub fn numbers_wrap()
     ensures head { (head_packet 4294967295).number ≡ 0xffffffff }
     ensures first { (packet_of (frame_of 4294967295 2 (flaw_of 0) 0) 0).number ≡ 0 }
     ensures second { (packet_of (frame_of 4294967295 2 (flaw_of 0) 0) 1).number ≡ 1 }
 {}
 
-/// What each flaw changes in the last of two frames made from the number 0, and in the one before.
+/// Worked by hand: the effect of each flaw on the last of two frames made from the number 0, and on
+/// the frame before.
 #[tactic(auto, unfolding(crate::specs::Capture::packets_of))]
 pub fn flaws_by_hand()
-    // Five packets of the last frame at once, and the next 4,800,000 ns after them.
+    // Five packets of the last frame come at once, and the next 4,800,000 ns after them.
     ensures burst { map (λ p. p.at) (take 6 (packets_of (frame_of 0 2 (flaw_of 1) 1)))
         ≡ 1600000000020764000 ∷ 1600000000020764000 ∷ 1600000000020764000 ∷ 1600000000020764000
         ∷ 1600000000020764000 ∷ 1600000000025564000 ∷ [] }
@@ -98,7 +103,7 @@ pub fn flaws_by_hand()
         ≡ false ∷ false ∷ true ∷ [] }
 {}
 
-/// Two frames are 2,976 bytes, and 2,904 with flaw 3 or 4.
+/// Worked by hand: a capture of two frames has 2,976 bytes, or 2,904 with flaw 3 or 4.
 #[tactic(auto, unfolding(crate::specs::Capture::capture, crate::specs::Capture::packets, crate::specs::Capture::packets_of, crate::specs::Packets::record_of))]
 pub fn lengths_by_hand()
     ensures whole { length (capture 0 2 0) ≡ 2976 }

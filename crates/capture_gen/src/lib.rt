@@ -1,9 +1,9 @@
-//! Captures of one video flow that are made from a number: 1080p at 50 frames per second, 20
-//! packets per frame, with a flaw where one is asked for.
+//! A generator of captures of one video flow: 1080p at 50 frames per second, 20 packets per frame,
+//! with a flaw if one is asked for. Each capture is made from a number.
 //!
-//! A capture is a little-endian classic capture file with nanosecond stamps. Its records are one
-//! packet that ends a frame before the capture, and then the packets of its frames. No call here takes
-//! memory but those of [`examples`].
+//! A capture is a little-endian classic pcap file with nanosecond timestamps. Its packet records
+//! are one packet that ends a frame before the capture, and then the packets of its frames. Only
+//! the functions of [`examples`] allocate memory.
 #![tactic(auto)]
 
 mod capture;

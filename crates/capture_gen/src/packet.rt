@@ -1,11 +1,11 @@
-//! One packet, and the bytes of its record.
+//! A packet, and the bytes of its packet record.
 
 ghost use Rattle.std.specs.Prelude.{◌≡◌, ◌<◌, ◌*◌, ◌^◌, ◌++◌};
 
 use byteorder::{BigEndian, ByteOrder};
 use pcap_reader::record_head;
 
-/// Captured and original length of each packet: its Ethernet frame, in bytes.
+/// The captured and original length of each packet, in bytes: that of its Ethernet frame.
 const ETHERNET_LEN: u32 = 56;
 
 /// The headers that all packets share: Ethernet II with the type IPv4 (14 bytes), IPv4 of total
@@ -17,24 +17,24 @@ const SHARED_HEADERS: [u8; 42] = [
     0x00, 0x01, 0xc3, 0x50, 0xc3, 0x50, 0x00, 0x16, 0x00, 0x00,
 ];
 
-/// What sets a packet apart from the others of its flow.
+/// The fields in which a packet differs from the others of its flow.
 #[derive(Clone, Copy, Debug)]
 pub struct Packet {
-    /// When it is captured, in nanoseconds since 1970-01-01 00:00:00.
+    /// The capture timestamp, in nanoseconds since 1970-01-01 00:00:00.
     pub at: u64,
     /// The RTP timestamp, in ticks of 90 kHz.
     pub timestamp: u32,
     /// Whether it is the last packet of its frame.
     pub marker: bool,
-    /// The packet number: the extended sequence number is its high half.
+    /// The packet number: the extended sequence number times 65,536, plus the RTP sequence number.
     pub number: u32,
 }
 
 impl Packet {
     ghost use Rattle.capture_gen.specs.Packets.{extended_number, record_of, rtp_header};
 
-    /// The RTP header and the extended sequence number (RFC 3550, section 5.1; RFC 4175, section
-    /// 4.2).
+    /// Returns the RTP header and the extended sequence number (RFC 3550, section 5.1; RFC 4175,
+    /// section 4.2).
     fn rtp(&self) -> [u8; 14]
         ensures { result ≡ rtp_header self.now ++ extended_number self.now }
     {
@@ -49,7 +49,7 @@ impl Packet {
         rtp
     }
 
-    /// The packet's record in a capture.
+    /// Returns the packet record of the packet.
     pub fn record(&self) -> [u8; 72]
         requires { self.now.at < 2 ^ 32 * 1000000000 }
         ensures { result ≡ record_of self.now }

@@ -1,8 +1,9 @@
-//! The session description that goes with the captures.
+//! The session description of the captures.
 
 ghost use Rattle.std.specs.Prelude.{◌≡◌};
 ghost use Rattle.capture_gen.specs.Sdp.{sdp_text};
 
+/// The session description, ten lines.
 const SDP: &str = "v=0
 o=- 1 1 IN IP4 192.0.2.1
 s=test
@@ -16,7 +17,7 @@ a=mediaclk:direct=0
 a=ts-refclk:ptp=IEEE1588-2008:39-A7-94-FF-FE-07-CB-D0:37
 ";
 
-/// The session description of the flow that the captures hold: 1080p at 50 frames per second to
+/// Returns the session description of the captures' flow: 1080p at 50 frames per second to
 /// 239.0.0.1, port 50000, from a narrow sender.
 pub fn description() -> &'static str
     ensures { result.now ≡ sdp_text }
@@ -24,7 +25,7 @@ pub fn description() -> &'static str
     SDP
 }
 
-/// Its bytes.
+/// Returns the bytes of the session description.
 pub fn sdp_bytes() -> &'static [u8]
     ensures { result.now ≡ sdp_text }
 {

@@ -1,32 +1,33 @@
--- Why a frame goes to no UDP port over IPv4. A place is a count of bytes from the frame's start.
+-- The reasons for which an Ethernet frame goes to no UDP port over IPv4. Places are byte offsets from the start of the
+-- frame.
 -- From the standards: the types and their places, IEEE 802.3, clause 3.2.6 (the type field), IEEE 802.1Q (the tags
 -- 0x8100, and 0x88a8 of a provider's bridge) and RFC 2464, section 3 (IPv6); the fields, RFC 791, section 3.1 (IPv4).
--- This project's profile: which class is the first of several, and that one tag of type 0x8100 may stand before the
--- type and no other; what has a target is said by `datagram_of` of udp_rtp.
+-- This project's profile: which class counts if several apply, and that at most one tag, of type 0x8100, may stand
+-- before the type. `datagram_of` of udp_rtp defines which frames have a target.
 use Rattle.std.specs.Prelude.{ℕ, ◌+◌, ◌/◌, ◌%◌, ◌^◌, ◌==◌, ◌&&◌, ◌||◌, nat_le, Bool, if◌then◌else◌, List, length}
 use Rattle.std.specs.Prelude.{slice_index}
 use Rattle.udp_rtp.specs.Numbers.{number16}
 use Rattle.capture_scan.specs.declared.class.Class.{Class}
 use Rattle.capture_scan.specs.declared.class.Class.TheVariants.{Empty, Tags, Ipv6, Other, NotUdp, Fragment, Broken}
 
--- a type field with this number stands at a place
+-- the type field at a place has this number
 abbrev pub has_kind : List ℕ → (place kind : ℕ) → Bool
 has_kind frame place kind = nat_le (place + 2) (length frame) && (number16 frame place == kind)
 
--- one with this number stands behind one tag
+-- the type field behind one tag has this number
 abbrev pub has_tagged_kind : List ℕ → ℕ → Bool
 has_tagged_kind frame kind = has_kind frame 12 0x8100 && has_kind frame 16 kind
 
--- a tag of a provider's bridge comes first, or two tags follow each other
+-- the tag of a provider's bridge comes first, or two tags follow each other
 abbrev pub has_tags : List ℕ → Bool
 has_tags frame = has_kind frame 12 0x88a8 || (has_tagged_kind frame 0x8100 || has_tagged_kind frame 0x88a8)
 
--- the frame is of this type, behind one tag or none
+-- the frame has this type, behind one tag or none
 abbrev pub is_of_kind : List ℕ → ℕ → Bool
 is_of_kind frame kind = has_kind frame 12 kind || has_tagged_kind frame kind
 
--- of a frame of IPv4, whose header stands at a place: the twenty bytes of a header of version 4 are there, and
--- its protocol isn't 17 (UDP), or the flag MF or one of the 13 bits of the fragment offset is set
+-- the class of an IPv4 frame with its header at a place. `Broken`: the header isn't 20 bytes of version 4. `NotUdp`:
+-- its protocol isn't 17. `Fragment`: the flag MF or one of the 13 bits of the fragment offset is set. Else `Broken`.
 abbrev pub class_at : List ℕ → ℕ → Class
 class_at frame e =
     if nat_le (e + 20) (length frame) && (slice_index frame e / 16 == 4) then
@@ -35,7 +36,7 @@ class_at frame e =
     else NotUdp)
     else Broken
 
--- the class of a frame without a target: the first that holds
+-- the class of a frame without a target: the first that applies
 abbrev pub class_of : List ℕ → Class
 class_of frame =
     if length frame == 0 then Empty

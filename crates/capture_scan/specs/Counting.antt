@@ -1,4 +1,5 @@
--- The numbers of a stream with one packet more, by its numbers, its last packet number and its last mark.
+-- The numbers of a stream after one more packet, from its numbers, its last packet number and its last packet with the
+-- marker.
 use Rattle.std.specs.Prelude.{ℕ, ◌+◌, min, max, if◌then◌else◌, ◌&&◌, ◌||◌, [], Option, Some, None}
 use Rattle.timing_base.specs.declared.packet.Rtp.{Rtp}
 use Rattle.capture_scan.specs.Streams.{arrival, goes_back, has_other_type, is_same, lost_in, range_from, size, step}
@@ -16,7 +17,7 @@ use Rattle.capture_scan.specs.declared.stream.Pace.{Pace}
 use Rattle.capture_scan.specs.declared.stream.Range.{Range}
 use Rattle.capture_scan.specs.declared.stream.Stream.{Stream}
 
--- an order with one packet number more, which comes after another
+-- the order after one more packet number, given with the one before it
 abbrev pub order_next : Order → ℕ × ℕ → Order
 order_next o two = record {
   lost = o.lost + lost_in two;
@@ -25,11 +26,11 @@ order_next o two = record {
   wraps = o.wraps + (if wraps_alone two then 1 else 0);
 }
 
--- a range with one number more
+-- a range with one more number
 abbrev pub range_next : Range → ℕ → Range
 range_next r x = record { least = min r.least x; greatest = max r.greatest x }
 
--- a pace with one mark more, which comes after another
+-- the pace after one more packet with the marker, given with the one before it
 abbrev pub pace_next : Option Pace → Mark × Mark → Pace
 pace_next None two = record {
   frame = range_from (size two) [];
@@ -42,7 +43,7 @@ pace_next (Some p) two = record {
   rate = record { ticks = p.rate.ticks + step two; steps = p.rate.steps + 1 };
 }
 
--- the mark of a packet at a place, where it has the marker
+-- the mark of a packet at this place of its stream, if it has the marker
 abbrev pub mark_of : ℕ → Rtp → Option Mark
 mark_of place p = if p.marker then Some (record { place = place; timestamp = p.timestamp }) else None
 
@@ -51,13 +52,13 @@ abbrev pub mark_next : (before mark : Option Mark) → Option Mark
 mark_next before None = before
 mark_next before (Some mark) = Some mark
 
--- a pace with one packet more
+-- the pace after one more packet
 abbrev pub pace_with : Option Pace → (before mark : Option Mark) → Option Pace
 pace_with pace before None = pace
 pace_with pace None (Some mark) = pace
 pace_with pace (Some before) (Some mark) = Some (pace_next pace (before, mark))
 
--- lines with one packet more
+-- the lines after one more packet
 abbrev pub lines_with : Option Lines → Option Line → Option Lines
 lines_with lines None = lines
 lines_with None (Some l) = Some (record { greatest = l.number; second_field = l.second_field; fits = l.fits })
@@ -67,7 +68,7 @@ lines_with (Some lines) (Some l) = Some (record {
   fits = lines.fits && l.fits;
 })
 
--- a stream with one packet more
+-- the numbers of a stream after one more packet
 abbrev pub stream_next : Stream → ℕ → Option Mark → Packet → Stream
 stream_next s number mark p = record {
   source = s.source;
@@ -85,12 +86,12 @@ stream_next s number mark p = record {
   lines = lines_with s.lines p.line;
 }
 
--- the stamps of the first record and the last, with one record more
+-- the capture timestamps of the first and the last packet record, after one more record
 abbrev pub span_with : Option Span → ℕ → Span
 span_with None at = record { first = at; last = at }
 span_with (Some span) at = record { first = span.first; last = at }
 
--- the frames that are passed over, with one of this class more
+-- the counts of the frames without a target, after one more frame of this class
 abbrev pub passed_with : PassedOver → Class → PassedOver
 passed_with n Empty = record n { empty = n.empty + 1 }
 passed_with n Tags = record n { tags = n.tags + 1 }

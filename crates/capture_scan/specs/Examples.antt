@@ -1,4 +1,4 @@
--- Frames, packets and lists of numbers for examples that are worked by hand.
+-- Ethernet frames, packets and lists of numbers for the examples that are worked by hand.
 use Rattle.std.specs.Prelude.{ℕ, ◌+◌, ◌*◌, Bool, true, false, List, replicate, [], ◌∷◌, ◌++◌, None}
 use Rattle.timing_base.specs.Captures.{Record}
 use Rattle.timing_base.specs.declared.packet.Rtp.{Rtp}
@@ -9,27 +9,31 @@ use Rattle.capture_scan.specs.declared.packet.Packet.{Packet}
 use Rattle.capture_scan.specs.declared.stream.Order.{Order}
 use Rattle.capture_scan.specs.declared.stream.Pace.{Pace}
 
--- the types of IPv6, of ARP, and of a tag of a provider's bridge with VLAN 5
+-- the type field of IPv6
 abbrev pub ipv6_type : List ℕ
 ipv6_type = 0x86 ∷ 0xdd ∷ []
 
+-- the type field of ARP
 abbrev pub arp_type : List ℕ
 arp_type = 0x08 ∷ 0x06 ∷ []
 
+-- a tag of a provider's bridge, with VLAN 5
 abbrev pub provider_tag : List ℕ
 provider_tag = 0x88 ∷ 0xa8 ∷ 0x00 ∷ 0x05 ∷ []
 
--- what may follow a type
+-- ten bytes that may follow a type field
 abbrev pub ten : List ℕ
 ten = 0 ∷ 0 ∷ 0 ∷ 0 ∷ 0 ∷ 0 ∷ 0 ∷ 0 ∷ 0 ∷ 0 ∷ []
 
--- a frame of TCP, the first fragment of a datagram, and a frame with the version 6 in a header of IPv4
+-- an Ethernet frame with TCP
 abbrev pub tcp_frame : List ℕ
 tcp_frame = frame_of (ip 0x45 0x40 0 6)
 
+-- the first fragment of a datagram
 abbrev pub fragment_frame : List ℕ
 fragment_frame = frame_of (ip 0x45 0x20 0 17)
 
+-- an IPv4 header with version 6
 abbrev pub broken_frame : List ℕ
 broken_frame = frame_of (ip 0x65 0x40 0 17)
 
@@ -37,7 +41,7 @@ broken_frame = frame_of (ip 0x65 0x40 0 17)
 abbrev pub sender : Target
 sender = record { address = 0xc0000201; port = 50000 }
 
--- the packet of `frame_of plain_ip` in a record with this number and stamp
+-- the packet of `frame_of plain_ip` in a packet record with this number and capture timestamp
 abbrev pub plain_at : ℕ → ℕ → Packet
 plain_at rec at = record {
   rec = rec;
@@ -49,45 +53,47 @@ plain_at rec at = record {
   line = None;
 }
 
--- a frame to the group whose RTP payload goes on behind the extended sequence number, with this UDP length, below 256
+-- a frame to the group with these bytes behind the extended sequence number, and with this UDP length, below 256
 abbrev pub frame_on : ℕ → List ℕ → List ℕ
 frame_on stated more = macs ++ (ip_type ++ (plain_ip ++ (udp stated ++ (rtp 0x80 0x60 ++ (extended ++ more)))))
 
--- a line header by number, which fits raw video or doesn't
+-- a line header with this line number, which fits raw video or doesn't
 abbrev pub line_with : (number : ℕ) → (second_field fits : Bool) → Line
 line_with number second_field fits = record { number = number; second_field = second_field; fits = fits }
 
--- a line header of 1,920 bytes: line 1,079 of the first field, and line 539 of the second
+-- a line header of 1,920 bytes, line 1,079 of the first field
 abbrev pub line_header : List ℕ
 line_header = 0x07 ∷ 0x80 ∷ 0x04 ∷ 0x37 ∷ 0x00 ∷ 0x00 ∷ []
 
+-- a line header of 1,920 bytes, line 539 of the second field
 abbrev pub second_header : List ℕ
 second_header = 0x07 ∷ 0x80 ∷ 0x82 ∷ 0x1b ∷ 0x00 ∷ 0x00 ∷ []
 
--- a line header of 100 bytes, of line 1,079
+-- a line header of 100 bytes, line 1,079
 abbrev pub short_header : List ℕ
 short_header = 0x00 ∷ 0x64 ∷ 0x04 ∷ 0x37 ∷ 0x00 ∷ 0x00 ∷ []
 
--- line headers of no byte: the last line of 4,320, and one more
+-- a line header of 0 bytes with the greatest line number that fits, 4,319
 abbrev pub last_header : List ℕ
 last_header = 0x00 ∷ 0x00 ∷ 0x10 ∷ 0xdf ∷ 0x00 ∷ 0x00 ∷ []
 
+-- a line header of 0 bytes with line number 4,320
 abbrev pub further_header : List ℕ
 further_header = 0x00 ∷ 0x00 ∷ 0x10 ∷ 0xe0 ∷ 0x00 ∷ 0x00 ∷ []
 
--- six bytes of samples of L24 (RFC 3190), where a line header would stand
+-- six bytes of 24-bit audio samples (L24, RFC 3190) in the place of a line header
 abbrev pub samples : List ℕ
 samples = 0x12 ∷ 0x34 ∷ 0x56 ∷ 0xed ∷ 0xcb ∷ 0xaa ∷ []
 
--- what is read of a packet with this timestamp and marker
+-- the RTP header of a packet with this RTP timestamp and marker
 abbrev pub read_with : ℕ → Bool → Rtp
 read_with timestamp marker = record { number = 1; timestamp = timestamp; marker = marker; pt = 96; ssrc = 1 }
 
--- so many packets with this timestamp, and one more with it and the marker
+-- this many packets without the marker and one with it, all with this RTP timestamp
 abbrev pub frame_of_reads : (unmarked timestamp : ℕ) → List Rtp
 frame_of_reads unmarked timestamp = replicate unmarked (read_with timestamp false) ++ (read_with timestamp true ∷ [])
 
--- a packet to the group by record, which is also its stamp, SSRC, number and marker
+-- a packet to the group in this packet record, with `rec` also as its capture timestamp
 abbrev pub came : (rec ssrc number : ℕ) → Bool → Packet
 came rec ssrc number marker = record {
   rec = rec;
@@ -99,11 +105,11 @@ came rec ssrc number marker = record {
   line = None;
 }
 
--- an order of lost, back, same and wraps
+-- an order with these counts
 abbrev pub order_with : ℕ → ℕ → ℕ → ℕ → Order
 order_with lost back same wraps = record { lost = lost; back = back; same = same; wraps = wraps }
 
--- a pace by its frames' and steps' extremes, and its rate
+-- a pace with these ranges and this rate
 abbrev pub pace_with : ℕ → ℕ → ℕ → ℕ → ℕ → ℕ → Pace
 pace_with least_frame greatest_frame least_step greatest_step ticks steps = record {
   frame = record { least = least_frame; greatest = greatest_frame };
@@ -111,13 +117,13 @@ pace_with least_frame greatest_frame least_step greatest_step ticks steps = reco
   rate = record { ticks = ticks; steps = steps };
 }
 
--- records of these frames, numbered on, with stamps that rise by 10
+-- packet records of these frames, numbered from `number`, with capture timestamps of ten times their numbers
 abbrev pub records_from : ℕ → List (List ℕ) → List Record
 records_from number [] = []
 records_from number (frame ∷ frames) =
     record { number = number; stamp = number * 10; bytes = frame } ∷ records_from (number + 1) frames
 
--- a frame of each class, and one with a packet
+-- one frame of each class, and one that is an RTP packet
 abbrev pub one_of_each : ℕ → List Record
 one_of_each number =
     records_from number

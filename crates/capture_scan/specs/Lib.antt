@@ -1,15 +1,15 @@
--- what is promised
+-- the definitions that the public clauses cite
 pub mod Classes
 pub mod Frames
 pub mod Streams
 pub mod Groups
 pub mod Scans
 pub mod Stands
--- frames and lists of numbers that are worked by hand
+-- frames and lists of numbers for the examples that are worked by hand
 pub mod Examples
--- these only serve proofs
+-- these serve only the proofs
 pub mod Counting
 pub mod Few
 pub mod Places
--- what is promised of this module
+-- the definitions for the texts of a scan
 pub mod report

@@ -1,6 +1,6 @@
--- What is told of a capture, over the list of its records. Records count from 1; stamps are nanoseconds.
--- A stream is the packets of one target and one synchronisation source (RFC 3550, section 3).
--- This project's profile: at most 1,024 streams are told, and at most 1,024 targets with unread packets.
+-- The result of a scan, as a function of the packet records of a capture. Packet records count from 1; capture
+-- timestamps are nanoseconds. A stream is the packets with one target and one SSRC (RFC 3550, section 3).
+-- This project's profile: at most 1,024 streams are listed, and at most 1,024 targets with unread packets.
 use Rattle.std.specs.Prelude.{◌≡◌, ℕ, ◌+◌, ◌==◌, ◌&&◌, Bool, true, false, List, [], ◌∷◌, length, map, filter_map}
 use Rattle.std.specs.Prelude.{Option, Some, None, Result, Ok, Err}
 use Rattle.std.specs.List.{count_by}
@@ -25,28 +25,31 @@ use Rattle.capture_scan.specs.declared.packet.Seen.{Seen}
 use Rattle.capture_scan.specs.declared.packet.Seen.TheVariants.{PassedOver, Unread, Read}
 use Rattle.capture_scan.specs.declared.stream.Stream.{Stream}
 
--- the packet that was seen, if one was, and the target of one that wasn't read
+-- the RTP packet in the result of reading a record
 abbrev pub packet_seen : Seen → Option Packet
 packet_seen (Read packet) = Some packet
 packet_seen (Unread target) = None
 packet_seen (PassedOver class) = None
 
+-- the target of a packet that isn't read as RTP
 abbrev pub unread_seen : Seen → Option Target
 unread_seen (Read packet) = None
 unread_seen (Unread target) = Some target
 unread_seen (PassedOver class) = None
 
--- the packets of some records, and the targets of those that weren't read
+-- the RTP packets in some records
 abbrev pub packets : List Record → List Packet
 packets records = filter_map (λ r. packet_seen (seen r)) records
 
+-- the targets of the packets that aren't read as RTP, one entry for each packet
 abbrev pub unread : List Record → List Target
 unread records = filter_map (λ r. unread_seen (seen r)) records
 
--- the stream that a packet belongs to
+-- the stream of a packet
 abbrev pub stream_key : Packet → StreamKey
 stream_key p = record { address = p.target.address; port = p.target.port; ssrc = p.rtp.ssrc }
 
+-- whether two stream keys are equal
 abbrev pub is_same_stream : StreamKey → StreamKey → Bool
 is_same_stream a b = (a.address == b.address) && ((a.port == b.port) && (a.ssrc == b.ssrc))
 
@@ -54,10 +57,11 @@ is_same_stream a b = (a.address == b.address) && ((a.port == b.port) && (a.ssrc 
 abbrev pub target_key : Target → TargetKey
 target_key t = record { address = t.address; port = t.port }
 
+-- whether two target keys are equal
 abbrev pub is_same_key : TargetKey → TargetKey → Bool
 is_same_key a b = (a.address == b.address) && (a.port == b.port)
 
--- how many streams are told, and how many targets with unread packets
+-- the greatest number of streams that are listed, and of targets with unread packets
 abbrev pub most_told : ℕ
 most_told = 1024
 
@@ -65,30 +69,30 @@ most_told = 1024
 abbrev pub packets_of : List Packet → StreamKey → List Packet
 packets_of ps k = items_of is_same_stream stream_key most_told ps k
 
--- the streams that are told, in the order of their first packets
+-- the streams that are listed, in the order of their first packets
 abbrev pub streams : List Packet → List Stream
 streams ps = filter_map (λ k. stream_of (packets_of ps k)) (told is_same_stream stream_key most_told ps)
 
--- the packets of the streams that aren't
+-- the number of packets of the streams that aren't listed
 abbrev pub more_packets : List Packet → ℕ
 more_packets ps = count_more is_same_stream stream_key most_told ps
 
--- what is told of the unread packets of a target
+-- a target with the number of its unread packets
 abbrev pub unread_of : List Target → TargetKey → UnreadTarget
 unread_of ts k = record {
   target = record { address = k.address; port = k.port };
   packets = length (items_of is_same_key target_key most_told ts k);
 }
 
--- the targets with unread packets that are told, in the order of those
+-- the targets with unread packets that are listed, in the order of their first unread packets
 abbrev pub unread_targets : List Target → List UnreadTarget
 unread_targets ts = map (unread_of ts) (told is_same_key target_key most_told ts)
 
--- the unread packets of the targets that aren't
+-- the number of unread packets to the targets that aren't listed
 abbrev pub more_unread : List Target → ℕ
 more_unread ts = count_more is_same_key target_key most_told ts
 
--- whether two classes are one
+-- whether two classes are equal
 abbrev pub is_same_class : Class → Class → Bool
 is_same_class Empty Empty = true
 is_same_class Tags Tags = true
@@ -99,17 +103,17 @@ is_same_class Fragment Fragment = true
 is_same_class Broken Broken = true
 is_same_class a b = false
 
--- whether a frame of this class was seen
+-- whether a record has a frame of this class
 abbrev pub is_of_class : Class → Seen → Bool
 is_of_class c (PassedOver class) = is_same_class c class
 is_of_class c (Unread target) = false
 is_of_class c (Read packet) = false
 
--- how many records have a frame of this class
+-- the number of records with a frame of this class
 abbrev pub count_of : Class → List Record → ℕ
 count_of c records = count_by (λ r. is_of_class c (seen r)) records
 
--- the records that are passed over
+-- the number of records with a frame of each class
 abbrev pub passed_over : List Record → ClassCounts
 passed_over records = record {
   empty = count_of Empty records;
@@ -121,16 +125,16 @@ passed_over records = record {
   broken = count_of Broken records;
 }
 
--- how many they are
+-- the number of records with a frame without a target
 abbrev pub count_passed : ClassCounts → ℕ
 count_passed n = n.empty + n.tags + n.ipv6 + n.other + n.not_udp + n.fragment + n.broken
 
--- the stamps of the first record and the last
+-- the capture timestamps of the first and of the last record
 abbrev pub span_of : List Record → Option Span
 span_of [] = None
 span_of (r ∷ rs) = Some (record { first = r.stamp; last = (last_from r rs).stamp })
 
--- what is told of some records
+-- `found` is the result of a scan of these records
 pub record IsFound (records : List Record) (found : Found) : Type 0 where
   pub records_are : found.records ≡ length records
   pub span_is : found.span ≡ span_of records
@@ -139,18 +143,19 @@ pub record IsFound (records : List Record) (found : Found) : Type 0 where
   pub unread_are : found.unread.items ≡ unread_targets (unread records)
   pub more_is : found.more ≡ more_packets (packets records) + more_unread (unread records)
 
--- the stream of this target and this SSRC
+-- the stream to this target with this SSRC
 abbrev pub stream_to : Target → ℕ → StreamKey
 stream_to target ssrc = record { address = target.address; port = target.port; ssrc = ssrc }
 
--- a packet as one of its flow
+-- a packet as a packet of its flow
 abbrev pub as_flow_packet : Packet → FlowPacket
 as_flow_packet p = record { rec = p.rec; at = p.at; rtp = Ok p.rtp }
 
--- whether a packet of a flow was read, and has this SSRC
+-- whether the payload of a packet was read as RTP, with this SSRC
 abbrev pub is_read_from : ℕ → Result Rtp PacketFault → Bool
 is_read_from ssrc (Ok rtp) = rtp.ssrc == ssrc
 is_read_from ssrc (Err fault) = false
 
+-- whether a packet of a flow was read as RTP, with this SSRC
 abbrev pub is_from : ℕ → FlowPacket → Bool
 is_from ssrc p = is_read_from ssrc p.rtp

@@ -1,4 +1,4 @@
--- What a scan says of the records that were taken: it holds what is told of them.
+-- The packet records that a scan stands for: those that it was given.
 use Rattle.std.specs.Prelude.{◌≡◌, ◌≤◌, ◌+◌, ◌^◌, ℕ, List, [], ◌++◌, length, map, Some, None}
 use Rattle.std.specs.List.{last_or}
 use Rattle.std.proofs.Common.{arith, subst, sym, append_assoc, append-nil}
@@ -14,17 +14,17 @@ use Rattle.capture_scan.specs.declared.scan.Scan.{Scan}
 use Rattle.capture_scan.specs.declared.streams.Streams.{Streams}
 use Rattle.capture_scan.specs.declared.unread.Unread.{Unread}
 
--- the counter has counted these packets, of which there is one at least
+-- the counter has counted these packets, at least one
 pub record Counts (c : Counter) (ps : List Packet) : Type 0 where
   pub stream : stream_of ps ≡ Some c.stream
   pub number : last_or None (map (λ p. p.rtp.number) ps) ≡ Some c.number
   pub mark : last_or None (marks_from 0 (map (λ p. p.rtp) ps)) ≡ c.mark
 
--- these streams are those of these packets
+-- the streams are those of these packets
 abbrev pub HaveTaken : Streams → List Packet → Type 0
 HaveTaken s ps = HaveItems is_same_stream stream_key most_told Counts s.counters.entries s.more ps
 
--- these unread packets go to these targets
+-- the unread packets go to these targets
 abbrev pub HaveMissed : Unread → List Target → Type 0
 HaveMissed u ts = HaveItems is_same_key target_key most_told (λ n items. n ≡ length items) u.counts.entries u.more ts
 
@@ -36,25 +36,27 @@ pub record StandsFor (scan : Scan) (records : List Record) : Type 0 where
   pub streams_are : HaveTaken scan.streams (packets records)
   pub unread_are : HaveMissed scan.unread (unread records)
 
--- whatever records the scan was given, it was then given these too, and no others
+-- if the scan stood for some records before, it stands for those and `more` after
 abbrev pub Takes : (old new : Scan) → List Record → Type 0
 Takes old new more = (records : List Record) → StandsFor old records → StandsFor new (records ++ more)
 
--- no record, and some records and then others
+-- giving a scan no record changes nothing
 pub takes_none : (scan : Scan) → Takes scan scan []
 takes_none scan records h = subst (StandsFor scan) (sym (append-nil records)) h
 
+-- giving a scan some records and then others is giving it both
 pub takes_more : (old mid new : Scan) (a b : List Record) → Takes old mid a → Takes mid new b → Takes old new (a ++ b)
 takes_more old mid new a b first second records h =
     subst (StandsFor new) (append_assoc records a b) (second (records ++ a) (first records h))
 
--- the records that were taken
+-- the number of records that the scan was given
 abbrev pub count_records : Scan → ℕ
 count_records scan = scan.records
 
--- it has room for so many records more
+-- the scan can be given `count` more records
 abbrev pub HasRoom : (number count : ℕ) → Scan → Type 0
 HasRoom number count scan = count_records scan + count ≤ 2 ^ 41
 
+-- a scan that can be given many records can be given fewer
 pub room_less : (number few many : ℕ) (scan : Scan) → few ≤ many → HasRoom number many scan → HasRoom number few scan
 room_less number few many scan less room = omega (arith, less, room)

@@ -1,30 +1,30 @@
-//! Frames without a target.
+//! Classes of the Ethernet frames that have no target: that go to no UDP port over IPv4.
 
 ghost use Rattle.std.specs.Prelude.{◌≡◌, ◌+◌, ◌≤◌, length};
 ghost use Rattle.capture_scan.specs.Classes.{class_at, class_of, has_kind, has_tagged_kind, has_tags, is_of_kind};
 
 use byteorder::{BigEndian, ByteOrder};
 
-/// Why a frame goes to no UDP port over IPv4.
+/// The reason for which an Ethernet frame has no target.
 #[derive(Clone, Copy, Debug, PartialEq, Eq)]
 pub enum Class {
-    /// It has no byte.
+    /// No byte was captured, or the packet has another link type than Ethernet.
     Empty,
-    /// A tag of a provider's bridge, or two tags, stand before its type.
+    /// The tag of a provider's bridge, or two VLAN tags.
     Tags,
-    /// IPv6, behind one tag or none.
+    /// IPv6, behind one VLAN tag or none.
     Ipv6,
-    /// Its type is another one, or it ends before it.
+    /// Neither IPv4 nor IPv6, or the frame ends before its type.
     Other,
-    /// IPv4 of another protocol than UDP.
+    /// IPv4 with another protocol than UDP.
     NotUdp,
-    /// A fragment of a UDP datagram.
+    /// A fragment of a UDP datagram over IPv4.
     Fragment,
-    /// Anything else.
+    /// IPv4 that is malformed or cut short.
     Broken,
 }
 
-/// The type field of a tag (IEEE 802.1Q).
+/// The type field of a VLAN tag (IEEE 802.1Q).
 pub(crate) const TAG: u16 = 0x8100;
 
 /// The type field of a tag of a provider's bridge (IEEE 802.1Q).
@@ -36,7 +36,7 @@ const IPV4: u16 = 0x0800;
 /// The type field of IPv6 (RFC 2464, section 3).
 const IPV6: u16 = 0x86dd;
 
-/// Whether a type field with this number stands at a place.
+/// Returns whether the type field at byte `place` has this number.
 fn has_kind(frame: &[u8], place: usize, kind: u16) -> bool
     requires { place ≤ 16 }
     ensures { result ≡ has_kind frame.now place kind }
@@ -44,14 +44,14 @@ fn has_kind(frame: &[u8], place: usize, kind: u16) -> bool
     frame.len() >= place + 2 && BigEndian::read_u16(&frame[place..]) == kind
 }
 
-/// Whether a type field with this number stands behind one tag.
+/// Returns whether the type field behind one VLAN tag has this number.
 fn has_tagged_kind(frame: &[u8], kind: u16) -> bool
     ensures { result ≡ has_tagged_kind frame.now kind }
 {
     has_kind(frame, 12, TAG) && has_kind(frame, 16, kind)
 }
 
-/// Whether a tag of a provider's bridge comes first, or two tags follow each other.
+/// Returns whether the tag of a provider's bridge comes first, or two tags follow each other.
 fn has_tags(frame: &[u8]) -> bool
     ensures { result ≡ has_tags frame.now }
 {
@@ -60,14 +60,14 @@ fn has_tags(frame: &[u8]) -> bool
         || has_tagged_kind(frame, PROVIDER_TAG)
 }
 
-/// Whether the frame is of this type, behind one tag or none.
+/// Returns whether the frame has this type, behind one VLAN tag or none.
 fn is_of_kind(frame: &[u8], kind: u16) -> bool
     ensures { result ≡ is_of_kind frame.now kind }
 {
     has_kind(frame, 12, kind) || has_tagged_kind(frame, kind)
 }
 
-/// The class of a frame of IPv4 without a target, whose header stands at `ip`.
+/// Returns the class of an IPv4 frame without a target, with its header at byte `ip`.
 fn class_at(frame: &[u8], ip: usize) -> Class
     requires { ip ≤ 18 }
     ensures { result ≡ class_at frame.now ip }
@@ -84,15 +84,15 @@ fn class_at(frame: &[u8], ip: usize) -> Class
     Class::Broken
 }
 
-/// The class of a frame that has no target, the first of these that holds:
+/// Returns the class of a frame that has no target, the first of these that applies. Byte offsets count from 0.
 ///
-/// - it has no byte: `Empty`;
-/// - at byte 12 stands the type 0x88a8, or 0x8100 and at byte 16 again one of the two: `Tags`;
-/// - its type, at byte 12 or behind a tag 0x8100 at byte 16, is 0x86dd: `Ipv6`;
-/// - its type isn't 0x0800, or the frame ends before it: `Other`;
-/// - the 20 bytes of an IPv4 header of version 4 are there, and its protocol isn't 17: `NotUdp`;
-/// - the same, and the protocol is 17, and the flag MF is set or the fragment offset isn't 0: `Fragment`;
-/// - else `Broken`.
+/// - `Empty`: it has no byte.
+/// - `Tags`: the type at byte 12 is 0x88a8, or it is 0x8100 and that at byte 16 is one of the two.
+/// - `Ipv6`: the type, at byte 12 or behind a tag 0x8100 at byte 16, is 0x86dd.
+/// - `Other`: the type isn't 0x0800, or the frame ends before it.
+/// - `NotUdp`: the 20 bytes of an IPv4 header of version 4 are there, and the protocol isn't 17.
+/// - `Fragment`: they are there, the protocol is 17, and the flag MF is set or the fragment offset isn't 0.
+/// - `Broken`: anything else.
 pub fn class_of(frame: &[u8]) -> Class
     ensures { result ≡ class_of frame.now }
 {

@@ -1,4 +1,4 @@
-//! What is counted of a stream, packet by packet.
+//! Counts the packets of a stream, one by one.
 
 ghost use Rattle.std.specs.Prelude.{◌≡◌, ◌<◌, ◌+◌, ◌^◌, ◌++◌, ◌∷◌, [], ℕ, Bool, List, Some, IfSome, if◌then◌else◌};
 ghost use Rattle.capture_scan.specs.Counting.{lines_with, order_next, pace_next, pace_with, range_next};
@@ -9,7 +9,7 @@ use crate::mark::Mark;
 use crate::packet::{Line, Packet};
 use crate::stream::{Arrival, Lines, Order, Pace, Range, Rate, Stream};
 
-/// 1 where the test holds, and else 0.
+/// Returns 1 if the test is true, else 0.
 #[inline(always)]
 fn one_if(test: bool) -> u64
     ensures { result ≡ (if test then 1 else 0) }
@@ -17,7 +17,7 @@ fn one_if(test: bool) -> u64
     if test { 1 } else { 0 }
 }
 
-/// How many sequence numbers stand between that of a packet number and that of the next, going on.
+/// Returns the number of sequence numbers that are skipped from `before` to `number`, modulo 2^16.
 #[inline(always)]
 fn jump(before: u32, number: u32) -> u32
     ensures jump { result ≡ jump (before, number) }
@@ -26,7 +26,7 @@ fn jump(before: u32, number: u32) -> u32
     (number % 65_536 + 65_536 - (before % 65_536 + 1)) % 65_536
 }
 
-/// Whether the sequence number wraps, and the extended sequence number isn't counted on.
+/// Returns whether the sequence number goes from 65,535 to 0 and the extended sequence number stays the same.
 #[inline(always)]
 fn wraps_alone(before: u32, number: u32) -> bool
     ensures { result ≡ wraps_alone (before, number) }
@@ -35,7 +35,7 @@ fn wraps_alone(before: u32, number: u32) -> bool
 }
 
 impl Order {
-    /// The order with one packet number more, which comes after `before`.
+    /// Returns the order after one more packet number, which follows `before`.
     #[inline(always)]
     fn next(self, before: u32, number: u32) -> Order
         requires lost { self.lost < 2 ^ 63 }
@@ -56,7 +56,7 @@ impl Order {
 }
 
 impl Range {
-    /// The range of one number.
+    /// Returns the range of one number.
     fn of(x: u64) -> Range
         ensures { result ≡ range_from x [] }
     {
@@ -66,7 +66,7 @@ impl Range {
         }
     }
 
-    /// The range with one number more.
+    /// Returns the range with one more number.
     fn next(self, x: u64) -> Range
         ensures { result ≡ range_next self x }
     {
@@ -77,7 +77,7 @@ impl Range {
     }
 }
 
-/// How far the RTP timestamp goes on from one mark to the next, in ticks.
+/// Returns the ticks of the RTP timestamp from one mark to the next, modulo 2^32.
 fn step(before: Mark, mark: Mark) -> u64
     ensures step { result ≡ step (before, mark) }
     ensures short { result < 2 ^ 32 }
@@ -86,7 +86,7 @@ fn step(before: Mark, mark: Mark) -> u64
 }
 
 impl Pace {
-    /// The pace with one mark more, which comes after `before`.
+    /// Returns the pace after one more mark, which follows `before`.
     fn next(pace: Option<Pace>, before: Mark, mark: Mark) -> Pace
         requires later { before.place < mark.place }
         requires few { IfSome pace (λ p. p.rate.steps < 2 ^ 63) }
@@ -115,7 +115,7 @@ impl Pace {
         }
     }
 
-    /// Counts one packet more, which may have the marker, behind the last mark before it.
+    /// Counts one more packet. `before` is the last mark before it, and `mark` its own if it has the marker.
     #[inline(always)]
     fn count(pace: &mut Option<Pace>, before: Option<Mark>, mark: Option<Mark>)
         requires later { IfSome before (λ b. IfSome mark (λ m. b.place < m.place)) }
@@ -130,7 +130,7 @@ impl Pace {
 }
 
 impl Lines {
-    /// The lines with one packet more, which may have a line header.
+    /// Returns the lines after one more packet, which may have a line header.
     #[inline(always)]
     fn with(lines: Option<Lines>, line: Option<Line>) -> Option<Lines>
         ensures { result ≡ lines_with lines line }
@@ -152,7 +152,7 @@ impl Lines {
 }
 
 impl Arrival {
-    /// When a packet came.
+    /// Returns the packet record and the capture timestamp of a packet.
     #[inline(always)]
     fn of(packet: &Packet) -> Arrival
         ensures { result ≡ arrival packet.now }
@@ -164,13 +164,14 @@ impl Arrival {
     }
 }
 
-/// The numbers of a stream, and what the next packet is compared with.
+/// The numbers of a stream, and the values with which the next packet is compared.
 #[derive(Clone, Copy)]
 pub struct Counter {
+    /// The numbers of the packets that were counted.
     pub stream: Stream,
-    /// The number of the last packet.
+    /// The number of the last packet: extended sequence number and sequence number.
     number: u32,
-    /// The last packet that has the marker.
+    /// The last packet with the marker.
     mark: Option<Mark>,
     ghost few: { IsFew stream mark },
 }
@@ -179,7 +180,7 @@ impl Counter {
     ghost use Rattle.capture_scan.specs.Stands.{Counts};
     ghost use Rattle.capture_scan.specs.declared.packet.Packet.{Packet as Counted};
 
-    /// A stream whose first packet this is.
+    /// Returns the counter of a stream with this first packet.
     pub fn first(packet: &Packet) -> Counter
         ensures counts { Counts result (packet.now ∷ []) }
         ensures one { result.stream.packets ≡ 1 }
@@ -211,7 +212,7 @@ impl Counter {
         }
     }
 
-    /// Counts one packet more.
+    /// Counts one more packet.
     pub fn take(&mut self, packet: &Packet)
         requires few { self.old.stream.packets < 2 ^ 41 }
         ensures counts { (ps : List Counted) → Counts self.old ps

@@ -1,4 +1,4 @@
-//! What packets are told apart by.
+//! The keys by which packets are grouped.
 
 ghost use Rattle.std.specs.Prelude.{◌≡◌};
 ghost use Rattle.capture_scan.specs.Scans.{stream_key, target_key};
@@ -6,23 +6,28 @@ ghost use Rattle.capture_scan.specs.Scans.{stream_key, target_key};
 use crate::packet::Packet;
 use timing_base::Target;
 
-/// A stream: the address and the port that its packets go to, and their synchronisation source.
+/// A stream: the address and the port that its packets go to, and their SSRC.
 #[derive(Clone, Copy, PartialEq, Eq, Hash)]
 pub struct StreamKey {
+    /// The destination IPv4 address, its first octet highest.
     pub address: u32,
+    /// The destination port.
     pub port: u16,
+    /// The synchronization source (RFC 3550, section 5.1).
     pub ssrc: u32,
 }
 
 /// A target: an address and a port.
 #[derive(Clone, Copy, PartialEq, Eq, Hash)]
 pub struct TargetKey {
+    /// The IPv4 address, its first octet highest.
     pub address: u32,
+    /// The port.
     pub port: u16,
 }
 
 impl StreamKey {
-    /// The stream of a packet.
+    /// Returns the stream of a packet.
     #[inline(always)]
     pub fn of(packet: &Packet) -> StreamKey
         ensures { result ≡ stream_key packet.now }
@@ -36,7 +41,7 @@ impl StreamKey {
 }
 
 impl TargetKey {
-    /// The key of a target.
+    /// Returns the key of a target.
     #[inline(always)]
     pub fn of(target: Target) -> TargetKey
         ensures { result ≡ target_key target }

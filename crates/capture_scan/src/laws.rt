@@ -1,5 +1,5 @@
-//! What holds of the definitions themselves, and the definitions on frames and lists worked by hand. Each function
-//! is a theorem: it does nothing, and its clauses are proved.
+//! Laws of the definitions, and frames and lists that are worked by hand. Each function is a theorem: it does nothing,
+//! and its clauses are proved.
 
 ghost use Rattle.std.specs.Prelude.{◌≡◌, nat_eq, [], ◌∷◌, ◌++◌, ◌*◌, ◌+◌, ◌-◌, ◌^◌, true, false, ℕ, List, Some, None};
 ghost use Rattle.std.specs.Prelude.{Ok, length, map, filter, take, drop};
@@ -26,45 +26,45 @@ ghost use Rattle.capture_scan.specs.declared.class.Class.TheVariants.{Broken, Em
 ghost use Rattle.capture_scan.specs.declared.class.Class.TheVariants.{Tags};
 ghost use Rattle.capture_scan.specs.declared.packet.Seen.TheVariants as seen_as;
 
-/// Frames worked by hand that have no target: each class, at both sides of where it begins.
+/// Frames without a target: each class, on both sides of its limits.
 pub fn classes_by_hand()
     ensures empty { class_of [] ≡ Empty }
 
-    // Two tags, and a tag of a provider's bridge, alone and behind another.
+    // Two tags, and the tag of a provider's bridge, alone and behind another tag.
     ensures two_tags { class_of (macs ++ tag ++ tag ++ ip_type ++ plain_ip) ≡ Tags }
     ensures provider { class_of (macs ++ provider_tag ++ ip_type ++ plain_ip) ≡ Tags }
     ensures behind { class_of (macs ++ tag ++ provider_tag ++ ipv6_type) ≡ Tags }
 
-    // IPv6, also behind a tag, and where nothing follows its type.
+    // IPv6, also behind a tag, and with nothing behind its type.
     ensures ipv6 { class_of (macs ++ ipv6_type ++ ten) ≡ Ipv6 }
     ensures tagged_ipv6 { class_of (macs ++ tag ++ ipv6_type ++ ten) ≡ Ipv6 }
     ensures type_alone { class_of (macs ++ ipv6_type) ≡ Ipv6 }
 
-    // Another type, also behind a tag; a frame that ends in its type, or in the type behind a tag.
+    // Another type, also behind a tag; a frame that ends within its type, or within the type behind a tag.
     ensures arp { class_of (macs ++ arp_type ++ ten) ≡ Other }
     ensures tagged_arp { class_of (macs ++ tag ++ arp_type ++ ten) ≡ Other }
     ensures short { class_of (take 13 (frame_of plain_ip)) ≡ Other }
     ensures tagged_short { class_of (take 17 (macs ++ tag ++ ip_type)) ≡ Other }
 
-    // TCP; a header of which 19 bytes are there tells nothing.
+    // TCP; of a header with 19 captured bytes the protocol isn't read.
     ensures tcp { class_of tcp_frame ≡ NotUdp }
     ensures tagged_tcp { class_of (macs ++ tag ++ ip_type ++ ip 0x45 0x40 0 6) ≡ NotUdp }
     ensures tcp_header { class_of (take 34 tcp_frame) ≡ NotUdp }
     ensures tcp_cut { class_of (take 33 tcp_frame) ≡ Broken }
 
-    // The first fragment of several, a later one, and one of TCP, which is no UDP.
+    // The first fragment of several and a later one; a fragment of TCP counts as not UDP.
     ensures first { class_of fragment_frame ≡ Fragment }
     ensures later { class_of (frame_of (ip 0x45 0x00 1 17)) ≡ Fragment }
     ensures tcp_fragment { class_of (frame_of (ip 0x45 0x20 0 6)) ≡ NotUdp }
 
-    // Version 6 in a header of IPv4, a header of four words, and a frame that ends before its ports.
+    // Version 6 in an IPv4 header, a header of four words, and a frame that ends before its ports.
     ensures version { class_of broken_frame ≡ Broken }
     ensures words { class_of (frame_of (ip 0x44 0x40 0 17)) ≡ Broken }
     ensures cut { class_of (take 37 (frame_of plain_ip)) ≡ Broken }
 {}
 
-/// What a record is counted as, worked by hand: a packet, one whose payload ends too early, and a frame without
-/// a target.
+/// The result of reading a packet record: an RTP packet, one with a payload that is too short, and a frame without a
+/// target.
 pub fn seen_by_hand()
     ensures read { seen (record { number = 7; stamp = 100; bytes = frame_of plain_ip })
         ≡ seen_as.Read (plain_at 7 100) }
@@ -88,7 +88,7 @@ pub fn seen_by_hand()
     ensures tcp { seen (record { number = 7; stamp = 100; bytes = tcp_frame })
         ≡ seen_as.PassedOver NotUdp }
 
-    // The sender's port is another one, 5000.
+    // The source port is another one, 5000.
     ensures sender { seen (record {
       number = 7;
       stamp = 100;
@@ -98,9 +98,9 @@ pub fn seen_by_hand()
     }) }
 {}
 
-/// Line headers worked by hand: line 1,079 of the first field and line 539 of the second; one of which a byte is
-/// missing, in the frame or by the UDP length; and one behind a header extension. Behind the 12 bytes of RTP, the
-/// extended sequence number and six of the header, 1,940 stated bytes leave the 1,920 of the header.
+/// Line headers: line 1,079 of the first field and line 539 of the second; one with a byte missing, in the frame or by
+/// the UDP length; and one behind a header extension. The first ones have 1,920 bytes of line data: 12 bytes of RTP, 2
+/// of extended sequence number, 6 of line header and 1,920 make 1,940 bytes of UDP data.
 pub fn lines_by_hand()
     ensures first { first_line 1940 (packet ++ line_header) ≡ Some (line_with 1079 false true) }
     ensures second { first_line 1940 (packet ++ second_header) ≡ Some (line_with 539 true true) }
@@ -113,7 +113,7 @@ pub fn lines_by_hand()
     ensures stated { seen (record { number = 1; stamp = 10; bytes = frame_on 27 line_header })
         ≡ seen_as.Read (plain_at 1 10) }
 
-    // The greatest line, any of the second field, and whether all fit raw video.
+    // The greatest line number, any line of a second field, and whether all line headers fit raw video.
     ensures lines { lines_of (line_with 3 false true ∷ line_with 9 true true ∷ line_with 5 false true ∷ [])
         ≡ Some (record { greatest = 9; second_field = true; fits = true }) }
     ensures misfit { lines_of (line_with 3 false true ∷ line_with 9 false false ∷ line_with 5 false true ∷ [])
@@ -121,9 +121,9 @@ pub fn lines_by_hand()
     ensures no_lines { lines_of [] ≡ None }
 {}
 
-/// Which line headers fit raw video, worked by hand: one of 1,920 bytes, by the last stated byte and one less; the
-/// last line of 4,320, and one more; what stands there in a packet of L24; and one of 100 bytes in a frame that was cut
-/// behind it, by UDP lengths of 128 (8 of UDP, 12 of RTP, 2, 6 and 100) and 127.
+/// Line headers that fit raw video, and some that don't: one of 1,920 bytes that ends with the UDP data, and one byte
+/// behind its end; line numbers 4,319 and 4,320; audio samples (L24) in its place; and one of 100 bytes in a frame that
+/// was captured only up to the line header, with UDP lengths of 128 (8 of UDP, 12 of RTP, 2, 6 and 100) and 127.
 pub fn fits_by_hand()
     ensures all { first_line 1940 (packet ++ line_header) ≡ Some (line_with 1079 false true) }
     ensures one_less { first_line 1939 (packet ++ line_header) ≡ Some (line_with 1079 false false) }
@@ -136,22 +136,22 @@ pub fn fits_by_hand()
         ≡ seen_as.Read (record (plain_at 1 10) { line = Some (line_with 1079 false false) }) }
 {}
 
-/// Orders of sequence numbers, worked by hand.
+/// Orders of sequence numbers.
 pub fn orders_by_hand()
     ensures one { order_of (7 ∷ []) ≡ order_with 0 0 0 0 }
     ensures in_order { order_of (7 ∷ 8 ∷ 9 ∷ []) ≡ order_with 0 0 0 0 }
 
-    // The extended sequence number is counted on, and isn't.
+    // At a wrap the extended sequence number is counted up, or isn't; or the sequence number 0 is lost.
     ensures carried { order_of (65534 ∷ 65535 ∷ 65536 ∷ []) ≡ order_with 0 0 0 0 }
     ensures not_carried { order_of (65534 ∷ 65535 ∷ 0 ∷ 1 ∷ []) ≡ order_with 0 0 0 1 }
     ensures passed { order_of (65535 ∷ 1 ∷ []) ≡ order_with 1 0 0 0 }
 
-    // One is missing; two come in turned order; one comes twice.
+    // One packet is missing; two arrive in the wrong order; one arrives twice.
     ensures lost { order_of (7 ∷ 9 ∷ 10 ∷ []) ≡ order_with 1 0 0 0 }
     ensures turned { order_of (7 ∷ 9 ∷ 8 ∷ 10 ∷ []) ≡ order_with 2 1 0 0 }
     ensures twice { order_of (7 ∷ 7 ∷ 8 ∷ []) ≡ order_with 0 0 1 0 }
 
-    // The last jump that is a loss, the first that goes back, and the last.
+    // The greatest jump that counts as a loss, and the greatest and the least that go back.
     ensures farthest { order_of (0 ∷ 32768 ∷ []) ≡ order_with 32767 0 0 0 }
     ensures too_far { order_of (0 ∷ 32769 ∷ []) ≡ order_with 0 1 0 0 }
     ensures one_back { order_of (1 ∷ 0 ∷ []) ≡ order_with 0 1 0 0 }
@@ -160,7 +160,7 @@ pub fn orders_by_hand()
     ensures other_high { order_of (7 ∷ 65544 ∷ []) ≡ order_with 0 0 0 0 }
 {}
 
-/// Paces worked by hand: three marked packets, with two others between the first and the second.
+/// Paces: three packets with the marker, and two others between the first and the second.
 pub fn paces_by_hand()
     ensures three { pace_of (read_with 100 true ∷ read_with 200 false ∷ read_with 200 false
         ∷ read_with 200 true ∷ read_with 500 true ∷ []) ≡ Some (pace_with 1 3 100 300 400 2) }
@@ -168,18 +168,19 @@ pub fn paces_by_hand()
         ∷ read_with 300 false ∷ []) ≡ Some (pace_with 1 1 100 100 100 1) }
     ensures one { pace_of (read_with 100 false ∷ read_with 100 true ∷ read_with 200 false ∷ []) ≡ None }
 
-    // Two frames of 20 packets behind a marked one, at 50 frames a second; and the same with one packet lost.
+    // Two frames of 20 packets behind a packet with the marker, at 50 frames per second; and the same with one packet
+    // lost.
     ensures plain { pace_of (read_with 0 true ∷ frame_of_reads 19 1800 ++ frame_of_reads 19 3600)
         ≡ Some (pace_with 20 20 1800 1800 3600 2) }
     ensures gap { pace_of (read_with 0 true ∷ frame_of_reads 19 1800 ++ frame_of_reads 18 3600)
         ≡ Some (pace_with 19 20 1800 1800 3600 2) }
 
-    // The timestamp wraps, and stays.
+    // The RTP timestamp wraps, and stays the same.
     ensures wraps { pace_of (read_with 4294967196 true ∷ read_with 200 true ∷ read_with 200 true ∷ [])
         ≡ Some (pace_with 1 1 0 300 300 2) }
 {}
 
-/// Eight records worked by hand, one of each class and one packet.
+/// Eight packet records, one of each class and one RTP packet.
 pub fn records_by_hand()
     ensures passed_over { passed_over (one_of_each 1)
         ≡ record { empty = 1; tags = 1; ipv6 = 1; other = 1; not_udp = 1; fragment = 1; broken = 1 } }
@@ -188,14 +189,14 @@ pub fn records_by_hand()
     ensures span { span_of (one_of_each 1) ≡ Some (record { first = 10; last = 80 }) }
     ensures none { span_of [] ≡ None }
 
-    // An unread one between two packets.
+    // An unread packet between two RTP packets.
     ensures short { packets (records_from 1 (frame_of plain_ip ∷ take 55 (frame_of plain_ip)
         ∷ frame_of plain_ip ∷ [])) ≡ plain_at 1 10 ∷ plain_at 3 30 ∷ [] }
     ensures unread_one { unread (records_from 1 (frame_of plain_ip ∷ take 55 (frame_of plain_ip)
         ∷ frame_of plain_ip ∷ [])) ≡ group ∷ [] }
 {}
 
-/// Streams worked by hand: two senders to one target, of which the second begins first.
+/// Streams: two senders to one target. The one with SSRC 2 begins first and is listed first.
 pub fn streams_by_hand()
     ensures two { streams (came 1 2 7 false ∷ came 2 1 7 true ∷ came 3 2 8 true ∷ came 4 2 10 true ∷ [])
         ≡ record {
@@ -231,7 +232,7 @@ pub fn streams_by_hand()
     ensures no_more { more_packets (came 1 2 7 false ∷ came 2 1 7 true ∷ []) ≡ 0 }
     ensures none { streams [] ≡ [] }
 
-    // Where one key is told, the items of the second and the third count as more.
+    // With one listed key, the items of the second and of the third key count as more; with two, those of the third.
     ensures told { told nat_eq (λ k. k) 1 (5 ∷ 6 ∷ 5 ∷ 7 ∷ 6 ∷ []) ≡ 5 ∷ [] }
     ensures more { count_more nat_eq (λ k. k) 1 (5 ∷ 6 ∷ 5 ∷ 7 ∷ 6 ∷ []) ≡ 3 }
     ensures two_told { told nat_eq (λ k. k) 2 (5 ∷ 6 ∷ 5 ∷ 7 ∷ 6 ∷ []) ≡ 5 ∷ 6 ∷ [] }
@@ -242,19 +243,19 @@ pub fn streams_by_hand()
         ≡ record { target = group; packets = 2 } ∷ record { target = sender; packets = 1 } ∷ [] }
 {}
 
-/// A frame that has a target is of none of the classes that stand before the last.
+/// A frame with a target is of class `Broken`, the last one. A class before it applies only to frames without a target.
 pub fn targets_are_no_class()
     ensures { (frame : List ℕ) (d : Datagram) → datagram_of frame ≡ Some d → class_of frame ≡ Broken }
 {}
 
-/// The packets of a stream are those of the flow of a media with its target that are read and have its SSRC.
+/// The packets of a stream are those packets of the flow of a media with its target that are read as RTP with its SSRC.
 pub fn streams_are_flows()
     ensures { (media : Media) (ssrc : ℕ) (records : List Record)
         → map as_flow_packet (packets_of (packets records) (stream_to (target_of media) ssrc))
         ≡ filter (is_from ssrc) (flow records media) }
 {}
 
-/// Each record counts once: in its class, in its stream, at its target, or as one more.
+/// Each packet record counts once: in its class, in its stream, at its target, or in `more`.
 pub fn records_count_once()
     ensures { (records : List Record) → count_passed (passed_over records)
         + (sum_by (λ s. s.packets) (streams (packets records))

@@ -1,11 +1,13 @@
-//! What a capture holds, before there is a description of it: the RTP streams of video, and what else there is.
+//! Lists the RTP streams of a capture and what else it contains, without an SDP.
 //!
-//! A [`Scan`] takes the records of a capture in one pass. Each frame is of a class that is passed over, or it goes to
-//! a UDP port over IPv4, its target; what is read there as RTP belongs to the stream of its target and its SSRC.
-//! Records count from 1; stamps are nanoseconds since 1970-01-01 00:00:00; lengths are bytes.
+//! A [`Scan`] takes the packet records of a capture in one pass. An Ethernet frame goes to a UDP port over IPv4, its
+//! target, or it is counted by its class. If the payload of a packet to a target is read as RTP, the packet belongs to
+//! the stream of its target and SSRC.
 //!
-//! - `laws`: what follows of the definitions, and frames worked by hand.
-//! - `report`: what was found as JSON and as lines, and a draft of a description.
+//! Packet records count from 1; capture timestamps are nanoseconds since 1970-01-01 00:00:00; lengths are bytes.
+//!
+//! - `laws`: laws of the definitions, and frames that are worked by hand.
+//! - `report`: the result as JSON and as lines of text, and a draft of an SDP.
 #![tactic(auto)]
 
 mod class;

@@ -1,4 +1,4 @@
-//! Packets with the marker.
+//! Packets with the marker, by their places in a stream.
 
 ghost use Rattle.std.specs.Prelude.{◌≡◌};
 ghost use Rattle.capture_scan.specs.Counting.{mark_next, mark_of};
@@ -8,14 +8,14 @@ use timing_base::Rtp;
 /// A packet with the marker.
 #[derive(Clone, Copy)]
 pub struct Mark {
-    /// Its place in its stream, counted from 0.
+    /// The place of the packet in its stream, counted from 0.
     pub place: u64,
-    /// Its RTP timestamp, in ticks of 90 kHz.
+    /// The RTP timestamp, in ticks of 90 kHz.
     pub timestamp: u32,
 }
 
 impl Mark {
-    /// The mark of a packet at this place, if it has the marker.
+    /// Returns the mark of a packet at this place, if it has the marker.
     #[inline(always)]
     pub fn of(place: u64, rtp: Rtp) -> Option<Mark>
         ensures { result ≡ mark_of place rtp }
@@ -30,7 +30,7 @@ impl Mark {
         }
     }
 
-    /// The last mark, where this one comes after the last.
+    /// Returns the last mark: `mark` if there is one, else `before`.
     #[inline(always)]
     pub fn last(before: Option<Mark>, mark: Option<Mark>) -> Option<Mark>
         ensures { result ≡ mark_next before mark }

@@ -1,4 +1,4 @@
-//! What a frame is counted as.
+//! Reads a packet record: a frame without a target, a packet that isn't RTP, or an RTP packet.
 
 ghost use Rattle.std.specs.Prelude.{◌≡◌, ◌+◌, ◌≤◌, ◌<◌, length, Ok, Some, IfSome, IsOk, IsSome};
 ghost use Rattle.udp_rtp.specs.Frames.{Datagram as Carried, datagram_of, udp_place};
@@ -15,45 +15,46 @@ use udp_rtp::{Datagram, datagram, read_rtp};
 /// The first line header of a packet (RFC 4175, section 4.3).
 #[derive(Clone, Copy, Debug, PartialEq, Eq)]
 pub struct Line {
-    /// The number of the line, counted from 0, in its frame or field.
+    /// The line number, counted from 0, within the frame or field.
     pub number: u16,
-    /// Whether it is a line of the second field.
+    /// Whether the line is of the second field.
     pub second_field: bool,
-    /// Whether it fits raw video: its length isn't above the bytes that the UDP length leaves behind it, and its
-    /// number isn't above 4,319.
+    /// Whether the line header fits raw video: its length is at most the bytes of UDP data behind it, and its number is
+    /// at most 4,319.
     pub fits: bool,
 }
 
-/// What is counted of a packet of RTP.
+/// An RTP packet, with the numbers that a scan counts.
 #[derive(Clone, Copy, Debug, PartialEq, Eq)]
 pub struct Packet {
-    /// The number of its record, counted from 1.
+    /// The number of the packet record, counted from 1.
     pub rec: u64,
-    /// The stamp of its record, in nanoseconds, as the capture has it.
+    /// The capture timestamp in nanoseconds, as it stands in the capture.
     pub at: u64,
-    /// The address and the port that it comes from.
+    /// The source address and port.
     pub source: Target,
-    /// The address and the port that it goes to.
+    /// The destination address and port.
     pub target: Target,
     /// The total length of IPv4, in bytes.
     pub length: u16,
+    /// The fields of the RTP header.
     pub rtp: Rtp,
-    /// Its first line header, where the payload reaches through it.
+    /// The first line header, if all its bytes were captured.
     pub line: Option<Line>,
 }
 
-/// What a record is counted as.
+/// The result of reading a packet record.
 #[derive(Clone, Copy, Debug, PartialEq, Eq)]
 pub enum Seen {
     /// A frame without a target.
     PassedOver(Class),
-    /// A frame that goes to this target, and whose payload isn't read as RTP.
+    /// A packet to this target that isn't read as RTP.
     Unread(Target),
-    /// A packet of RTP.
+    /// An RTP packet.
     Read(Packet),
 }
 
-/// Where the IPv4 header stands in a frame that has a target.
+/// Returns the byte offset of the IPv4 header in a frame with a target.
 #[inline(always)]
 fn header_place(frame: &[u8]) -> usize
     requires { 14 ≤ length frame.now }
@@ -67,18 +68,18 @@ fn header_place(frame: &[u8]) -> usize
     }
 }
 
-/// What the headers of a frame with a target say, beside the target.
+/// The values in the headers of a frame with a target, besides the target.
 #[derive(Clone, Copy)]
 struct Sent {
-    /// The address and the port that it comes from.
+    /// The source address and port.
     source: Target,
     /// The total length of IPv4, in bytes.
     length: u16,
-    /// The bytes of data that UDP states, also where the frame was cut behind that; 0 where it was cut before.
+    /// The bytes of data by the UDP length, whether or not they were captured; 0 if the UDP length wasn't.
     stated: usize,
 }
 
-/// The address and the port that a frame with a target comes from.
+/// Returns the source address and port of a frame with a target and its IPv4 header at byte `ip`.
 #[inline(always)]
 fn source_at(frame: &[u8], ip: usize) -> Target
     requires high { ip ≤ 18 }
@@ -93,7 +94,7 @@ fn source_at(frame: &[u8], ip: usize) -> Target
     }
 }
 
-/// The bytes of data that UDP states.
+/// Returns the bytes of data by the UDP length; 0 if that wasn't captured.
 #[inline(always)]
 fn stated_bytes(frame: &[u8], ip: usize) -> usize
     requires high { ip ≤ 18 }
@@ -107,7 +108,7 @@ fn stated_bytes(frame: &[u8], ip: usize) -> usize
     usize::from(BigEndian::read_u16(&frame[udp + 4..])).saturating_sub(8)
 }
 
-/// What the headers of a frame say, whose IPv4 header stands at `ip`.
+/// Returns the values in the headers of a frame with its IPv4 header at byte `ip`.
 #[inline(always)]
 fn sent_at(frame: &[u8], ip: usize) -> Sent
     requires high { ip ≤ 18 }
@@ -124,7 +125,7 @@ fn sent_at(frame: &[u8], ip: usize) -> Sent
     }
 }
 
-/// What the headers of a frame say that has this datagram.
+/// Returns the values in the headers of a frame with this datagram.
 #[inline(always)]
 fn sent_in(frame: &[u8], datagram: &Datagram) -> Sent
     requires { datagram_of frame.now ≡ Some datagram.now }
@@ -135,7 +136,7 @@ fn sent_in(frame: &[u8], datagram: &Datagram) -> Sent
     sent_at(frame, header_place(frame))
 }
 
-/// Where the extended sequence number stands in a payload that was read.
+/// Returns the byte offset of the extended sequence number in an RTP packet.
 #[inline(always)]
 fn payload_place(payload: &[u8]) -> usize
     requires least { 12 ≤ length payload.now }
@@ -155,7 +156,7 @@ fn payload_place(payload: &[u8]) -> usize
 /// The greatest line number of raw video, counted from 0.
 const LAST_LINE: u16 = 4319;
 
-/// The line header at a place of a payload of which UDP states so many bytes.
+/// Returns the line header at byte `place` of an RTP packet with `stated` bytes by the UDP length.
 #[inline(always)]
 fn line_at(stated: usize, payload: &[u8], place: usize) -> Line
     requires { place + 6 ≤ length payload.now }
@@ -171,7 +172,7 @@ fn line_at(stated: usize, payload: &[u8], place: usize) -> Line
     }
 }
 
-/// The first line header of a payload that was read, where the payload reaches through it.
+/// Returns the first line header of an RTP packet, if all its bytes were captured.
 #[inline(always)]
 fn first_line(stated: usize, payload: &[u8]) -> Option<Line>
     requires least { 12 ≤ length payload.now }
@@ -185,7 +186,7 @@ fn first_line(stated: usize, payload: &[u8]) -> Option<Line>
     Some(line_at(stated, payload, place + 2))
 }
 
-/// The first line header of a payload that was read as RTP.
+/// Returns the first line header of a payload that was read as RTP.
 #[inline(always)]
 fn line_in(stated: usize, payload: &[u8]) -> Option<Line>
     requires { IsOk (reading payload.now) }
@@ -194,7 +195,7 @@ fn line_in(stated: usize, payload: &[u8]) -> Option<Line>
     first_line(stated, payload)
 }
 
-/// What is counted of a packet: of a frame, its datagram, and what was read of its payload.
+/// Returns the packet of a frame, from its datagram and the fields of its RTP header.
 #[inline(always)]
 fn packet_in(rec: u64, at: u64, frame: &[u8], datagram: &Datagram, rtp: Rtp) -> Packet
     requires carried { datagram_of frame.now ≡ Some datagram.now }
@@ -214,10 +215,11 @@ fn packet_in(rec: u64, at: u64, frame: &[u8], datagram: &Datagram, rtp: Rtp) -> 
     }
 }
 
-/// What a record is counted as: its number from 1, its stamp in nanoseconds, and its frame.
+/// Reads a packet record with this number, counted from 1, this capture timestamp in nanoseconds, and this Ethernet
+/// frame.
 ///
-/// A frame without a target is passed over. Else it is a packet where its payload is read as RTP, as
-/// [`read_rtp`] does, and is unread where it isn't.
+/// A frame without a target is passed over. A packet to a target is `Read` if [`read_rtp`] reads its payload, else
+/// `Unread`.
 #[inline(always)]
 pub fn look_at(rec: u64, at: u64, frame: &[u8]) -> Seen
     ensures { result ≡ seen (record { number = rec; stamp = at; bytes = frame.now }) }

@@ -1,7 +1,7 @@
-//! What a capture holds, as JSON and as lines for eyes, and a draft of a description that is made of its streams.
+//! The result of a scan as JSON and as lines of text, and a draft of an SDP from its streams.
 //!
-//! Texts are made whole, as values. Stamps are nanoseconds since 1970-01-01 00:00:00, lengths are bytes, and ticks are
-//! of 90 kHz.
+//! Texts are made whole, as values. Capture timestamps are nanoseconds since 1970-01-01 00:00:00, lengths are bytes,
+//! and ticks are of 90 kHz.
 
 mod draft;
 mod json;

@@ -1,4 +1,4 @@
-//! One pass over the records of a capture.
+//! One pass over the packet records of a capture.
 
 ghost use Rattle.std.specs.Prelude.{◌≡◌, ◌≤◌, ◌<◌, ◌+◌, ◌^◌, ◌++◌, ◌∷◌, [], List, IfOk, Some};
 ghost use Rattle.capture_scan.specs.Few.{IsFewPassed};
@@ -15,7 +15,7 @@ use std::alloc::{AllocError as OutOfMemory, Global};
 impl Span {
     ghost use Rattle.capture_scan.specs.Counting.{span_with};
 
-    /// The stamps of the first record and the last, with one record more.
+    /// Returns the capture timestamps of the first and the last record, after one more record.
     #[inline(always)]
     fn with(span: Option<Span>, at: u64) -> Span
         ensures { result ≡ span_with span at }
@@ -37,7 +37,7 @@ impl PassedOver {
     ghost use Rattle.capture_scan.specs.Counting.{passed_with};
     ghost use Rattle.capture_scan.specs.Scans.{passed_over};
 
-    /// No frame.
+    /// Returns the counts of no frame.
     fn none() -> PassedOver
         ensures { result ≡ passed_over [] }
     {
@@ -52,7 +52,7 @@ impl PassedOver {
         }
     }
 
-    /// Counts one frame of this class more.
+    /// Counts one more frame of this class.
     fn count(&mut self, class: Class)
         requires { IsFewPassed (2 ^ 41) self.old }
         ensures { self.new ≡ passed_with self.old class }
@@ -69,15 +69,14 @@ impl PassedOver {
     }
 }
 
-/// What a capture holds, by one pass over its records.
+/// A scan of a capture, in one pass over its packet records.
 ///
-/// It takes memory for a stream, and for a target with unread packets, when it first comes, and no more than for 1,024
-/// of either.
+/// It allocates memory when a stream or a target with unread packets first occurs, for at most 1,024 of each.
 #[derive(Drop)]
 pub struct Scan {
-    /// The records that were taken.
+    /// The number of records that were taken.
     records: u64,
-    /// The stamps of the first and the last.
+    /// The capture timestamps of the first and the last record.
     span: Option<Span>,
     passed_over: PassedOver,
     streams: Streams,
@@ -92,7 +91,7 @@ impl Scan {
     ghost use Rattle.capture_scan.specs.Scans.{IsFound};
     ghost use Rattle.capture_scan.specs.Stands.{StandsFor, Takes, count_records};
 
-    /// A scan that was given no record.
+    /// Returns a scan that was given no record.
     pub fn new(alloc: Global) -> Scan
         ensures stands { StandsFor result [] }
         ensures none { count_records result ≡ 0 }
@@ -106,9 +105,10 @@ impl Scan {
         }
     }
 
-    /// Takes a record: its number from 1, its stamp in nanoseconds, and its frame.
+    /// Takes a packet record with this number, counted from 1, this capture timestamp in nanoseconds, and this Ethernet
+    /// frame.
     ///
-    /// `Err` is want of memory; what the scan was given isn't known from then on.
+    /// Returns `Err` if memory runs out. What the scan contains is not guaranteed from then on.
     #[inline(always)]
     pub fn take(&mut self, number: u64, at: u64, frame: &[u8]) -> Result<(), OutOfMemory>
         requires few { count_records self.old < 2 ^ 41 }
@@ -128,9 +128,7 @@ impl Scan {
         }
     }
 
-    /// What is told of the records that were taken.
-    ///
-    /// `Err` is want of memory.
+    /// Returns the result for the records that were taken. Returns `Err` if memory runs out.
     pub fn finish(&self, alloc: Global) -> Result<Found, OutOfMemory>
         ensures { IfOk result (λ found. (records : List Record) → StandsFor self.now records
             → IsFound records found) }
@@ -152,7 +150,7 @@ impl Taker for Scan {
     ghost use Rattle.capture_scan.specs.Stands.{HasRoom, Takes, room_less, takes_more, takes_none};
     ghost use Rattle.pcap_reader.specs.Taken.{StopsAnyhow};
 
-    /// Want of memory.
+    /// Memory ran out.
     type Stop = OutOfMemory;
 
     ghost takes = { Takes };

@@ -2,90 +2,97 @@
 
 use timing_base::Target;
 
-/// When a packet came.
+/// The packet record and the capture timestamp of a packet.
 #[derive(Clone, Copy)]
 pub struct Arrival {
-    /// The number of its record, counted from 1.
+    /// The number of the packet record, counted from 1.
     pub rec: u64,
-    /// The stamp of its record, in nanoseconds.
+    /// The capture timestamp, in nanoseconds.
     pub at: u64,
 }
 
-/// The order of a stream's sequence numbers, which have 16 bits (RFC 3550, section 5.1): each is compared with
-/// the one before.
+/// The order of the 16-bit sequence numbers of a stream (RFC 3550, section 5.1). Each is compared with the one before
+/// it.
 #[derive(Clone, Copy)]
 pub struct Order {
-    /// The sequence numbers that were passed over, going on.
+    /// The sequence numbers that were skipped: 1 to 32,767 at once.
     pub lost: u64,
-    /// The packets whose sequence number goes back.
+    /// The packets with a sequence number that goes back by 1 to 32,767.
     pub back: u64,
-    /// The packets whose sequence number is the same again.
+    /// The packets that repeat the sequence number before them.
     pub same: u64,
-    /// The places where the sequence number passes from 65,535 to 0 and the extended sequence number isn't counted on.
+    /// The wraps from 65,535 to 0 at which the extended sequence number stays the same.
     pub wraps: u64,
 }
 
 /// The least and the greatest of some numbers.
 #[derive(Clone, Copy)]
 pub struct Range {
+    /// The least number.
     pub least: u64,
+    /// The greatest number.
     pub greatest: u64,
 }
 
-/// A mean, as its sum and how many there are.
+/// A mean step, as a sum and a count.
 #[derive(Clone, Copy)]
 pub struct Rate {
     /// The sum of the steps, in ticks of 90 kHz.
     pub ticks: u128,
-    /// How many steps there are.
+    /// The number of steps.
     pub steps: u64,
 }
 
-/// From one packet with the marker to the next.
+/// The numbers from one packet with the marker to the next.
 #[derive(Clone, Copy)]
 pub struct Pace {
-    /// How many packets come, with the second of the two.
+    /// The packets of a frame: those behind the first marker, up to the second.
     pub frame: Range,
-    /// How far the RTP timestamp goes on, in ticks of 90 kHz, modulo 2^32.
+    /// The step of the RTP timestamp, in ticks of 90 kHz, modulo 2^32.
     pub step: Range,
     /// The mean of these steps.
     pub rate: Rate,
 }
 
-/// The first line headers of a stream's packets.
+/// The first line header of each packet of a stream.
 #[derive(Clone, Copy)]
 pub struct Lines {
     /// The greatest line number, counted from 0.
     pub greatest: u16,
-    /// Whether one is of the second field.
+    /// Whether a line is of the second field.
     pub second_field: bool,
-    /// Whether all of them fit raw video. If one doesn't, the stream isn't raw video, and the other two are no lines.
+    /// Whether all line headers fit raw video. If one doesn't, the stream isn't raw video, and the other two fields
+    /// mean nothing.
     pub fits: bool,
 }
 
-/// What is told of a stream: of the packets with one target and one SSRC, in the order of their records.
+/// The numbers of a stream: of the packets with one target and one SSRC, in the order of their packet records.
 #[derive(Clone, Copy)]
 pub struct Stream {
-    /// The address and the port that its first packet comes from.
+    /// The source address and port of the first packet.
     pub source: Target,
-    /// The address and the port that its packets go to.
+    /// The destination address and port.
     pub target: Target,
-    /// The synchronisation source.
+    /// The synchronization source (RFC 3550, section 5.1).
     pub ssrc: u32,
-    /// The payload type of its first packet.
+    /// The payload type of the first packet.
     pub pt: u8,
-    /// The packets with another payload type.
+    /// The number of packets with another payload type.
     pub pts: u64,
+    /// The number of packets.
     pub packets: u64,
-    /// The packets with the marker.
+    /// The number of packets with the marker.
     pub markers: u64,
+    /// The first packet.
     pub first: Arrival,
+    /// The last packet.
     pub last: Arrival,
-    /// The total lengths of IPv4, in bytes.
+    /// The sum of the total lengths of IPv4, in bytes.
     pub bytes: u64,
+    /// The order of the sequence numbers.
     pub order: Order,
-    /// `None` where fewer than two packets have the marker.
+    /// The numbers between markers; `None` if fewer than two packets have the marker.
     pub pace: Option<Pace>,
-    /// `None` where no packet's payload reaches through a line header.
+    /// The line headers; `None` if none was captured whole.
     pub lines: Option<Lines>,
 }

@@ -12,18 +12,19 @@ use crate::stream::Stream;
 use indexmap::IndexMap;
 use std::alloc::{AllocError as OutOfMemory, Global};
 
-/// The most streams that are told.
+/// The greatest number of streams that are listed.
 const MOST: usize = 1024;
 
 /// The streams of some packets, in the order of their first packets.
 #[derive(Drop)]
 pub struct Streams {
     counters: IndexMap<StreamKey, Counter>,
-    /// The place of the stream of the last packet.
+    /// The index of the stream of the last packet, counted from 0. Most packets belong to the same stream as the one
+    /// before.
     near: usize,
-    /// The packets that were taken.
+    /// The number of packets that were taken.
     pub taken: u64,
-    /// Those of them that are of further streams.
+    /// The number of those that belong to further streams.
     pub more: u64,
     ghost few: { All (λ c. c.stream.packets ≤ taken) (values counters) },
     ghost few_more: { more ≤ taken },
@@ -35,7 +36,7 @@ impl Streams {
     ghost use Rattle.capture_scan.specs.Stands.{HaveTaken};
     ghost use Rattle.capture_scan.specs.declared.packet.Packet.{Packet as Counted};
 
-    /// No stream.
+    /// Returns no stream.
     pub fn new(alloc: Global) -> Streams
         ensures none { HaveTaken result [] }
         ensures taken { result.taken ≡ 0 }
@@ -48,7 +49,7 @@ impl Streams {
         }
     }
 
-    /// Whether this stream stands at the place of the last packet's.
+    /// Returns whether this is the stream of the last packet.
     #[inline(always)]
     fn is_near(&self, key: StreamKey) -> bool
         ensures { result ≡ true → HasStream self.now key self.now.near }
@@ -59,7 +60,7 @@ impl Streams {
         }
     }
 
-    /// The place of a stream.
+    /// Returns the index of a stream.
     #[inline(always)]
     fn place_of(&self, key: StreamKey) -> Option<usize>
         ensures some { IfSome result (HasStream self.now key) }
@@ -71,9 +72,8 @@ impl Streams {
         self.counters.get_index_of(&key)
     }
 
-    /// Begins a stream with its first packet, where there is room for one more.
-    ///
-    /// `Err` is want of memory.
+    /// Begins a stream with its first packet, if fewer than 1,024 are listed; else counts the packet in `more`. Returns
+    /// `Err` if memory runs out.
     #[cold]
     #[inline(never)]
     fn begin(&mut self, key: StreamKey, packet: &Packet) -> Result<(), OutOfMemory>
@@ -95,9 +95,7 @@ impl Streams {
         Ok(())
     }
 
-    /// Takes a packet.
-    ///
-    /// `Err` is want of memory; what was taken isn't known from then on.
+    /// Takes a packet. Returns `Err` if memory runs out; which packets are counted is not guaranteed from then on.
     #[inline(always)]
     pub fn take(&mut self, packet: &Packet) -> Result<(), OutOfMemory>
         requires few { self.old.taken < 2 ^ 41 }
@@ -118,9 +116,7 @@ impl Streams {
         }
     }
 
-    /// The streams, in the order of their first packets.
-    ///
-    /// `Err` is want of memory.
+    /// Returns the streams, in the order of their first packets. Returns `Err` if memory runs out.
     pub fn finish(&self, alloc: Global) -> Result<Vec<Stream>, OutOfMemory>
         ensures { IfOk result (λ list. (ps : List Counted) → HaveTaken self.now ps
             → list.items ≡ streams ps) }

@@ -11,18 +11,18 @@ use indexmap::IndexMap;
 use std::alloc::{AllocError as OutOfMemory, Global};
 use timing_base::Target;
 
-/// The most targets that are told.
+/// The greatest number of targets that are listed.
 const MOST: usize = 1024;
 
 /// The targets of some unread packets, in the order of their first ones.
 #[derive(Drop)]
 pub struct Unread {
     counts: IndexMap<TargetKey, u64>,
-    /// The place of the target of the last packet.
+    /// The index of the target of the last packet, counted from 0.
     near: usize,
-    /// The packets that were taken.
+    /// The number of packets that were taken.
     pub taken: u64,
-    /// Those of them that go to further targets.
+    /// The number of those that go to further targets.
     pub more: u64,
     ghost few: { All (λ n. n ≤ taken) (values counts) },
     ghost few_more: { more ≤ taken },
@@ -34,7 +34,7 @@ impl Unread {
     ghost use Rattle.capture_scan.specs.Stands.{HaveMissed};
     ghost use Rattle.timing_base.specs.declared.target.Target.{Target as Address};
 
-    /// No unread packet.
+    /// Returns no unread packet.
     pub fn new(alloc: Global) -> Unread
         ensures none { HaveMissed result [] }
         ensures taken { result.taken ≡ 0 }
@@ -47,7 +47,7 @@ impl Unread {
         }
     }
 
-    /// Whether this target stands at the place of the last packet's.
+    /// Returns whether this is the target of the last packet.
     #[inline(always)]
     fn is_near(&self, key: TargetKey) -> bool
         ensures { result ≡ true → HasTarget self.now key self.now.near }
@@ -58,7 +58,7 @@ impl Unread {
         }
     }
 
-    /// The place of a target.
+    /// Returns the index of a target.
     #[inline(always)]
     fn place_of(&self, key: TargetKey) -> Option<usize>
         ensures some { IfSome result (HasTarget self.now key) }
@@ -70,9 +70,8 @@ impl Unread {
         self.counts.get_index_of(&key)
     }
 
-    /// Begins a target with its first packet, where there is room for one more.
-    ///
-    /// `Err` is want of memory.
+    /// Begins a target with its first packet, if fewer than 1,024 are listed; else counts the packet in `more`. Returns
+    /// `Err` if memory runs out.
     #[cold]
     #[inline(never)]
     fn begin(&mut self, key: TargetKey) -> Result<(), OutOfMemory>
@@ -93,9 +92,8 @@ impl Unread {
         Ok(())
     }
 
-    /// Takes an unread packet to a target.
-    ///
-    /// `Err` is want of memory; what was taken isn't known from then on.
+    /// Takes an unread packet to a target. Returns `Err` if memory runs out; which packets are counted is not
+    /// guaranteed from then on.
     pub fn take(&mut self, target: Target) -> Result<(), OutOfMemory>
         requires few { self.old.taken < 2 ^ 41 }
         ensures taken { self.new.taken ≡ self.old.taken + 1 }
@@ -115,9 +113,7 @@ impl Unread {
         }
     }
 
-    /// The targets, in the order of their first unread packets.
-    ///
-    /// `Err` is want of memory.
+    /// Returns the targets, in the order of their first unread packets. Returns `Err` if memory runs out.
     pub fn finish(&self, alloc: Global) -> Result<Vec<UnreadTarget>, OutOfMemory>
         ensures { IfOk result (λ list. (ts : List Address) → HaveMissed self.now ts
             → list.items ≡ unread_targets ts) }

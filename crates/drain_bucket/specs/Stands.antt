@@ -1,4 +1,4 @@
--- What a `Bucket` says of the packets that it was fed.
+-- The state of a `Bucket` after the packets that it was fed.
 use Rattle.std.specs.Prelude.{◌≡◌, ◌≤◌, ◌<◌, ◌+◌, ◌^◌, ℕ, List, length, slice_index}
 use Rattle.fraction128.specs.Clocks.{StandsAt}
 use Rattle.sender_params.specs.declared.params.Params.{Params}
@@ -19,7 +19,7 @@ pub record IsFresh (params : Params) (b : Bucket) : Type 0 where
 pub record IsAfter (params : Params) (b : Bucket) (stamps : List ℕ) (i : ℕ) : Type 0 where
   pub origin : slice_index stamps 0 ≡ b.origin
   pub count : b.count ≡ bucket_of params.media params.n stamps i
-  -- `begin` is the latest start of an interval whose load is the count
+  -- `begin` is the latest start of an interval with the count as its load
   pub begins : b.begin ≤ i
   pub begin_load : load_of params.media params.n stamps b.begin i ≡ b.count
   pub latest : (j : ℕ) → j ≤ i → load_of params.media params.n stamps j i ≡ b.count → j ≤ b.begin
@@ -30,14 +30,14 @@ pub record IsAfter (params : Params) (b : Bucket) (stamps : List ℕ) (i : ℕ) 
   pub last : b.last ≡ slice_index stamps i
   pub next : (stood : ℕ) × (stood ≤ b.last) × StandsAt params.drain b.next b.origin stood
 
--- the bucket was fed packets with these stamps and no others, as far as later calls can tell
+-- the bucket was fed exactly packets with these capture timestamps, as far as later calls depend on it
 pub record StandsFor (params : Params) (b : Bucket) (stamps : List ℕ) : Type 0 where
   pub ordered : NeverFall stamps
   pub seen : b.seen ≡ length stamps
   pub fresh : length stamps ≡ 0 → IsFresh params b
   pub fed : (i : ℕ) → length stamps ≡ i + 1 → IsAfter params b stamps i
 
--- a packet at this instant may be the next one: the first comes at the origin, and none before the last
+-- a packet at this instant may be the next one: the first comes at the origin, and none comes before the last
 pub record CanFollow (b : Bucket) (stamps : List ℕ) (at : ℕ) : Type 0 where
   pub first : length stamps ≡ 0 → at ≡ b.origin
   pub later : (i : ℕ) → length stamps ≡ i + 1 → slice_index stamps i ≤ at

@@ -1,12 +1,14 @@
--- The leaky bucket of the network compatibility model (SMPTE ST 2110-21), tick by tick. m is the video, n
--- the packets of one group, and the stamps are those of the judged packets, in nanoseconds, counted from 0.
+-- The leaky bucket of the network compatibility model (SMPTE ST 2110-21), tick by tick. m is the video, n the packets
+-- per frame or field, and stamps the capture timestamps of the judged packets, in nanoseconds. Packets count from 0.
 use Rattle.std.specs.Prelude.{ℕ, zero, suc, ◌+◌, ◌-◌, List, [], ◌∷◌, ◌++◌, replicate}
 use Rattle.timing_base.specs.Media.{Media}
 use Rattle.sender_params.specs.Ticks.{ticks_at}
 
--- what happens to the bucket
+-- an event at the bucket
 pub data Event : Type 0 where
+  -- a drain tick
   tick : Event
+  -- the arrival of a packet
   arrive : Event
 
 -- a tick takes a packet out, and is lost on an empty bucket; an arrival puts one in
@@ -19,8 +21,8 @@ abbrev pub level : ℕ → List Event → ℕ
 level count [] = count
 level count (e ∷ es) = level (after e count) es
 
--- the events up to packet i, where packet k comes at the clock's k-th number of ticks: for each packet
--- the ticks since the one before it, and then its arrival, so a tick at the same instant comes first
+-- the events up to packet i; `clock` k is the number of ticks up to packet k. For each packet they are the ticks since
+-- the packet before, and then its arrival: a tick at the same instant comes first.
 abbrev pub word : (ℕ → ℕ) → ℕ → List Event
 word clock zero = arrive ∷ []
 word clock (suc i) = word clock i ++ (replicate (clock (i + 1) - clock i) tick ++ arrive ∷ [])

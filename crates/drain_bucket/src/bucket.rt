@@ -1,30 +1,30 @@
-//! The bucket.
+//! The leaky bucket.
 
 ghost use Rattle.std.specs.Prelude.{◌≡◌, ◌≤◌, ◌<◌, ◌+◌, ◌^◌, ◌++◌, ◌∷◌, [], ℕ, List};
 
 use fraction128::Clock;
 use sender_params::Params;
 
-/// The latest stamp, in nanoseconds of TAI.
+/// Latest capture timestamp, in nanoseconds of TAI.
 const LATEST: u64 = (1 << 62) - 1;
 
-/// The bucket between two packets of one flow.
+/// State of the bucket between two packets of one flow.
 #[derive(Clone, Copy, Debug, PartialEq, Eq)]
 pub struct Bucket {
-    /// The stamp of the first packet, in nanoseconds of TAI.
+    /// Capture timestamp of the first packet, in nanoseconds of TAI.
     pub origin: u64,
-    /// The packets in the bucket just after the last arrival.
+    /// Packets in the bucket just after the last arrival.
     pub count: u64,
-    /// The latest packet, counted from 0, from which on the packets to the last one, less the
-    /// ticks after it, are the count.
+    /// Latest start of an interval that shows the count: the packets from `begin`, counted from 0, to the last one,
+    /// less the drain ticks after packet `begin`, are `count`.
     pub begin: u64,
-    /// The packets fed.
+    /// Number of packets fed.
     pub seen: u64,
-    /// The greatest count after any packet, and 0 before the first.
+    /// Greatest count after any packet; 0 before the first.
     pub peak: u64,
-    /// The stamp of the last packet, in nanoseconds of TAI, and 0 before the first.
+    /// Capture timestamp of the last packet, in nanoseconds of TAI; 0 before the first.
     last: u64,
-    /// The first tick after some instant that isn't later than `last`: ticks were counted up to there.
+    /// First tick after an instant that isn't later than `last`. Ticks were counted up to that instant.
     next: Clock,
     ghost count_within: { count ≤ peak },
     ghost begin_within: { begin ≤ seen },
@@ -36,7 +36,7 @@ impl Bucket {
     ghost use Rattle.drain_bucket.specs.Stands.{CanFollow, StandsFor};
     ghost use Rattle.sender_params.specs.declared.params.Params.{Params as ParamsValue};
 
-    /// The empty bucket of a flow whose first packet comes at `origin`, in nanoseconds of TAI.
+    /// Returns the empty bucket of a flow. Its first packet comes at `origin`, in nanoseconds of TAI.
     pub fn new(params: &Params, origin: u64) -> Bucket
         ensures origin { result.origin ≡ origin }
         ensures stands { StandsFor params.now result [] }
@@ -52,13 +52,14 @@ impl Bucket {
         }
     }
 
-    /// Drains the bucket up to `at`, in nanoseconds of TAI, puts one packet in, and answers the
-    /// count in packets. A tick at the very instant of an arrival comes before it, and one on an
-    /// empty bucket is lost (SMPTE ST 2110-21, network compatibility model).
+    /// Drains the bucket up to `at`, in nanoseconds of TAI, puts one packet in, and returns the count in packets. A
+    /// tick exactly at an arrival comes before it, and a tick on an empty bucket is lost (SMPTE ST 2110-21, network
+    /// compatibility model).
     ///
-    /// Feed one bucket stamps that never fall, the first of them its origin, with one `Params`
-    /// alone: `stands` says nothing of other stamps. A packet that comes more than T_DRAIN after one
-    /// that found the bucket empty finds it empty too, and no tick is counted for it.
+    /// The caller must feed capture timestamps that never go back, the first of them `origin`, and the same `Params` at
+    /// each call: for others the result is not guaranteed. If a packet comes more than T_DRAIN after one that found the
+    /// bucket empty, it finds the bucket empty too, and its ticks are counted only at the next packet that comes
+    /// sooner.
     #[inline(always)]
     pub fn feed(&mut self, params: &Params, at: u64) -> u64
         requires begun { self.old.origin ≤ at }
@@ -69,7 +70,7 @@ impl Bucket {
         ensures origin { self.new.origin ≡ self.old.origin }
         ensures seen { self.new.seen ≡ self.old.seen + 1 }
 
-        // Whatever packets the bucket stood for, it now stands for those and this one.
+        // The bucket was then fed the packets before and this one.
         ensures stands { (stamps : List ℕ) → StandsFor params.now self.old stamps
             → CanFollow self.old stamps at
             → StandsFor params.now self.new (stamps ++ at ∷ []) }
@@ -88,7 +89,7 @@ impl Bucket {
         self.count
     }
 
-    /// Puts in the next packet, which comes before the next tick: none lies between the last packet and it.
+    /// Puts in the next packet, which comes before the next tick: no tick lies between the last packet and it.
     #[inline(always)]
     fn feed_before_tick(&mut self, at: u64)
         requires early { at < self.old.next.due }
@@ -107,7 +108,7 @@ impl Bucket {
         self.peak = self.peak.max(count);
     }
 
-    /// Puts in the next packet, and counts the ticks between the last one and it.
+    /// Puts in the next packet, after it counted the ticks between the last packet and this one.
     #[inline(never)]
     fn feed_by_ticks(&mut self, params: &Params, at: u64)
         requires in_time { at < 2 ^ 62 }

@@ -1,6 +1,7 @@
--- The fail of a sender type: the first judged packet that breaks a model (SMPTE ST 2110-21), and the interval that
--- shows it. m is the video, n the packets of one group, and the stamps are those of the judged packets, in nanoseconds
--- of TAI, counted from 0. Which packet is named, and which model where both are broken, is this project's profile.
+-- The violation of a sender type: the first judged packet that violates a model (SMPTE ST 2110-21), and the interval
+-- that shows it. m is the video, n the packets per frame or field, and stamps are the capture timestamps of the judged
+-- packets, in nanoseconds of TAI. Packets count from 0. Which packet is named, and which model if it violates both, is
+-- this project's profile.
 use Rattle.std.specs.Prelude.{ℕ, zero, suc, ◌+◌, ◌==◌, nat_lt, max, Bool, if◌then◌else◌, List, length, Option, Some}
 use Rattle.std.specs.Prelude.{None}
 use Rattle.timing_base.specs.Media.{Media}
@@ -15,11 +16,11 @@ use Rattle.sender_params.specs.Limits.{c_max_of, gapped_of, vrx_full_of}
 use Rattle.sender_params.specs.Ticks.{load_of}
 use Rattle.drain_bucket.specs.Word.{bucket_of}
 
--- when packet i came, the bucket holds more than C_MAX packets
+-- just after packet i the bucket holds more than C_MAX packets
 abbrev pub is_overfull : Media → ℕ → List ℕ → Kind → ℕ → Bool
 is_overfull m n stamps kind i = nat_lt (c_max_of m n kind) (bucket_of m n stamps i)
 
--- the model that packet i breaks, the bucket's before the buffer's
+-- the model that packet i violates, the bucket before the buffer
 abbrev pub broken_at : Media → ℕ → List ℕ → Kind → ℕ → Option Broken
 broken_at m n stamps kind i =
     if is_overfull m n stamps kind i then Some Bucket
@@ -27,16 +28,18 @@ broken_at m n stamps kind i =
     else if is_empty m n stamps kind i then Some Empty
     else None
 
--- the latest packet up to packet i from which on the packets to i, less the ticks after it, are the count of the bucket
+-- the latest packet j up to packet i for which the packets j to i, less the drain ticks after j, are the count of the
+-- bucket
 abbrev pub latest_up_to : Media → ℕ → List ℕ → (i j : ℕ) → ℕ
 latest_up_to m n stamps i zero = 0
 latest_up_to m n stamps i (suc j) =
     if load_of m n stamps (suc j) i == bucket_of m n stamps i then suc j else latest_up_to m n stamps i j
 
+-- the first packet of the interval for the bucket at packet i
 abbrev pub latest_start : Media → ℕ → List ℕ → ℕ → ℕ
 latest_start m n stamps i = latest_up_to m n stamps i i
 
--- the interval that shows how packet i breaks a model
+-- the interval that shows how packet i violates this model
 abbrev pub proof_at : Media → ℕ → List ℕ → Kind → ℕ → Broken → FailProof
 proof_at m n stamps kind i Bucket = record {
   model = Bucket;
@@ -60,18 +63,18 @@ proof_at m n stamps kind i Empty = record {
   limit = i + 1;
 }
 
--- the verdict before packet i stays where it is a fail; else packet i decides
+-- the next verdict: a fail stays, else the interval at packet i decides
 abbrev pub verdict_next : KindVerdict → Option FailProof → KindVerdict
 verdict_next (Fail proof) here = Fail proof
 verdict_next Pass (Some proof) = Fail proof
 verdict_next Pass None = Pass
 
--- the interval at packet i, where it breaks a model
+-- the interval at packet i, if it violates a model
 abbrev pub proof_if : Media → ℕ → List ℕ → Kind → ℕ → Option Broken → Option FailProof
 proof_if m n stamps kind i None = None
 proof_if m n stamps kind i (Some model) = Some (proof_at m n stamps kind i model)
 
--- the verdict on the first `count` packets: Pass, or the interval at the least of them that breaks a model
+-- the verdict on the first `count` packets: a pass, or the interval at the first of them that violates a model
 abbrev pub verdict_below : Media → ℕ → List ℕ → Kind → ℕ → KindVerdict
 verdict_below m n stamps kind zero = Pass
 verdict_below m n stamps kind (suc i) =

@@ -1,4 +1,4 @@
--- What a `Flow` says of the packets that it was fed. Packets count from 0.
+-- The state of a `Flow` after the packets that it was fed. Packets count from 0.
 use Rattle.std.specs.Prelude.{◌≡◌, ◌≤◌, ◌<◌, ◌+◌, ◌^◌, ℕ, List, [], ◌∷◌, ◌++◌, length, map, vec_len, vec_capacity, ⊤}
 use Rattle.std.specs.Prelude.{true, Option, Some, None, Ok}
 use Rattle.frame_group.specs.Expected.{after, expected_after, going_on, next_packet}
@@ -17,7 +17,7 @@ use Rattle.fail_interval.specs.SoFar.{SoFar, outcome_of, so_far_at}
 use Rattle.fail_interval.specs.declared.flow.Flow.{Flow}
 use Rattle.fail_interval.specs.declared.flow.OpenRun.{OpenRun}
 
--- the packets before packet i, with cuts at these places, are those of the runs that are over, and of the open one
+-- the packets before packet i, with gaps at these places, are those of the runs that have ended and of the open one
 pub record IsOpen {M : Type 0} (m : Media) (tai : ℕ) (packets : List FlowPacket) (i : ℕ) (places : List ℕ)
     (so_far : SoFar) (done : List Run) (open_run : OpenRun M) : Type 0 where
   pub some : 0 < i
@@ -30,12 +30,13 @@ pub record IsOpen {M : Type 0} (m : Media) (tai : ℕ) (packets : List FlowPacke
   pub runs : (to : ℕ) → map (run_of m) (runs_between packets tai to 0 places)
       ≡ done ++ run_of m (run_at packets tai (last_place (0 ∷ places)) to) ∷ []
 
--- or there are none
+-- the packets before packet i are those of the runs that have ended and of the open one; before packet 0 there is no
+-- run
 abbrev pub OpensAt : {M : Type 0} → Media → ℕ → List FlowPacket → ℕ → SoFar → List Run → Option (OpenRun M) → Type 0
 OpensAt m tai packets i so_far done None = (i ≡ 0) × (done ≡ [])
 OpensAt m tai packets i so_far done (Some open_run) = IsOpen m tai packets i (cuts packets i) so_far done open_run
 
--- the open run is over: the runs that are over are these, and then it
+-- the open run has ended: its result follows those of the runs before
 abbrev pub IsClosed : {M : Type 0} → Media → List Run → Option (OpenRun M) → List Run → Type 0
 IsClosed m done None new = new ≡ done
 IsClosed m done (Some open_run) new = (so_far : SoFar) → RunStandsFor m open_run.judge so_far
@@ -46,11 +47,11 @@ IsClosed m done (Some open_run) new = (so_far : SoFar) → RunStandsFor m open_r
       verdict = run_verdict_of m (outcome_of so_far);
     } ∷ []
 
--- where runs are over there is room for one more
+-- if runs have ended, there is room for one more
 abbrev pub HasRoom : {M : Type 0} → Flow M → Type 0
 HasRoom flow = 1 ≤ vec_len flow.done → vec_len flow.done < vec_capacity flow.done
 
--- the flow was fed these packets and no others, as far as later calls can tell; whatever packets follow
+-- the flow was fed exactly these packets, as far as later calls depend on it, whatever packets follow
 pub record StandsFor {M : Type 0} (flow : Flow M) (packets : List FlowPacket) : Type 0 where
   pub seconds : flow.tai ≤ 1000
   pub grouper : GrouperStandsFor flow.media.pt flow.grouper packets
@@ -60,38 +61,38 @@ pub record StandsFor {M : Type 0} (flow : Flow M) (packets : List FlowPacket) : 
       (length packets) so_far flow.done.items flow.open
   pub room : HasRoom flow
 
--- packet i came so
+-- packet i has this packet record, this instant and this RTP header
 pub record ComesNext (packets : List FlowPacket) (tai i rec_number at : ℕ) (seen : Rtp) : Type 0 where
   pub within : i < length packets
   pub rec : (packet packets i).rec ≡ rec_number
   pub stamp : stamp_of tai (packet packets i) ≡ at
   pub reading : (packet packets i).rtp ≡ Ok seen
 
--- a run starts with packet i, at a cut or at the first packet
+-- a run starts with packet i, at a gap or at the start of the flow
 abbrev pub StartsAt : {M : Type 0} → List FlowPacket → ℕ → Option (OpenRun M) → Type 0
 StartsAt packets i None = ⊤
 StartsAt packets i (Some open_run) = is_cut packets i ≡ true
 
--- and a packet at this instant may be the next one
+-- the flow was fed these packets, and a packet captured at this instant may be the next one
 pub record CanGoOn {M : Type 0} (flow : Flow M) (packets : List FlowPacket) (at : ℕ) : Type 0 where
   pub stands : StandsFor flow packets
   pub stamped : AreStamped packets
   pub stamp : IsStamp at
   pub few : length packets < 2 ^ 41
 
--- packet i is the first that has a fault, which is this
+-- packet i is the first packet with a fault, which is this one
 abbrev pub has_fault : List FlowPacket → ℕ → ℕ → PacketFault → Type 0
 has_fault packets pt i fault = first_fault_below packets pt (i + 1) ≡ Some record { index = i; fault = fault }
 
--- the flow took this packet: whatever packets it was fed, it now was fed those and this one
+-- the flow took this packet after those that it was fed
 abbrev pub Took : {M : Type 0} → (old new : Flow M) → FlowPacket → Type 0
 Took old new next = (packets : List FlowPacket) → CanGoOn old packets next.at → StandsFor new (packets ++ next ∷ [])
 
--- the packet that is expected next, by what the flow keeps
+-- the packet that is expected next, by the state of the flow
 abbrev pub flow_expects : {M : Type 0} → Flow M → Option Rtp
 flow_expects flow = expected_of flow.grouper
 
--- the flow took the packet that goes on after those that it was fed, which is then the one expected, at this instant
+-- the flow took the packet that follows those that it was fed, captured at this instant; it was the expected one
 pub record TookExpected {M : Type 0} (old new : Flow M) (at : ℕ) : Type 0 where
   pub expects : (packets : List FlowPacket) → CanGoOn old packets at
       → expected_after packets old.media.pt ≡ Some (going_on packets old.media.pt (length packets))

@@ -1,4 +1,4 @@
--- What `WholeGroups` say of the packets of a run that has a whole group.
+-- The state `WholeGroups` of a run with at least one complete frame or field.
 use Rattle.std.specs.Prelude.{◌≡◌, ◌≤◌, ℕ, Bool, length}
 use Rattle.timing_base.specs.Media.{Media}
 use Rattle.fail_interval.specs.Meters.{StandsFor as MetersStandFor}
@@ -6,7 +6,7 @@ use Rattle.fail_interval.specs.Row.{judged_values}
 use Rattle.fail_interval.specs.SoFar.{Groups, IsFit, groups_next}
 use Rattle.fail_interval.specs.declared.run.WholeGroups.{WholeGroups}
 
--- the run has come to this
+-- the state is that of this run
 pub record IsWhole {M : Type 0} (m : Media) (judge : WholeGroups M) (so_far : Groups) : Type 0 where
   pub media : judge.params.media ≡ m
   pub n : judge.params.n ≡ so_far.n
@@ -23,7 +23,7 @@ pub record IsWhole {M : Type 0} (m : Media) (judge : WholeGroups M) (so_far : Gr
   pub some : 1 ≤ length so_far.stamps
   pub within : length so_far.whole ≤ length so_far.stamps
 
--- and a packet at this instant may be the next one
+-- the state is that of this run, and a packet at this instant may be the next one
 pub record CanGoOn {M : Type 0} (m : Media) (judge : WholeGroups M) (so_far : Groups) (at : ℕ)
     (marker : Bool) : Type 0 where
   pub is : IsWhole m judge so_far

@@ -1,4 +1,4 @@
--- What a `KindMeter` says of the judged packets of a run.
+-- The state of a `KindMeter` after judged packets of a run.
 use Rattle.std.specs.Prelude.{◌≡◌, ◌≤◌, ℕ, List, [], ◌∷◌, ◌++◌, slice_index}
 use Rattle.drain_bucket.specs.Stands.{StandsFor as BucketStandsFor}
 use Rattle.drain_bucket.specs.declared.bucket.Bucket.{Bucket}
@@ -15,13 +15,13 @@ use Rattle.vrx_buffer.specs.Stands.{StandsFor as VrxStandsFor}
 use Rattle.fail_interval.specs.Fails.{kind_verdict}
 use Rattle.fail_interval.specs.declared.kind.KindMeter.{KindMeter}
 
--- the meter was fed packets with these stamps and no others
+-- the meter was fed exactly packets with these capture timestamps
 pub record StandsFor (params : Params) (meter : KindMeter) (stamps : List ℕ) : Type 0 where
   pub vrx : VrxStandsFor params meter.vrx stamps
   pub verdict : meter.verdict ≡ kind_verdict params.media params.n stamps meter.vrx.kind
   pub c_max : meter.c_max ≡ c_max_of params.media params.n meter.vrx.kind
 
--- the next packet comes at this instant, with this bucket after it and so much due by the schedule of this type
+-- the next packet comes at this instant; `bucket` is the bucket after it, and `due` what is due by this type's schedule
 pub record ComesNext (params : Params) (bucket : Bucket) (due : Due) (kind : Kind) (stamps : List ℕ)
     (at : ℕ) : Type 0 where
   pub ordered : NeverFall (stamps ++ at ∷ [])
@@ -29,7 +29,7 @@ pub record ComesNext (params : Params) (bucket : Bucket) (due : Due) (kind : Kin
   pub due_is : IsDueAt params.media params.n (anchor_of params.media (slice_index (stamps ++ at ∷ []) 0))
       (gapped_of kind) at due
 
--- the next packet comes at this instant, with this bucket after it, and changes neither peak nor verdict
+-- the next packet comes at this instant, `bucket` is the bucket after it, and it changes neither peak nor verdict
 pub record PassesBy (params : Params) (bucket : Bucket) (meter : KindMeter) (stamps : List ℕ) (at : ℕ) : Type 0 where
   pub ordered : NeverFall (stamps ++ at ∷ [])
   pub bucket_is : BucketStandsFor params bucket (stamps ++ at ∷ [])

@@ -1,4 +1,4 @@
--- what is promised
+-- definitions that the clauses of the public functions use
 pub mod Row
 pub mod Rows
 pub mod Parts
@@ -10,9 +10,9 @@ pub mod Fails
 pub mod Stands
 pub mod BankStands
 pub mod Found
--- flows that are worked by hand
+-- flows with results worked by hand
 pub mod Worked
--- these only serve proofs
+-- definitions for proofs only
 pub mod Early
 pub mod Flowing
 pub mod Goings

@@ -1,4 +1,4 @@
--- What a `Lull` says of the meters of a run.
+-- A quiet period (`Lull`) and the meters of a run.
 use Rattle.std.specs.Prelude.{◌≡◌, ◌≤◌, ℕ, ◌-◌, None}
 use Rattle.read_schedule.specs.Between.{Holds as HoldsBetween, IsFrom, IsUpTo}
 use Rattle.read_schedule.specs.declared.between.Between.{Between}
@@ -9,16 +9,17 @@ use Rattle.timing_base.specs.declared.row.KindVerdict.TheVariants.{Pass}
 use Rattle.fail_interval.specs.declared.kind.KindMeter.{KindMeter}
 use Rattle.fail_interval.specs.declared.lull.Lull.{Lull}
 
--- the lull holds for a packet of this number, counted from 1, at this instant, after which the bucket holds so many
+-- the quiet period holds for judged packet `number`, counted from 1, at this instant, if the bucket holds `count`
+-- packets after it
 pub record Holds (lull : Lull) (number count at : ℕ) : Type 0 where
   pub lasts : number ≤ lull.until
   pub within : count ≤ lull.brim
   pub gapped : HoldsBetween lull.gapped at
   pub linear : HoldsBetween lull.linear at
 
--- for `left` packets after `seen` ones, at these instants of the reads of a sender type: no more is held than before,
--- and as long as it has no fault each comes before its own read; and as long as it passes, the bucket is within its
--- limit up to the brim
+-- the next `left` packets after the first `seen` ones are quiet for one sender type, if they come at the instants b:
+-- the buffer holds no more than its peak, and while it has no fault, each packet comes before its own read; while the
+-- type passes, the threshold of the bucket is within C_MAX
 pub record IsCalm (params : Params) (origin seen : ℕ) (meter : KindMeter) (left brim : ℕ) (b : Between) : Type 0 where
   pub within : meter.verdict ≡ Pass → brim ≤ meter.c_max
   pub due : IsFrom params.media params.n (anchor_of params.media origin) (gapped_of meter.vrx.kind)
@@ -26,7 +27,7 @@ pub record IsCalm (params : Params) (origin seen : ℕ) (meter : KindMeter) (lef
   pub ahead : meter.vrx.fault ≡ None → IsUpTo params.media params.n (anchor_of params.media origin)
       (gapped_of meter.vrx.kind) seen left b
 
--- so of each sender type: narrow, narrow linear and wide
+-- the quiet period is one for each sender type: narrow, narrow linear and wide
 pub record IsLull (params : Params) (origin seen : ℕ) (first second third : KindMeter) (lull : Lull) : Type 0 where
   pub narrow : IsCalm params origin seen first (lull.until - seen) lull.brim lull.gapped
   pub narrow_linear : IsCalm params origin seen second (lull.until - seen) lull.brim lull.linear

@@ -1,5 +1,5 @@
--- What the output of the meters of a flow's runs tells of the packets that the flow's judge was fed. Packets count from
--- 0, runs from 1; `tai` is in seconds.
+-- The output of the meters of a flow's runs, by the packets that the flow's judge was fed. Packets count from 0, runs
+-- from 1; `tai` is in seconds.
 use Rattle.std.specs.Prelude.{ℕ, ⊤, List, [], ◌∷◌, ◌++◌, length, Option, Some, None, Result, OnOk}
 use Rattle.frame_group.specs.Expected.{next_packet}
 use Rattle.timing_base.specs.Flows.{FirstFault, first_fault, first_fault_below}
@@ -14,28 +14,28 @@ use Rattle.fail_interval.specs.declared.judge.FlowJudge.{FlowJudge}
 use Rattle.fail_interval.specs.declared.judge.State.{State}
 use Rattle.fail_interval.specs.declared.judge.State.TheVariants.{Going, Refused, Spent}
 
--- the output tells of the first n packets of a flow, as far as none has a fault: of the runs that are over, where they
--- are judged, and of the whole groups of the open one
+-- the output contains the results of the first n packets of a flow, up to the first fault: of the judged runs that have
+-- ended, and of the complete frames or fields of the open one
 abbrev pub TellsSoFar : {Past Out : Type 0} → Telling Past Out → Past → Media → (tai : ℕ) → List FlowPacket → (n : ℕ)
     → Out → Type 0
 TellsSoFar tells past m tai packets n out =
     let sound = sound_before (first_fault_below packets m.pt n) n in
     tells past out m tai (parts_before m packets tai sound) (open_before packets tai sound)
 
--- the output tells of a flow that is over: of its judged runs; or where it has a fault, what it told before the packet
--- of the first one
+-- the output of a flow that has ended contains its judged runs; if a packet has a fault, what it contained before the
+-- first such packet
 abbrev pub TellsEnd : {Past Out : Type 0} → Telling Past Out → Past → Media → (tai : ℕ) → List FlowPacket
     → Option FirstFault → Out → Type 0
 TellsEnd tells past m tai packets None out = tells past out m tai (judged_parts m packets tai) None
 TellsEnd tells past m tai packets (Some first) out =
     tells past out m tai (parts_before m packets tai first.index) (open_before packets tai first.index)
 
--- so by the first fault of all packets of the flow
+-- the output of a flow that has ended satisfies `TellsEnd` by the first fault of all packets of the flow
 abbrev pub TellsOfAll : {Past Out : Type 0} → Telling Past Out → Past → Media → (tai : ℕ) → List FlowPacket → Out
     → Type 0
 TellsOfAll tells past m tai packets out = TellsEnd tells past m tai packets (first_fault packets m.pt) out
 
--- the meters of a flow's runs were told these packets, and the output tells of them, whatever packets follow
+-- the meters of a flow's runs were fed these packets, and the output contains their results, whatever packets follow
 abbrev pub StateTells : {M Out Past : Type 0} → Standing M → Telling Past Out → Past → Media → (tai : ℕ)
     → List FlowPacket → State M → Out → Type 0
 StateTells stands tells past m tai packets (Going flow) out = Tells stands tells past m tai packets flow.open out
@@ -43,13 +43,13 @@ StateTells stands tells past m tai packets (Refused rec fault) out =
     (rest : List FlowPacket) → TellsSoFar tells past m tai (packets ++ rest) (length packets) out
 StateTells stands tells past m tai packets Spent out = ⊤
 
--- so of the packets that a judge was fed, as far as later calls can tell
+-- the meters of a judge were fed the packets that the judge was fed, and the output contains their results, as far as
+-- later calls show
 abbrev pub JudgeTells : {M Out Past : Type 0} → Standing M → Telling Past Out → Past → Media → (tai : ℕ)
     → List FlowPacket → FlowJudge M → Out → Type 0
 JudgeTells stands tells past m tai packets judge out = StateTells stands tells past m tai packets judge.state out
 
--- a call took this packet, the next of the flow: whatever packets the judge stood for and its output told of, it now
--- tells of those and this one
+-- a call took this packet, the next of the flow, after those fed, and the output contains its results too
 abbrev pub TellsTaken : {M Out Past T E : Type 0} → Standing M → Telling Past Out → (old new : FlowJudge M)
     → (before after : Out) → FlowPacket → Result T E → Type 0
 TellsTaken {Past = Past} stands tells old new before after next result =
@@ -57,8 +57,8 @@ TellsTaken {Past = Past} stands tells old new before after next result =
     → JudgeTells stands tells past m tai packets old before
     → OnOk result (JudgeTells stands tells past m tai (packets ++ next ∷ []) new after)
 
--- a call took the packet that is expected next, with this record and at this instant: the output stays, and tells of
--- those packets and this one
+-- a call took the expected packet, with this packet record and at this instant; the output is unchanged, and is right
+-- for this packet too
 abbrev pub TellsGoingOn : {M Out Past : Type 0} → Standing M → Telling Past Out → (old new : FlowJudge M)
     → (rec at : ℕ) → Type 0
 TellsGoingOn {Out = Out} {Past = Past} stands tells old new rec at =

@@ -1,5 +1,5 @@
--- What the meter of a run was told of the run's packets, and what its output tells of them. Packets of a list count
--- from 0, runs from 1; `tai` is in seconds.
+-- The packets that the meter of a run was fed, and the contents of its output. Packets of a list count from 0, runs
+-- from 1; `tai` is in seconds.
 use Rattle.std.specs.Prelude.{◌≡◌, ◌≤◌, ◌*◌, ℕ, ⊤, Bool, true, false, List, [], ◌∷◌, ◌++◌, length, map, Option, Some}
 use Rattle.std.specs.Prelude.{None, Result, IfOk}
 use Rattle.timing_base.specs.Flows.{read_or_zeros}
@@ -16,43 +16,43 @@ use Rattle.fail_interval.specs.declared.first.Kept.{Kept}
 use Rattle.fail_interval.specs.declared.run.RunJudge.{RunJudge}
 use Rattle.fail_interval.specs.declared.run.RunJudge.TheVariants.{Head, First, Groups}
 
--- what a meter stands for, by its trait
+-- the relation `stands` of a meter's trait: the packets that the meter was fed
 abbrev pub Standing : Type 0 → Type 1
 Standing M = M → Media → (tai : ℕ) → RunOf → (fed committed : List FlowPacket) → Type 0
 
--- what an output of meters tells, by their trait
+-- the relation `tells` of a meter's trait: the results that the output contains
 abbrev pub Telling : (Past Out : Type 0) → Type 1
 Telling Past Out = Past → Out → Media → (tai : ℕ) → List JudgedPart → Option OpenPart → Type 0
 
--- what is kept of a packet beside its stamp
+-- what is kept of a packet beside its capture timestamp
 abbrev pub kept_of : FlowPacket → Kept
 kept_of p = record { rec = p.rec; timestamp = (read_or_zeros p.rtp).timestamp }
 
--- the first group has these packets so far, and they are kept for its meter
+-- the first frame or field has these packets so far, and they are kept for its meter
 pub record Keeps (tai : ℕ) (group : FirstGroup) (packets : List FlowPacket) : Type 0 where
   pub stamps : group.stamps.items ≡ stamps_of tai packets
   pub kept : group.kept.items ≡ map kept_of packets
 
--- the run has come to packets with these stamps behind its first marker
+-- the packets of the run after its first marker have these capture timestamps
 abbrev pub HaveStamps : SoFar → List ℕ → Type 0
 HaveStamps (in_head head) stamps = stamps ≡ []
 HaveStamps (in_first head so_far) stamps = so_far ≡ stamps
 HaveStamps (in_groups g) stamps = g.stamps ≡ stamps
 
--- these are the packets of the run's whole groups
+-- these are the packets of the complete frames or fields of the run
 pub record AreJudged (tai : ℕ) (g : GroupsSoFar) (packets : List FlowPacket) : Type 0 where
   pub stamps : stamps_of tai packets ≡ g.whole
   pub some : 1 ≤ g.groups
   pub are : length packets ≡ g.n * g.groups
 
--- where it has any
+-- if the run has complete frames or fields, these are their packets
 abbrev pub HaveWhole : (tai : ℕ) → SoFar → List FlowPacket → Type 0
 HaveWhole tai (in_head head) packets = ⊤
 HaveWhole tai (in_first head so_far) packets = ⊤
 HaveWhole tai (in_groups g) packets = AreJudged tai g packets
 
--- the meter of the run was told these packets, of which the latter ones are of whole groups; they are kept where the
--- first group isn't whole yet
+-- the meter of the run was fed these packets, the committed ones of complete frames or fields; until the first frame or
+-- field is complete, they are kept instead
 abbrev pub IsTold : {M : Type 0} → Standing M → Media → (tai number : ℕ) → FlowPacket → RunJudge M
     → (fed committed : List FlowPacket) → Type 0
 IsTold stands m tai number first (Head packets) fed committed = (fed ≡ []) × (committed ≡ [])
@@ -60,7 +60,7 @@ IsTold stands m tai number first (First head group) fed committed = Keeps tai gr
 IsTold stands m tai number first (Groups judge) fed committed =
     stands judge.meter m tai (run_by number first judge.params.n) fed committed
 
--- of the run that isn't over what its output tells: nothing, where it has no whole group
+-- what the output contains of the open run: nothing if it has no complete frame or field
 abbrev pub open_part : {M : Type 0} → (number : ℕ) → FlowPacket → RunJudge M → (committed : List FlowPacket)
     → Option OpenPart
 open_part number first (Head packets) committed = None
@@ -68,13 +68,13 @@ open_part number first (First head group) committed = None
 open_part number first (Groups judge) committed =
     Some (record { run = run_by number first judge.params.n; packets = committed })
 
--- one packet more behind the first marker
+-- the packets after the first marker, with one packet more
 abbrev pub fed_next : SoFar → List FlowPacket → FlowPacket → List FlowPacket
 fed_next (in_head head) fed p = []
 fed_next (in_first head stamps) fed p = fed ++ p ∷ []
 fed_next (in_groups g) fed p = fed ++ p ∷ []
 
--- and those of whole groups, where it has the marker or not
+-- the packets of complete frames or fields, with one packet more, which may have the marker
 abbrev pub committed_next : SoFar → (marker : Bool) → (fed committed : List FlowPacket) → FlowPacket → List FlowPacket
 committed_next (in_head head) marker fed committed p = []
 committed_next (in_first head stamps) true fed committed p = fed ++ p ∷ []
@@ -82,26 +82,27 @@ committed_next (in_first head stamps) false fed committed p = committed
 committed_next (in_groups g) true fed committed p = fed ++ p ∷ []
 committed_next (in_groups g) false fed committed p = committed
 
--- where the packet has the marker the packets up to it are whole groups
+-- if the last packet has the marker, the packets are complete frames or fields
 abbrev pub EndsWhole : SoFar → (marker : Bool) → List FlowPacket → Type 0
 EndsWhole (in_head head) marker packets = ⊤
 EndsWhole (in_first head stamps) marker packets = ⊤
 EndsWhole (in_groups g) true packets = AreWhole g.n packets
 EndsWhole (in_groups g) false packets = ⊤
 
--- the head tells of this first packet
+-- the head is that of a run with this first packet
 pub record Heads (first : FlowPacket) (head : RunHead) : Type 0 where
   pub rec : head.rec ≡ first.rec
   pub number : head.number ≡ (read_or_zeros first.rtp).number
 
--- the meter was told these packets of the run, and its output tells of those of whole groups and of the runs before
+-- the meter was fed these packets of the run, and its output contains the results of the committed ones and of the runs
+-- before
 pub record TellsOf {M Out Past : Type 0} (stands : Standing M) (tells : Telling Past Out) (past : Past) (m : Media)
     (tai number : ℕ) (first : FlowPacket) (over : List JudgedPart) (judge : RunJudge M) (out : Out)
     (fed committed : List FlowPacket) : Type 0 where
   pub told : IsTold stands m tai number first judge fed committed
   pub out_tells : tells past out m tai over (open_part number first judge committed)
 
--- a call took this packet: whatever the meter was told, it was told this one too, and its output tells of it
+-- a call took this packet after those fed, and the output contains its results too
 abbrev pub TellsNext : {M Out Past T E : Type 0} → Standing M → Telling Past Out → Media → (old new : RunJudge M)
     → (before after : Out) → RunHead → RunPacket → (marker : Bool) → Result T E → Type 0
 TellsNext {Past = Past} stands tells m old new before after head told marker result =

@@ -1,4 +1,4 @@
--- What `RunMeters` say of the judged packets of a run.
+-- The state of `RunMeters` after judged packets of a run.
 use Rattle.std.specs.Prelude.{◌≡◌, ◌≤◌, ◌<◌, ◌^◌, ℕ, ◌-◌, true, false, List, [], ◌∷◌, ◌++◌, length, slice_index}
 use Rattle.drain_bucket.specs.Stands.{StandsFor as BucketStandsFor}
 use Rattle.drain_bucket.specs.declared.bucket.Bucket.{Bucket}
@@ -11,11 +11,11 @@ use Rattle.fail_interval.specs.Lulls.{IsLull}
 use Rattle.fail_interval.specs.SoFar.{AreStamps}
 use Rattle.fail_interval.specs.declared.meters.RunMeters.{RunMeters}
 
--- the last stamp, or 0
+-- the last capture timestamp, or 0
 abbrev pub last_stamp : List ℕ → ℕ
 last_stamp stamps = slice_index stamps (length stamps - 1)
 
--- the meters were fed packets with these stamps and no others, whatever lull there is
+-- the meters were fed exactly packets with these capture timestamps; the quiet period may be any
 pub record AreFed (params : Params) (meters : RunMeters) (stamps : List ℕ) : Type 0 where
   pub first : 1 ≤ length stamps → slice_index stamps 0 ≡ meters.bucket.origin
   pub bucket : BucketStandsFor params meters.bucket stamps
@@ -30,13 +30,13 @@ pub record AreFed (params : Params) (meters : RunMeters) (stamps : List ℕ) : T
   pub wide_kind : meters.wide.vrx.kind ≡ W
   pub wide : KindStandsFor params meters.wide stamps
 
--- the meters were fed packets with these stamps and no others
+-- the meters were fed exactly packets with these capture timestamps
 pub record StandsFor (params : Params) (meters : RunMeters) (stamps : List ℕ) : Type 0 where
   pub fed : AreFed params meters stamps
   pub lull : IsLull params meters.bucket.origin (length stamps) meters.narrow meters.narrow_linear meters.wide
       meters.lull
 
--- the bucket took a packet that came at this instant, and no more than may be
+-- the bucket took a packet that came at this instant, and the numbers are within the limits
 pub record IsWithin (bucket : Bucket) (at : ℕ) : Type 0 where
   pub in_time : at < 2 ^ 62
   pub some : 1 ≤ bucket.seen
@@ -48,7 +48,7 @@ pub record CanFollow (params : Params) (meters : RunMeters) (stamps : List ℕ) 
   pub first : length stamps ≡ 0 → at ≡ meters.bucket.origin
   pub fit : AreStamps (stamps ++ at ∷ [])
 
--- these meters with another bucket
+-- the meters with another bucket
 abbrev pub with_bucket : RunMeters → Bucket → RunMeters
 with_bucket meters bucket = record {
   bucket = bucket;
@@ -60,7 +60,7 @@ with_bucket meters bucket = record {
   lull = meters.lull;
 }
 
--- the packet at this instant went into the bucket, and now goes into all meters
+-- the meters took the packet at this instant; the bucket took it before
 abbrev pub TakesNext : Params → (old new : RunMeters) → (at : ℕ) → Type 0
 TakesNext params old new at = (before : Bucket) (stamps : List ℕ) → CanFollow params (with_bucket old before) stamps at
     → old.bucket.origin ≡ before.origin

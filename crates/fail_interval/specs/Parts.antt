@@ -1,6 +1,6 @@
--- The judged runs of a flow, and what is judged of the open one, whatever follows. A run stands between two cuts; of
--- its packets those behind its first marker and up to its last are judged. Packets count from 0, runs from 1; `tai` is
--- in seconds. This project's profile.
+-- The judged runs of a flow, and the judged packets of the open one, whatever follows. A run stands between two gaps;
+-- its judged packets are those after its first marker, up to and including its last marker. Packets count from 0, runs
+-- from 1; `tai` is in seconds. This project's profile.
 use Rattle.std.specs.Prelude.{ℕ, ◌+◌, List, [], ◌∷◌, ◌++◌, length, slice_index, slice_range, Option, Some, None}
 use Rattle.timing_base.specs.Flows.{FirstFault, cuts, last_place, markers, packet}
 use Rattle.timing_base.specs.Judged.{FlowVerdict, RunOutcome, in_one_run, in_runs, judged, no_whole_frame, run_outcome}
@@ -10,36 +10,36 @@ use Rattle.timing_base.specs.declared.packet.FlowPacket.{FlowPacket}
 use Rattle.run_meter.specs.Runs.{JudgedPart, OpenPart, RunOf}
 use Rattle.fail_interval.specs.Row.{judged_values}
 
--- of the packets from a place on and below another those that are judged
+-- the judged packets of the run from packet `from` on and before packet `to`
 abbrev pub judged_packets : List FlowPacket → (from to : ℕ) → List FlowPacket
 judged_packets packets from to =
     let marks = markers packets from to in slice_range packets (slice_index marks 0 + 1) (last_place marks + 1)
 
--- the run of this number, with this first packet and these judged packets, where it comes to whole groups
+-- the run of this number, with this first packet and these judged packets, if it has a complete frame or field
 abbrev pub part_by : Media → (number : ℕ) → (first : FlowPacket) → (packets : List FlowPacket) → RunOutcome
     → List JudgedPart
 part_by m number first packets (no_whole_frame head) = []
 part_by m number first packets (whole_frames run) =
     record { number = number; first = first; values = judged_values m run; packets = packets } ∷ []
 
--- the run of this number from a place on and below another
+-- the run of this number from packet `from` on and before packet `to`
 abbrev pub part_between : Media → List FlowPacket → (tai number from to : ℕ) → List JudgedPart
 part_between m packets tai number from to =
     part_by m number (packet packets from) (judged_packets packets from to) (run_outcome packets tai from to)
 
--- the judged runs from a place on and up to the last of these cuts; the first run has this number
+-- the judged runs from packet `from` on, up to the last of these gaps; the first run has this number
 abbrev pub parts_over : Media → List FlowPacket → (tai number from : ℕ) → List ℕ → List JudgedPart
 parts_over m packets tai number from [] = []
 parts_over m packets tai number from (cut ∷ rest) =
     part_between m packets tai number from cut ++ parts_over m packets tai (number + 1) cut rest
 
--- the judged runs from a place on and below another, with cuts at these places between
+-- the judged runs from packet `from` on and before packet `to`, with these gaps between; the first run has this number
 abbrev pub parts_between : Media → List FlowPacket → (tai to number from : ℕ) → List ℕ → List JudgedPart
 parts_between m packets tai to number from [] = part_between m packets tai number from to
 parts_between m packets tai to number from (cut ∷ rest) =
     part_between m packets tai number from cut ++ parts_between m packets tai to (number + 1) cut rest
 
--- the judged runs of a flow that is judged so
+-- the judged runs of a flow with this verdict
 abbrev pub parts_in : Media → List FlowPacket → (tai : ℕ) → FlowVerdict → List JudgedPart
 parts_in m packets tai (in_one_run outcome) =
     part_by m 1 (packet packets 0) (judged_packets packets 0 (length packets)) outcome
@@ -51,21 +51,21 @@ parts_in m packets tai verdict = []
 abbrev pub judged_parts : Media → List FlowPacket → (tai : ℕ) → List JudgedPart
 judged_parts m packets tai = parts_in m packets tai (judged packets m.pt tai)
 
--- the runs that are over before packet n of a flow, where they are judged
+-- the judged runs that have ended before packet n of a flow
 abbrev pub parts_before : Media → List FlowPacket → (tai n : ℕ) → List JudgedPart
 parts_before m packets tai n = parts_over m packets tai 1 0 (cuts packets n)
 
--- the run of this number, with this first packet and groups of n packets
+-- the run of this number, with this first packet and n packets per frame or field
 abbrev pub run_by : (number : ℕ) → (first : FlowPacket) → (n : ℕ) → RunOf
 run_by number first n = record { number = number; first = first; n = n }
 
--- of the open run the packets of its whole groups so far, where it comes to any
+-- the packets of the complete frames or fields of the open run, if it has any
 abbrev pub open_by : (number : ℕ) → (first : FlowPacket) → (packets : List FlowPacket) → RunOutcome → Option OpenPart
 open_by number first packets (no_whole_frame head) = None
 open_by number first packets (whole_frames run) =
     Some (record { run = run_by number first run.n; packets = packets })
 
--- the run that is open before packet n of a flow, with cuts at these places before
+-- the run that is open before packet n of a flow, with gaps at these places before
 abbrev pub open_at : List FlowPacket → (tai : ℕ) → List ℕ → (n : ℕ) → Option OpenPart
 open_at packets tai places n =
     let from = last_place (0 ∷ places) in
@@ -76,7 +76,7 @@ open_at packets tai places n =
 abbrev pub open_before : List FlowPacket → (tai n : ℕ) → Option OpenPart
 open_before packets tai n = open_at packets tai (cuts packets n) n
 
--- the packets before the first fault; all n, where there is none
+-- the number of packets before the first fault; n if there is none
 abbrev pub sound_before : Option FirstFault → (n : ℕ) → ℕ
 sound_before None n = n
 sound_before (Some first) n = first.index

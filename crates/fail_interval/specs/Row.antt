@@ -1,4 +1,4 @@
--- The row of a flow: what its packets come to. This project's profile.
+-- The result of a flow, by its packets. This project's profile.
 use Rattle.std.specs.Prelude.{ℕ, true, false, List, [], ◌∷◌, length, map}
 use Rattle.timing_base.specs.Judged.{FlowRun, FlowVerdict, JudgedRun, RunOutcome, absent, gap, in_one_run, in_runs}
 use Rattle.timing_base.specs.Judged.{judged, no_whole_frame, refused, whole_frames}
@@ -38,6 +38,7 @@ abbrev pub run_verdict_of : Media → RunOutcome → RunVerdict
 run_verdict_of m (no_whole_frame head) = run_verdict.NoWholeFrame head
 run_verdict_of m (whole_frames run) = run_verdict.Judged (judged_values m run)
 
+-- the result of a run between gaps
 abbrev pub run_of : Media → FlowRun → Run
 run_of m run = record {
   rec = run.rec;
@@ -59,6 +60,6 @@ verdict_of m (gap rec expected got) = verdict.Unjudged (unjudged.Gap rec expecte
 verdict_of m (in_one_run outcome) = one_run_verdict m outcome
 verdict_of m (in_runs runs) = verdict.Runs (map (run_of m) runs)
 
--- the row of a flow of this media, with so many seconds added to its stamps
+-- the result of a flow of this media, with `tai` seconds added to its capture timestamps
 abbrev pub row : List FlowPacket → FlowKey → Media → (tai : ℕ) → Row
 row packets key m tai = record { key = key; verdict = verdict_of m (judged packets m.pt tai) }

@@ -1,5 +1,5 @@
--- What a run has come to, packet by packet: its head, the stamps of its first group, and then those of its whole
--- groups. Stamps are nanoseconds of TAI.
+-- The state of a run, packet by packet: its head, the capture timestamps of its first frame or field, and then those of
+-- its complete frames or fields. Capture timestamps are in nanoseconds of TAI.
 use Rattle.std.specs.Prelude.{◌≤◌, ◌<◌, ℕ, ◌+◌, ◌-◌, ◌^◌, Bool, true, false, if◌then◌else◌, List, [], ◌∷◌, ◌++◌, length}
 use Rattle.std.specs.Prelude.{map, slice_range, All}
 use Rattle.timing_base.specs.Flows.{last_place, markers}
@@ -7,23 +7,26 @@ use Rattle.timing_base.specs.Judged.{RunOutcome, no_whole_frame, stamp_of, whole
 use Rattle.timing_base.specs.declared.packet.FlowPacket.{FlowPacket}
 use Rattle.sender_params.specs.Ticks.{NeverFall}
 
--- a run of at least one whole group
+-- a run with at least one complete frame or field
 pub record Groups : Type 0 where
-  -- the packets up to and including the first marker
+  -- packets up to and including the first marker
   pub head : ℕ
-  -- the packets of each group
+  -- packets per frame or field
   pub n : ℕ
-  -- the whole groups
+  -- complete frames or fields
   pub groups : ℕ
-  -- the stamps of their packets
+  -- capture timestamps of their packets
   pub whole : List ℕ
-  -- the stamps of all packets after the first marker
+  -- capture timestamps of all packets after the first marker
   pub stamps : List ℕ
 
--- a run before its first marker, in its first group, or after that
+-- a run before its first marker, in its first frame or field, or after that
 pub data SoFar : Type 0 where
+  -- `head` packets came, none with the marker
   in_head : (head : ℕ) → SoFar
+  -- the first marker came, and after it packets with these capture timestamps
   in_first : (head : ℕ) (stamps : List ℕ) → SoFar
+  -- the first frame or field is complete
   in_groups : Groups → SoFar
 
 -- one packet more, which came at this instant and may have the marker
@@ -36,7 +39,7 @@ groups_next g at marker = record {
   stamps = g.stamps ++ at ∷ [];
 }
 
--- the first group is whole
+-- the first frame or field is complete
 abbrev pub groups_first : ℕ → List ℕ → Groups
 groups_first head stamps = record {
   head = head;
@@ -46,7 +49,7 @@ groups_first head stamps = record {
   stamps = stamps;
 }
 
--- one packet more
+-- the run with one packet more, which came at this instant and may have the marker
 abbrev pub so_far_next : SoFar → (at : ℕ) → (marker : Bool) → SoFar
 so_far_next (in_head head) at false = in_head (head + 1)
 so_far_next (in_head head) at true = in_first (head + 1) []
@@ -54,7 +57,7 @@ so_far_next (in_first head stamps) at false = in_first head (stamps ++ at ∷ []
 so_far_next (in_first head stamps) at true = in_groups (groups_first head (stamps ++ at ∷ []))
 so_far_next (in_groups g) at marker = in_groups (groups_next g at marker)
 
--- what is judged of the run, where it ends here
+-- the result of the run if it ends here
 abbrev pub outcome_of : SoFar → RunOutcome
 outcome_of (in_head head) = no_whole_frame head
 outcome_of (in_first head stamps) = no_whole_frame head
@@ -66,13 +69,13 @@ outcome_of (in_groups g) = whole_frames record {
   stamps = g.whole;
 }
 
--- stamps of judged packets within the limits
+-- capture timestamps of judged packets within the limits
 pub record AreStamps (stamps : List ℕ) : Type 0 where
   pub ordered : NeverFall stamps
   pub early : All (λ at. at < 2 ^ 62) stamps
   pub few : length stamps ≤ 2 ^ 41
 
--- a run within the limits
+-- a run with complete frames or fields within the limits
 pub record IsFit (so_far : Groups) : Type 0 where
   pub head : so_far.head ≤ 2 ^ 41
   pub some : 1 ≤ so_far.n
@@ -80,16 +83,17 @@ pub record IsFit (so_far : Groups) : Type 0 where
   pub groups : so_far.groups ≤ 2 ^ 41
   pub stamps : AreStamps so_far.stamps
 
+-- a run within the limits
 abbrev pub Fits : SoFar → Type 0
 Fits (in_head head) = head ≤ 2 ^ 41
 Fits (in_first head stamps) = (head ≤ 2 ^ 41) × (length stamps ≤ 262144) × AreStamps stamps
 Fits (in_groups g) = IsFit g
 
--- the stamps of the packets from one place on and below another, with so many seconds added
+-- the capture timestamps of the packets from packet `from` on and before packet `to`, with `tai` seconds added
 abbrev pub stamps_from : List FlowPacket → ℕ → ℕ → ℕ → List ℕ
 stamps_from packets tai from to = map (stamp_of tai) (slice_range packets from to)
 
--- what the run from one place on and below another has come to, by its markers
+-- the state of the run from packet `from` on and before packet `to`, by the places of its markers
 abbrev pub so_far_by : List FlowPacket → ℕ → ℕ → ℕ → List ℕ → SoFar
 so_far_by packets tai from to [] = in_head (to - from)
 so_far_by packets tai from to (a ∷ []) = in_first (a + 1 - from) (stamps_from packets tai (a + 1) to)
@@ -101,5 +105,6 @@ so_far_by packets tai from to (a ∷ b ∷ rest) = in_groups record {
   stamps = stamps_from packets tai (a + 1) to;
 }
 
+-- the state of the run from packet `from` on and before packet `to`
 abbrev pub so_far_at : List FlowPacket → ℕ → ℕ → ℕ → SoFar
 so_far_at packets tai from to = so_far_by packets tai from to (markers packets from to)

@@ -1,5 +1,5 @@
--- What the crate's own functions promise each other: which packet a judge expects, and the rows that come of the judges
--- of all media.
+-- Clauses of the crate's private functions: the packet that a judge expects, and the results of the judges of all
+-- media.
 use Rattle.std.specs.Prelude.{◌≡◌, ℕ, List, ◌++◌, Some}
 use Rattle.frame_group.specs.Expected.{expected_after}
 use Rattle.timing_base.specs.Captures.{Record}
@@ -14,12 +14,12 @@ use Rattle.fail_interval.specs.Rows.{rows_from, rows_of}
 use Rattle.fail_interval.specs.Stands.{StandsFor}
 use Rattle.fail_interval.specs.declared.judge.FlowJudge.{FlowJudge}
 
--- whatever packets the judge was fed, this is the one expected after them
+-- this packet is the expected one after the packets that the judge was fed
 abbrev pub IsExpected : {M : Type 0} → FlowJudge M → Rtp → Type 0
 IsExpected judge p = (m : Media) (key : FlowKey) (tai : ℕ) (packets : List FlowPacket)
     → StandsFor m key tai judge packets → Some p ≡ expected_after packets m.pt
 
--- with the rows of the judges that are left, these are the rows of all media behind those that were there before
+-- `rows`, with the results of the judges that are left, are the results before and then those of all media
 pub record HasRows (tai file : ℕ) (media : List Media) (items : List Record) (before rows : List Row)
     (left : List (MediaFlow Judging)) : Type 0 where
   pub number : ℕ

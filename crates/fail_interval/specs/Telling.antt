@@ -1,5 +1,5 @@
--- What the meters of a flow's runs were told of the flow's packets, and what their output tells. Packets count from 0,
--- runs from 1; `tai` is in seconds.
+-- The packets that the meters of a flow's runs were fed, and the contents of their output. Packets count from 0, runs
+-- from 1; `tai` is in seconds.
 use Rattle.std.specs.Prelude.{◌≡◌, ◌+◌, ℕ, List, [], ◌∷◌, ◌++◌, length, slice_range, Option, Some, None}
 use Rattle.frame_group.specs.Expected.{next_packet}
 use Rattle.timing_base.specs.Flows.{cuts, last_place, markers, packet}
@@ -14,13 +14,13 @@ use Rattle.fail_interval.specs.SoFar.{SoFar, outcome_of}
 use Rattle.fail_interval.specs.declared.flow.Flow.{Flow}
 use Rattle.fail_interval.specs.declared.flow.OpenRun.{OpenRun}
 
--- the packets behind the first of these markers and before packet `to`
+-- the packets after the first of these markers and before packet `to`
 abbrev pub behind_first : List FlowPacket → (to : ℕ) → List ℕ → List FlowPacket
 behind_first packets to [] = []
 behind_first packets to (first ∷ rest) = slice_range packets (first + 1) to
 
--- the meter of the open run was told the packets behind its first marker and before packet n, where cuts stand at these
--- places; and the output tells of the runs that are over, and of the open one
+-- the meter of the open run was fed the packets after its first marker and before packet n, with gaps at these places;
+-- the output contains the results of the runs that have ended and of the open one
 pub record TellsBy {M Out Past : Type 0} (stands : Standing M) (tells : Telling Past Out) (past : Past) (m : Media)
     (tai : ℕ) (packets : List FlowPacket) (places : List ℕ) (n : ℕ) (open_run : OpenRun M) (out : Out) : Type 0 where
   pub told : IsTold stands m tai (length places + 1) (packet packets (last_place (0 ∷ places))) open_run.judge
@@ -28,33 +28,34 @@ pub record TellsBy {M Out Past : Type 0} (stands : Standing M) (tells : Telling 
       (judged_packets packets (last_place (0 ∷ places)) n)
   pub out_tells : tells past out m tai (parts_over m packets tai 1 0 places) (open_at packets tai places n)
 
--- before packet n of a flow; no run is open before the first packet
+-- before packet n of a flow, the open run's meter and the output satisfy `TellsBy`; before the first packet no run is
+-- open
 abbrev pub TellsAt : {M Out Past : Type 0} → Standing M → Telling Past Out → Past → Media → (tai : ℕ)
     → List FlowPacket → (n : ℕ) → Option (OpenRun M) → Out → Type 0
 TellsAt stands tells past m tai packets n None out = tells past out m tai [] None
 TellsAt stands tells past m tai packets n (Some open_run) out =
     TellsBy stands tells past m tai packets (cuts packets n) n open_run out
 
--- after these packets of a flow, whatever packets follow
+-- after these packets of a flow, the open run's meter and the output satisfy `TellsAt`, whatever packets follow
 abbrev pub Tells : {M Out Past : Type 0} → Standing M → Telling Past Out → Past → Media → (tai : ℕ)
     → List FlowPacket → Option (OpenRun M) → Out → Type 0
 Tells stands tells past m tai packets open_run out =
     (rest : List FlowPacket) → TellsAt stands tells past m tai (packets ++ rest) (length packets) open_run out
 
--- so of the packets that a flow was fed
+-- after the packets that the flow was fed, its open run's meter and the output satisfy `Tells`
 abbrev pub FlowTells : {M Out Past : Type 0} → Standing M → Telling Past Out → Past → Flow M → List FlowPacket → Out
     → Type 0
 FlowTells stands tells past flow packets out = Tells stands tells past flow.media flow.tai packets flow.open out
 
--- the flow took this packet: whatever packets the output told of, it now tells of those and this one
+-- the flow took this packet after those before, and the output contains its results too
 abbrev pub TellsTook : {M Out Past : Type 0} → Standing M → Telling Past Out → (old new : Flow M)
     → (before after : Out) → FlowPacket → Type 0
 TellsTook {Past = Past} stands tells old new before after next =
     (past : Past) (packets : List FlowPacket) → CanGoOn old packets next.at
     → FlowTells stands tells past old packets before → FlowTells stands tells past new (packets ++ next ∷ []) after
 
--- the flow took the packet that is expected next, with this record and at this instant: the output stays, and tells of
--- those packets and this one
+-- the flow took the expected packet, with this packet record and at this instant; the output is unchanged, and is right
+-- for this packet too
 abbrev pub TellsExpected : {M Out Past : Type 0} → Standing M → Telling Past Out → (old new : Flow M) → (rec at : ℕ)
     → Type 0
 TellsExpected {Out = Out} {Past = Past} stands tells old new rec at =
@@ -62,7 +63,7 @@ TellsExpected {Out = Out} {Past = Past} stands tells old new rec at =
     → FlowTells stands tells past old packets out
     → FlowTells stands tells past new (packets ++ next_packet packets old.media.pt rec at ∷ []) out
 
--- a run is over: the output tells of what is judged of it, too
+-- a run has ended: the output contains its result too
 abbrev pub TellsOver : {M Out Past : Type 0} → Standing M → Telling Past Out → OpenRun M → (before after : Out)
     → Type 0
 TellsOver {Past = Past} stands tells open_run before after =
@@ -71,7 +72,7 @@ TellsOver {Past = Past} stands tells open_run before after =
     → TellsOf stands tells past m tai number first over open_run.judge before fed committed
     → tells past after m tai (over ++ part_by m number first committed (outcome_of so_far)) None
 
--- so of the open run, where there is one
+-- the open run has ended, if there is one: the output contains its result too
 abbrev pub TellsClosed : {M Out Past : Type 0} → Standing M → Telling Past Out → Option (OpenRun M)
     → (before after : Out) → Type 0
 TellsClosed stands tells None before after = after ≡ before

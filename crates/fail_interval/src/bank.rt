@@ -13,7 +13,7 @@ use pcap_reader::Taker;
 use std::alloc::{AllocError as OutOfMemory, Global};
 use timing_base::{FlowKey, Media, Row};
 
-/// One judge for each media of a session, over the records of one file, or of files that are joined.
+/// One judge for each media of a session, over the packet records of one file or of joined files.
 #[derive(Drop)]
 pub struct Bank {
     demux: Demux<Metered<(), ()>>,
@@ -23,8 +23,8 @@ pub struct Bank {
 impl Bank {
     ghost use Rattle.fail_interval.specs.BankStands.{StandsFor, records};
 
-    /// The judges of these media over the records of a file, none of them taken yet. `tai` seconds
-    /// are added to the stamps. `Err` is want of memory.
+    /// Returns the judges of these media for a file, before its first packet record. `file` counts from 0, and `tai`
+    /// seconds are added to the capture timestamps. Returns `Err` if memory runs out.
     pub fn new(alloc: Global, media: &[Media], file: u32, tai: u64) -> Result<Bank, OutOfMemory>
         requires few { length media.now ≤ 64 }
         requires tai { tai ≤ 1000 }
@@ -44,7 +44,7 @@ impl Bank {
         })
     }
 
-    /// Puts the rows of the media, in order, at the end of a list. `Err` is want of memory.
+    /// Appends the results of the media to `rows`, in the order of the media. Returns `Err` if memory runs out.
     pub fn finish(self, rows: &mut Vec<Row>) -> Result<(), OutOfMemory>
         ensures rows { IfOk result (λ _. (media : List MediaValue) (file tai : ℕ) (items : List Record)
             → StandsFor media file tai self items
@@ -64,7 +64,7 @@ impl Taker for Bank {
     ghost use Rattle.fail_interval.specs.BankStands.{Feeds, HasRoom, feeds_more, feeds_none, room_less};
     ghost use Rattle.pcap_reader.specs.Taken.{StopsAnyhow};
 
-    /// Want of memory.
+    /// Memory ran out.
     type Stop = OutOfMemory;
 
     ghost takes = { Feeds };

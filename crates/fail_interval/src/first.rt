@@ -1,4 +1,4 @@
-//! The first group of a run, whose size isn't known before it is whole.
+//! The first frame or field of a run. Its number of packets isn't known before it is complete.
 
 ghost use Rattle.std.specs.Prelude.{◌≡◌, ◌≤◌, ◌++◌, ◌∷◌, [], ℕ, List, IfOk, length, true};
 ghost use Rattle.timing_base.specs.declared.packet.FlowPacket.{FlowPacket};
@@ -12,26 +12,26 @@ use run_meter::{RunMeter, RunPacket};
 use sender_params::Params;
 use std::alloc::{AllocError as OutOfMemory, Global};
 
-/// What is kept of a packet beside its stamp.
+/// Data kept of a packet beside its capture timestamp.
 #[derive(Clone, Copy)]
 pub struct Kept {
-    /// Its record.
+    /// Packet record, counted from 1.
     pub rec: u64,
-    /// Its RTP timestamp.
+    /// RTP timestamp, in ticks of 90 kHz.
     pub timestamp: u32,
 }
 
-/// The packets of the first group of a run, as far as they came.
+/// Packets so far of the first frame or field of a run.
 #[derive(Drop)]
 pub struct FirstGroup {
-    /// When they came, in nanoseconds of TAI.
+    /// Capture timestamps, in nanoseconds of TAI.
     pub stamps: Vec<u64>,
-    /// What else is kept of them; nothing where the run is judged and not measured.
+    /// Other data of the packets; empty if the run is judged but not measured.
     pub kept: Vec<Kept>,
 }
 
 impl FirstGroup {
-    /// Before the first packet.
+    /// Returns the frame or field before its first packet.
     pub fn new(alloc: Global) -> FirstGroup
         ensures stamps { result.stamps.items ≡ [] }
         ensures kept { result.kept.items ≡ [] }
@@ -42,7 +42,7 @@ impl FirstGroup {
         }
     }
 
-    /// Takes the next packet, and keeps of it what a meter wants. `Err` is want of memory.
+    /// Takes the next packet, and keeps the data for a meter if `measured` is set. Returns `Err` if memory runs out.
     pub fn push(&mut self, packet: RunPacket, measured: bool) -> Result<(), OutOfMemory>
         ensures stamps { IfOk result (λ _. self.new.stamps.items ≡ self.old.stamps.items ++ packet.at ∷ []) }
         ensures kept { measured ≡ true → IfOk result (λ _. self.new.kept.items ≡ self.old.kept.items ++ record {
@@ -61,7 +61,8 @@ impl FirstGroup {
     }
 }
 
-/// The meters after the first group of a run, of which each packet that was kept is told to the meter.
+/// Returns the meters after the first frame or field of a run, and feeds each kept packet to `meter`. Returns `Err` if
+/// memory runs out.
 pub fn meter_first<M: RunMeter>(
     params: &Params,
     first: &FirstGroup,

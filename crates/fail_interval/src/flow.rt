@@ -1,4 +1,4 @@
-//! A flow without a fault, as far as it has come.
+//! A flow so far, in which no packet has a fault.
 
 ghost use Rattle.std.specs.Prelude.{◌≡◌, ◌≤◌, ◌<◌, ◌+◌, ◌*◌, ◌^◌, ◌++◌, ◌∷◌, [], ℕ, List, length, Ok, None, Some, OnOk, IfOk, true, false};
 ghost use Rattle.timing_base.specs.Captures.{IsStamp};
@@ -22,15 +22,16 @@ use std::alloc::{AllocError as OutOfMemory, Global};
 use std::mem;
 use timing_base::{Items, Media, PacketFault, Rtp, Run, RunVerdict, Runs, Unjudged, Verdict};
 
-/// A run between gaps that isn't over.
+/// A run between gaps that hasn't ended.
 #[derive(Drop)]
 pub struct OpenRun<M: Drop> {
-    /// The record of its first packet.
+    /// Packet record of the first packet, counted from 1.
     pub rec: u64,
-    /// The number of its first packet.
+    /// Packet number of the first packet.
     pub number: u32,
-    /// The number that would have gone on from the run before; none for the first run.
+    /// Packet number that would have continued the run before; `None` for the first run.
     pub expected: Option<u32>,
+    /// Judge of the run.
     pub judge: RunJudge<M>,
 }
 
@@ -38,7 +39,8 @@ impl<M: RunMeter> OpenRun<M> {
     ghost use Rattle.fail_interval.specs.Runs.{StandsFor as RunStandsFor};
     ghost use Rattle.fail_interval.specs.Telling.{TellsOver};
 
-    /// A run of one packet, with this head.
+    /// Returns a run of one packet, with this head. `expected` is the packet number that would have continued the run
+    /// before. Returns `Err` if memory runs out.
     fn start(
         alloc: Global,
         media: &Media,
@@ -68,7 +70,7 @@ impl<M: RunMeter> OpenRun<M> {
         })
     }
 
-    /// The run is over: what is told of it.
+    /// Ends the run, and returns its result. Returns `Err` if memory runs out.
     fn close(self, out: &mut M::Out) -> Result<Run, OutOfMemory>
         ensures run { IfOk result (λ run. (m : MediaValue) (so_far : SoFar) → RunStandsFor m self.judge so_far
             → run ≡ record {
@@ -94,17 +96,17 @@ impl<M: RunMeter> OpenRun<M> {
     }
 }
 
-/// A flow without a fault, as far as it has come.
+/// State of a flow in which no packet so far has a fault.
 #[derive(Drop)]
 pub struct Flow<M: Drop> {
     alloc: Global,
     media: Media,
-    /// The seconds that are added to the stamps.
+    /// Seconds added to the capture timestamps.
     tai: u64,
     grouper: Grouper,
-    /// The runs before the open one. Where there are any, there is room for one more.
+    /// Runs before the open one. If there are any, there is room for one more.
     done: Vec<Run>,
-    /// The run that isn't over; none before the first packet.
+    /// Run that hasn't ended; `None` before the first packet.
     open: Option<OpenRun<M>>,
 }
 
@@ -113,7 +115,7 @@ impl<M: RunMeter> Flow<M> {
     ghost use Rattle.fail_interval.specs.Flowing.{IsClosed, OpensAt, StartsAt, flow_expects};
     ghost use Rattle.fail_interval.specs.Telling.{FlowTells, TellsAt, TellsClosed, TellsExpected, TellsTook};
 
-    /// Before the first packet.
+    /// Returns the flow before its first packet. `tai` is in seconds.
     pub fn new(alloc: Global, media: &Media, tai: u64) -> Flow<M>
         requires { tai ≤ 1000 }
         ensures media { result.media ≡ media.now }
@@ -132,7 +134,7 @@ impl<M: RunMeter> Flow<M> {
         }
     }
 
-    /// The open run is over, if there is one.
+    /// Ends the open run, if there is one. Returns `Err` if memory runs out.
     fn close(&mut self, out: &mut M::Out) -> Result<(), OutOfMemory>
         ensures media { self.new.media ≡ self.old.media }
         ensures tai { self.new.tai ≡ self.old.tai }
@@ -150,7 +152,7 @@ impl<M: RunMeter> Flow<M> {
         Ok(())
     }
 
-    /// Begins a run with the next packet, at a gap or at the start of the flow.
+    /// Begins a run with the next packet, at a gap or at the start of the flow. Returns `Err` if memory runs out.
     #[cold]
     #[inline(never)]
     fn begin(
@@ -194,7 +196,7 @@ impl<M: RunMeter> Flow<M> {
         Ok(())
     }
 
-    /// The next packet, if it goes on as most do.
+    /// Returns the next packet if it continues its frame or field without a marker, as most do.
     #[inline(always)]
     pub fn expected(&self) -> Option<Rtp>
         ensures follows { (packets : List FlowPacket) → StandsFor self.now packets
@@ -204,8 +206,8 @@ impl<M: RunMeter> Flow<M> {
         self.grouper.expected()
     }
 
-    /// Takes the packet that is expected, captured at `at`, where it goes on in a judged run and has no fault, and
-    /// answers whether it does. Else nothing changes.
+    /// Takes the expected packet, captured at `at` in nanoseconds, if it continues a judged run and has no fault.
+    /// Returns whether it was taken; if not, nothing changes. Returns `Err` if memory runs out.
     #[inline(always)]
     pub fn feed_judged(&mut self, rec: u64, at: u64) -> Result<bool, OutOfMemory>
         requires { ∥ ((packets : List FlowPacket) × CanGoOn self.old packets at) ∥₁ }
@@ -236,8 +238,8 @@ impl<M: RunMeter> Flow<M> {
         }
     }
 
-    /// Takes the next packet, which was read, where it goes on in a run with the timestamp of the packet before and no
-    /// marker, as most do, and answers whether it does. Else nothing changes. `Err` is want of memory.
+    /// Takes the next packet, which was parsed, if it continues a run with the RTP timestamp of the packet before and
+    /// no marker, as most do. Returns whether it was taken; if not, nothing changes. Returns `Err` if memory runs out.
     #[inline(always)]
     pub fn feed_on(
         &mut self,
@@ -279,7 +281,7 @@ impl<M: RunMeter> Flow<M> {
         }
     }
 
-    /// Takes the next packet, which was read, or answers its fault. `Err` is want of memory.
+    /// Takes the next packet, which was parsed, or returns its fault. Returns `Err` if memory runs out.
     pub fn feed(
         &mut self,
         rec: u64,
@@ -323,7 +325,7 @@ impl<M: RunMeter> Flow<M> {
         Ok(None)
     }
 
-    /// What comes of the flow, where it ends here.
+    /// Ends the flow, and returns the verdict on it. Returns `Err` if memory runs out.
     pub fn verdict(self, out: &mut M::Out) -> Result<Verdict, OutOfMemory>
         requires { ∥ ((packets : List FlowPacket) × StandsFor self packets) ∥₁ }
         ensures verdict { IfOk result (λ verdict. (packets : List FlowPacket) → StandsFor self packets
@@ -341,7 +343,7 @@ impl<M: RunMeter> Flow<M> {
         if done.is_empty() {
             return Ok(one_run(over.verdict));
         }
-        // Room for it was taken at the last gap.
+        // Its room was reserved at the last gap.
         let _ = done.push(over);
         Ok(Verdict::Runs(Runs {
             list: Items::from_vec(done),
@@ -352,7 +354,8 @@ impl<M: RunMeter> Flow<M> {
 ghost use Rattle.timing_base.specs.Judged.{RunOutcome};
 ghost use Rattle.fail_interval.specs.Row.{one_run_verdict, run_verdict_of};
 
-/// The RTP timestamp of the packet that is expected next, which is that of the one before; 0 where none is.
+/// Returns the RTP timestamp of the packet that is expected next, which is that of the packet before; 0 if none is
+/// expected.
 #[inline(always)]
 fn timestamp_of(expected: Option<Rtp>) -> u32
     ensures { (rtp : RtpValue) → expected ≡ Some rtp → result ≡ rtp.timestamp }
@@ -363,7 +366,7 @@ fn timestamp_of(expected: Option<Rtp>) -> u32
     }
 }
 
-/// What comes of a flow with no gap.
+/// Returns the verdict on a flow without a gap.
 fn one_run(verdict: RunVerdict) -> Verdict
     ensures { (m : MediaValue) (outcome : RunOutcome) → verdict ≡ run_verdict_of m outcome
         → result ≡ one_run_verdict m outcome }

@@ -14,13 +14,14 @@ use run_meter::RunMeter;
 use std::alloc::{AllocError as OutOfMemory, Global};
 use timing_base::{FlowKey, Media, PacketFault, Row, Rtp, Unjudged, Verdict};
 
-/// What has come of the packets so far.
+/// State after the packets so far.
 #[derive(Drop)]
 enum State<M: Drop> {
+    /// No packet has a fault.
     Going(Flow<M>),
-    /// The first fault, and its record.
+    /// A packet has a fault: the first fault, and its packet record, counted from 1.
     Refused { rec: u64, fault: PacketFault },
-    /// Memory was refused.
+    /// Memory ran out.
     Spent,
 }
 
@@ -31,8 +32,8 @@ impl<M: RunMeter> State<M> {
     ghost use Rattle.fail_interval.specs.declared.flow.Flow.{Flow as FlowValue};
     ghost use Rattle.fail_interval.specs.declared.judge.State.TheVariants.{Going, Spent};
 
-    /// Takes the packet that is expected, captured at `at`, where it goes on in a judged run and has no fault, and
-    /// answers whether it does. Else nothing changes.
+    /// Takes the expected packet, captured at `at` in nanoseconds, if it continues a judged run and has no fault.
+    /// Returns whether it was taken; if not, nothing changes. Returns `Err` if memory runs out.
     #[inline(always)]
     fn feed_judged(&mut self, rec: u64, at: u64) -> Result<bool, OutOfMemory>
         requires { (flow : FlowValue M) → self.old ≡ Going flow
@@ -49,8 +50,8 @@ impl<M: RunMeter> State<M> {
         }
     }
 
-    /// Takes the next packet, where it goes on in its flow as most do, and answers whether it does. Else nothing
-    /// changes. `Err` is want of memory.
+    /// Takes the next packet if it continues its frame or field without a marker, as most do. Returns whether it was
+    /// taken; if not, nothing changes. Returns `Err` if memory runs out.
     #[inline(always)]
     fn feed_on(
         &mut self,
@@ -78,7 +79,7 @@ impl<M: RunMeter> State<M> {
         }
     }
 
-    /// A packet has a fault: the flow's, where none before it has one. `Err` is want of memory, as before.
+    /// Notes the fault of a packet, unless an earlier one has a fault. Returns `Err` if memory ran out before.
     #[cold]
     #[inline(never)]
     fn refuse(&mut self, rec: u64, fault: PacketFault) -> Result<(), OutOfMemory>
@@ -94,7 +95,7 @@ impl<M: RunMeter> State<M> {
         }
     }
 
-    /// Memory was refused.
+    /// Notes that memory ran out.
     #[cold]
     #[inline(never)]
     fn spend(&mut self)
@@ -104,11 +105,11 @@ impl<M: RunMeter> State<M> {
     }
 }
 
-/// The judge of one flow: it is fed the flow's packets, one by one and in order.
+/// The judge of one flow. It gets the flow's packets one by one and in order.
 #[derive(Drop)]
 pub struct FlowJudge<M: Drop> {
     key: FlowKey,
-    /// The packets fed.
+    /// Number of packets fed.
     fed: u64,
     state: State<M>,
     ghost known: { ∥ IsKnown fed state ∥₁ },
@@ -118,8 +119,8 @@ impl<M: RunMeter> FlowJudge<M> {
     ghost use Rattle.fail_interval.specs.Stands.{IsSpent, StandsFor, Takes, TakesExpected, count_fed, expected_of};
     ghost use Rattle.fail_interval.specs.Measured.{JudgeTells, TellsGoingOn, TellsOfAll, TellsTaken};
 
-    /// The judge of the flow with this key, of packets of this media. `tai` seconds are added to the stamps of its
-    /// judged packets, but not to those that a fault tells.
+    /// Returns the judge of the flow with this key and this media, before the first packet. `tai` seconds are added to
+    /// the capture timestamps of judged packets, but not to those in a reported fault.
     pub fn new(alloc: Global, media: &Media, key: FlowKey, tai: u64) -> FlowJudge<M>
         requires { tai ≤ 1000 }
         ensures fed { count_fed result ≡ 0 }
@@ -134,7 +135,7 @@ impl<M: RunMeter> FlowJudge<M> {
         }
     }
 
-    /// The packets fed so far.
+    /// Returns the number of packets fed so far.
     #[inline(always)]
     pub fn fed(&self) -> u64
         ensures is { result ≡ count_fed self.now }
@@ -144,9 +145,9 @@ impl<M: RunMeter> FlowJudge<M> {
         self.fed
     }
 
-    /// The next packet of the flow, if it goes on in its frame or field as most do: with the number after the last
-    /// one's, its timestamp and no marker. `None` before the first packet, after one with the marker, and after a
-    /// fault.
+    /// Returns the next packet of the flow if it continues its frame or field, as most do: with the next packet number,
+    /// the same RTP timestamp and no marker. Returns `None` before the first packet, after one with the marker, and
+    /// after a fault.
     #[inline(always)]
     pub fn expected(&self) -> Option<Rtp>
         ensures follows { (media : MediaValue) (key : KeyValue) (tai : ℕ) (packets : List FlowPacket)
@@ -159,16 +160,19 @@ impl<M: RunMeter> FlowJudge<M> {
         }
     }
 
-    /// Takes the packet that [`FlowJudge::expected`] answers, captured at `at` in nanoseconds, as [`FlowJudge::feed`]
-    /// does, whatever its record, and answers that it did, if the first group of its run is whole and the packet has
-    /// no fault. Else nothing changes, and the packet is one for `feed`: where none is expected, and of a judge that
-    /// is spent, too.
+    /// Takes the packet that [`FlowJudge::expected`] returns, captured at `at` in nanoseconds, as [`FlowJudge::feed`]
+    /// does.
+    ///
+    /// The packet is taken, and the result is `true`, if the first frame or field of its run is complete and the packet
+    /// has no fault. Else the result is `false`, nothing changes, and the caller passes the packet to `feed`. The
+    /// result is also `false` if no packet is expected, or if memory ran out before. Returns `Err` if memory runs out;
+    /// the packet then counts as fed, and every later call of `feed` returns `Err` too.
     #[inline(always)]
     pub fn feed_judged(&mut self, rec: u64, at: u64) -> Result<bool, OutOfMemory>
         requires stamp { IsStamp at }
         requires few { count_fed self.old < 2 ^ 41 }
 
-        ensures fed { count_fed self.new ≤ count_fed self.old + 1 }
+        ensures fed { OnErr result (count_fed self.new ≡ count_fed self.old + 1) }
         ensures other { result ≡ Ok false → self.new ≡ self.old }
         ensures took { result ≡ Ok true → TakesExpected self.old self.new at }
         ensures tells { result ≡ Ok true → M.WANTS_LEVELS ≡ true
@@ -190,10 +194,11 @@ impl<M: RunMeter> FlowJudge<M> {
         }
     }
 
-    /// Takes the next packet of the flow: the number of its record, when it was captured in nanoseconds, and what was
-    /// read of it.
+    /// Takes the next packet of the flow: its packet record, counted from 1, its capture timestamp in nanoseconds, and
+    /// its RTP header or the reason why that couldn't be parsed.
     ///
-    /// `Err` is want of memory. The judge is then spent: it answers so from then on, and its row is not the flow's.
+    /// Returns `Err` if memory runs out. Every later call then returns `Err` too, and [`FlowJudge::finish`] doesn't
+    /// return the flow's result.
     #[inline(always)]
     pub fn feed(
         &mut self,
@@ -208,21 +213,21 @@ impl<M: RunMeter> FlowJudge<M> {
 
         ensures takes { Takes self.old self.new (record { rec = rec; at = at; rtp = rtp }) result }
 
-        // Of a meter that wants levels.
+        // Holds only for a meter that wants levels.
         ensures tells { M.WANTS_LEVELS ≡ true → TellsTaken M.stands M.tells self.old self.new out.old out.new (record {
           rec = rec;
           at = at;
           rtp = rtp;
         }) result }
     {
-        // Told apart here, so that the usual case goes on with the packet itself.
+        // The cases are split here, so that the usual one goes on with the packet itself.
         match rtp {
             Ok(read) => self.feed_read(rec, at, read, out),
             Err(fault) => self.feed_unread(rec, at, fault),
         }
     }
 
-    /// Takes the next packet, which was read.
+    /// Takes the next packet, which was parsed.
     #[inline(always)]
     fn feed_read(
         &mut self,
@@ -253,7 +258,7 @@ impl<M: RunMeter> FlowJudge<M> {
                 return Err(refused);
             }
         }
-        // A copy of its own, so that a usual packet is never laid out in memory.
+        // A copy of its own, so that a usual packet is never written to memory.
         let other = Rtp {
             number: rtp.number,
             timestamp: rtp.timestamp,
@@ -264,7 +269,7 @@ impl<M: RunMeter> FlowJudge<M> {
         self.feed_other(rec, at, other, out)
     }
 
-    /// Takes the next packet, which was read and may begin or end a group, or have a fault.
+    /// Takes the next packet, which was parsed. It may begin or end a frame or field, or have a fault.
     #[cold]
     #[inline(never)]
     fn feed_other(
@@ -302,7 +307,7 @@ impl<M: RunMeter> FlowJudge<M> {
         }
     }
 
-    /// Takes the next packet, which couldn't be read: that is its fault.
+    /// Takes the next packet, which couldn't be parsed: that is its fault.
     #[inline(always)]
     fn feed_unread(&mut self, rec: u64, at: u64, fault: PacketFault) -> Result<(), OutOfMemory>
         requires stamp { IsStamp at }
@@ -319,7 +324,7 @@ impl<M: RunMeter> FlowJudge<M> {
         self.state.refuse(rec, fault)
     }
 
-    /// The row of the flow, where it ends here. `Err` is want of memory.
+    /// Ends the flow, and returns its result. Returns `Err` if memory runs out.
     pub fn finish(self, out: &mut M::Out) -> Result<Row, OutOfMemory>
         ensures row { IfOk result (λ told. (media : MediaValue) (key : KeyValue) (tai : ℕ) (packets : List FlowPacket)
             → StandsFor media key tai self packets → told ≡ row packets key media tai) }
@@ -341,7 +346,7 @@ impl<M: RunMeter> FlowJudge<M> {
 ghost use Rattle.timing_base.specs.Judged.{refusal};
 ghost use Rattle.fail_interval.specs.Row.{verdict_of};
 
-/// One gap too many is told as a gap, each other fault as itself.
+/// Returns the verdict for a fault: one gap too many is reported as a gap, each other fault as itself.
 fn refusal(rec: u64, fault: PacketFault) -> Verdict
     ensures { (media : MediaValue) → result ≡ verdict_of media (refusal rec fault) }
 {

@@ -1,4 +1,4 @@
-//! The meter of one sender type.
+//! The state of the judgement of one sender type.
 
 ghost use Rattle.std.specs.Prelude.{◌≡◌, ◌≤◌, ◌<◌, ◌+◌, ◌^◌, ◌++◌, ◌∷◌, [], ℕ, List, None};
 
@@ -8,19 +8,21 @@ use sender_params::Params;
 use timing_base::{Broken, FailProof, Kind, KindVerdict};
 use vrx_buffer::{Vrx, VrxFault};
 
-/// Whether the judged packets of one run keep the limits of one sender type.
+/// The verdict so far on one sender type for the judged packets of one run.
 #[derive(Clone, Copy)]
 pub struct KindMeter {
+    /// Virtual receiver buffer with the reads and the limit of the type.
     pub vrx: Vrx,
+    /// Verdict on the packets so far.
     pub verdict: KindVerdict,
-    /// C_MAX of the type.
+    /// C_MAX of the type, in packets.
     pub c_max: u64,
 }
 
 impl KindMeter {
     ghost use Rattle.fail_interval.specs.Kinds.{ComesNext, StandsFor};
 
-    /// The meter of this sender type before the first packet.
+    /// Returns the meter of this sender type before the first packet.
     pub fn new(params: &Params, kind: Kind) -> KindMeter
         ensures kind { result.vrx.kind ≡ kind }
         ensures stands { StandsFor params.now result [] }
@@ -32,8 +34,8 @@ impl KindMeter {
         }
     }
 
-    /// Takes the next packet, with the bucket just after it and what is due at its instant, of the
-    /// schedule of this sender type.
+    /// Takes the next judged packet. `bucket` is the bucket just after it, and `due` the number of reads due at its
+    /// instant in the schedule of this sender type.
     #[inline(always)]
     pub fn feed(&mut self, params: &Params, bucket: &Bucket, due: Due)
         requires some { 1 ≤ bucket.now.seen }
@@ -56,7 +58,7 @@ impl KindMeter {
         self.vrx.pass_due(params, packet, due);
     }
 
-    /// The most packets in the bucket that leave the verdict.
+    /// Returns the largest count of the bucket, in packets, that leaves the verdict unchanged.
     pub fn brim(&self) -> u64
         ensures { self.now.verdict ≡ Pass → result ≤ self.now.c_max }
     {
@@ -66,7 +68,8 @@ impl KindMeter {
         }
     }
 
-    /// The bucket may hold too much at this packet, which the buffer took.
+    /// Updates the verdict if the bucket holds more than C_MAX after this packet. The buffer has already taken the
+    /// packet.
     #[inline(always)]
     fn overfill(&mut self, params: &Params, bucket: &Bucket, packet: u64)
         requires { packet < 2 ^ 41 }
@@ -83,7 +86,7 @@ impl KindMeter {
         }
     }
 
-    /// Takes the next judged packet as long as the verdict is Pass.
+    /// Takes the next judged packet while the verdict is a pass.
     #[inline(never)]
     fn feed_passing(&mut self, params: &Params, bucket: &Bucket, due: Due)
         requires some { 1 ≤ bucket.now.seen }
@@ -109,8 +112,8 @@ ghost use Rattle.fail_interval.specs.Early.{early_at};
 ghost use Rattle.fail_interval.specs.Fails.{verdict_next};
 ghost use Rattle.timing_base.specs.declared.row.KindVerdict.TheVariants.{Pass};
 
-/// The verdict where the last packet is the first that breaks a model, the bucket's before the
-/// buffer's; Pass where it breaks none.
+/// Returns the verdict if no packet before the last one violates a model. If the last packet violates both models, the
+/// violation is the bucket's; if it violates none, the verdict is a pass.
 #[cold]
 #[inline(never)]
 fn verdict_at(
@@ -131,7 +134,7 @@ fn verdict_at(
     }
 }
 
-/// The interval that shows how the last packet breaks a model, the bucket's before the buffer's.
+/// Returns the interval that shows how the last packet violates a model: the bucket if it violates both.
 fn fail_at(
     params: &Params,
     kind: Kind,
@@ -162,7 +165,8 @@ fn fail_at(
             count: held,
             limit: params.vrx_full(kind),
         }),
-        // All packets before it came by their own reads, so by this one, and it is the first that didn't.
+        // All packets before this one came by their own reads, and so by this one's read. This packet is the first that
+        // didn't.
         VrxFault::Empty { .. } => Some(FailProof {
             model: Broken::Empty,
             from: packet,

@@ -1,5 +1,5 @@
-//! What holds of the definitions themselves, and the rows of flows and captures worked by hand. Each function is a
-//! theorem: it does nothing, and its clauses are proved.
+//! Theorems about the definitions, and the results of flows and captures worked by hand. Each function does nothing;
+//! its clauses are the theorem.
 
 ghost use Rattle.std.specs.Prelude.{◌≡◌, ◌≤◌, ◌∷◌, [], ℕ, List, Option, Some, None, true, false, length, map};
 ghost use Rattle.timing_base.specs.Captures.{Record};
@@ -35,9 +35,9 @@ ghost use Rattle.fail_interval.specs.Worked.{headed_run, judged_row, judged_run,
 
 use run_meter::RunMeter;
 
-/// A sender type passes exactly where the judged packets keep its limits: no interval of packets has more
-/// than C_MAX, and at every instant the buffer holds between nothing and VRX_FULL. Where it fails, the
-/// interval that is named is confirmed; and whatever is confirmed of a list, its limits aren't kept.
+/// A sender type passes exactly if the judged packets keep its limits: no interval of packets has more than C_MAX plus
+/// the drain ticks in it, and at every instant the buffer holds between nothing and VRX_FULL. If a type fails, the
+/// named interval is confirmed. If an interval is confirmed for a list of packets, the list doesn't keep the limits.
 pub fn fail_is_confirmed()
     ensures pass { (m : Media) (n : ℕ) (stamps : List ℕ) (kind : Kind) → IsMedia m → 1 ≤ n
         → NeverFall stamps → kind_verdict m n stamps kind ≡ Pass → Keeps m n stamps kind }
@@ -50,14 +50,14 @@ pub fn fail_is_confirmed()
         → 1 ≤ n → NeverFall stamps → Confirms m n stamps kind f → Keeps m n stamps kind → ⊥ }
 {}
 
-/// A verdict names the first packet that breaks a model of its type; where none does, it is a pass.
+/// A verdict names the first packet that violates a model of its type; if none does, it is a pass.
 pub fn verdict_names_first()
     ensures { (m : Media) (n : ℕ) (stamps : List ℕ) (kind : Kind)
         → NamesFirst (is_broken m n stamps kind) (length stamps) (kind_verdict m n stamps kind) }
 {}
 
-/// Each packet comes 444 4/9 ns before its gapped read. The tail comes at once, and isn't judged. A second that is
-/// added is fifty groups.
+/// Each packet comes shortly before its gapped read: 444 4/9 ns in the frames, 222 2/9 ns in the fields. The tail comes
+/// at once, and isn't judged. One second that is added is the time of fifty frames.
 pub fn passes_by_hand()
     ensures plain { row (four 764000 10364000 20764000 30364000) a_key hd_50 0
         ≡ judged_row (twos 2 4 0 1 1 1 Pass Pass Pass) }
@@ -69,8 +69,8 @@ pub fn passes_by_hand()
         ≡ judged_row (twos 2 4 0 1 1 1 Pass Pass Pass) }
 {}
 
-/// With CMAX=1 two packets at once are too many for the declared type alone. The interval starts at the latest packet
-/// from which on the count is reached.
+/// With CMAX=1 two packets at once are too many, for the declared type only. The named interval starts at the latest
+/// packet from which on the packets, less the drain ticks, are the count of the bucket.
 pub fn bucket_by_hand()
     ensures first { row (four 764000 764000 20764000 30364000) a_key (with_cmax 1) 0
         ≡ judged_row (twos 2 4 0 2 2 2 (Fail (fail Bucket 0 1 2 1)) Pass Pass) }
@@ -80,8 +80,8 @@ pub fn bucket_by_hand()
         ≡ judged_row (twos 2 4 0 2 2 2 (Fail (fail Bucket 0 1 2 1)) Pass Pass) }
 {}
 
-/// Ten packets at once: the bucket of types N and NL takes four, that of W sixteen, and the buffer of N and NL eight.
-/// Where both are broken at one packet the bucket is named.
+/// Ten packets at once: the bucket may hold four for N and NL and sixteen for W, and the buffer of N and NL eight. If
+/// one packet breaks both limits, the bucket is named.
 pub fn over_by_hand()
     ensures bucket { row ten_at_once a_key hd_50 0
         ≡ judged_row (twos 5 10 0 10 10 10 (Fail (fail Bucket 0 4 5 4)) (Fail (fail Bucket 0 4 5 4)) Pass) }
@@ -91,8 +91,8 @@ pub fn over_by_hand()
         ≡ judged_row (twos 5 10 0 10 10 10 (Fail (fail Bucket 0 8 9 8)) (Fail (fail Bucket 0 4 5 4)) Pass) }
 {}
 
-/// A packet a nanosecond after gapped read 1, which is at 10,364,444 4/9 ns; linear read 1 is 400,000 ns later. A flow
-/// that comes late altogether is late at its first packet.
+/// A packet less than a nanosecond after gapped read 1, which is at 10,364,444 4/9 ns; linear read 1 is 400,000 ns
+/// later. A flow that comes late as a whole is late at its first packet.
 pub fn empty_by_hand()
     ensures late { row (four 764000 10364445 20764000 30364000) a_key hd_50 0
         ≡ judged_row (twos 2 4 0 1 1 1 (Fail (fail Empty 1 1 1 2)) Pass Pass) }
@@ -103,7 +103,7 @@ pub fn empty_by_hand()
         ≡ judged_row (twos 2 4 0 1 1 1 (Fail (fail Empty 1 1 1 2)) Pass Pass) }
 {}
 
-/// Rows that say why a flow is not judged.
+/// Results of flows that aren't judged, with the reason.
 pub fn unjudged_by_hand()
     ensures absent { row [] a_key hd_50 0 ≡ unjudged_row Absent }
     ensures no_marker { row (sent 11 0 6 0 false ∷ sent 12 5 7 0 false ∷ []) a_key hd_50 0
@@ -114,7 +114,7 @@ pub fn unjudged_by_hand()
         ≡ unjudged_row (Refused 12 (StampBack 9 8)) }
 {}
 
-/// Runs between gaps: each has its own head, anchor, bucket and tail. The second group of the first run isn't whole.
+/// Runs between gaps: each has its own head, anchor, bucket and tail. The second frame of the first run isn't complete.
 pub fn runs_by_hand()
     ensures two { row gap_between a_key hd_50 0
         ≡ runs_row (judged_run 11 6 None (twos 1 2 1 1 1 1 Pass Pass Pass))
@@ -123,8 +123,8 @@ pub fn runs_by_hand()
         ≡ runs_row (headed_run 11 6 None 1) (headed_run 12 8 (Some 7) 2) }
 {}
 
-/// What the output of meters tells of a flow's runs while the flow goes on: of a run with a gap behind it, in which the
-/// second group isn't whole, and of the next one.
+/// Contents of the meters' output while the flow goes on: a run that ends at a gap, with an incomplete second frame,
+/// and the next run.
 pub fn open_runs_by_hand()
     ensures in_first { open_before gap_between 0 2 ≡ None }
     ensures first { open_before gap_between 0 3 ≡ Some (record {
@@ -142,8 +142,7 @@ pub fn open_runs_by_hand()
     }) }
 {}
 
-/// What the output of a judge's meters tells of the packets that the judge was fed: of the runs of those before the
-/// first fault.
+/// The output of a judge's meters contains the runs of the packets fed, up to the first fault.
 pub fn output_tells_so_far<M: RunMeter>()
     ensures { (past : M.Past) (m : Media) (key : FlowKey) (tai : ℕ) (judge : JudgeValue M) (packets : List FlowPacket)
         (out : M.Out) → StandsFor m key tai judge packets
@@ -151,7 +150,7 @@ pub fn output_tells_so_far<M: RunMeter>()
         → TellsSoFar M.tells past m tai packets (length packets) out }
 {}
 
-/// Whoever has the output may take out of it what was put there, where with what it held before it tells of the same.
+/// The owner of the output may take results out of it, if the meter's `Past` accounts for what was taken.
 pub fn output_may_be_taken_out<M: RunMeter>()
     ensures { (past later : M.Past) (m : Media) (tai : ℕ) (judge : JudgeValue M) (packets : List FlowPacket)
         (out left : M.Out) → ((over : List JudgedPart) (part : Option OpenPart) → M.tells past out m tai over part
@@ -160,8 +159,8 @@ pub fn output_may_be_taken_out<M: RunMeter>()
         → JudgeTells M.stands M.tells later m tai packets judge left }
 {}
 
-/// Media and files are numbered from 0: the rows of two media over two files, and of one media
-/// over the fourth file alone.
+/// Media and files are numbered from 0: the results of two media over two files, and of one media over the fourth file
+/// alone.
 pub fn rows_are_numbered()
     ensures files { (tai : ℕ) (a b : Media) (x y : List Record)
         → rows_of_files tai 0 (a ∷ b ∷ []) (x ∷ y ∷ [])
@@ -172,8 +171,8 @@ pub fn rows_are_numbered()
     ensures none { (tai : ℕ) (x : List Record) → rows_of tai 0 [] x ≡ [] }
 {}
 
-/// The flows of two captures worked by hand: of the second the first media has no packet. Joined,
-/// the record of the second is the sixth.
+/// The flows of two captures worked by hand. In the second the first media has no packet. If they are joined, the
+/// packet record of the second capture is the sixth.
 pub fn flows_by_hand()
     ensures first { (m : Media) → target_of m ≡ group
         → flow first_capture m ≡ packet_at 4 130 ∷ packet_at 5 140 ∷ [] }
@@ -188,7 +187,7 @@ pub fn flows_by_hand()
         → flow joined_captures m ≡ packet_at 1 100 ∷ packet_at 6 200 ∷ [] }
 {}
 
-/// The rows of the two captures: each file for itself, and joined.
+/// The results of the two captures: each file by itself, and both joined.
 pub fn rows_by_hand()
     ensures files { (tai : ℕ) (a b : Media) → target_of a ≡ group → target_of b ≡ next_port
         → rows_of_files tai 0 (a ∷ b ∷ []) (first_capture ∷ second_capture ∷ [])

@@ -1,20 +1,21 @@
-//! A lull: the packets that change no peak and no verdict.
+//! A quiet period: packets that change no peak and no verdict.
 
 ghost use Rattle.std.specs.Prelude.{◌≡◌, ◌≤◌, ◌↔◌, IsTrue};
 
 use read_schedule::Between;
 
-/// As long as it lasts, packets at its instants raise no peak and change no verdict, where the bucket
-/// holds no more than its brim. Then their reads needn't be counted.
+/// A quiet period of a run. As long as it lasts, a packet raises no peak and changes no verdict if its instant is
+/// within `gapped` and `linear` and the bucket holds at most `brim` packets after it. The reads due at such a packet
+/// needn't be counted.
 #[derive(Clone, Copy)]
 pub struct Lull {
-    /// The packets of the run up to which it lasts; 0 where it is over.
+    /// Last judged packet of the run for which it holds, counted from 1; 0 if it is over.
     pub until: u64,
-    /// The most packets that the bucket may hold.
+    /// Threshold of the bucket: the most packets that it may hold.
     pub brim: u64,
-    /// The instants at which it holds, by the gapped reads.
+    /// Instants at which it holds with the gapped reads.
     pub gapped: Between,
-    /// The instants at which it holds, by the linear reads.
+    /// Instants at which it holds with the linear reads.
     pub linear: Between,
     ghost some: { 1 ≤ until → 1 ≤ brim },
 }
@@ -22,7 +23,7 @@ pub struct Lull {
 impl Lull {
     ghost use Rattle.fail_interval.specs.Lulls.{Holds};
 
-    /// A lull that is over.
+    /// Returns a quiet period that is over.
     pub fn over() -> Lull
         ensures until { result.until ≡ 0 }
         ensures brim { result.brim ≡ 0 }
@@ -35,14 +36,14 @@ impl Lull {
         }
     }
 
-    /// Whether it holds for packet `number` of the run, counted from 1, at this instant, after which the bucket holds
-    /// so many.
+    /// Returns whether the quiet period holds for judged packet `number`, counted from 1. `at` is the packet's instant
+    /// in nanoseconds of TAI, and `count` the number of packets in the bucket after it.
     #[inline(always)]
     pub fn holds(&self, number: u64, count: u64, at: u64) -> bool
         requires { 1 ≤ number }
         ensures { IsTrue result ↔ Holds self.now number count at }
     {
-        // One packet is always within the brim.
+        // A count of one packet is always within the threshold.
         number <= self.until
             && (count == 1 || count <= self.brim)
             && self.gapped.holds(at)

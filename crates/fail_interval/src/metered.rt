@@ -1,4 +1,4 @@
-//! The judge of a flow, and what the meters of the flow's runs put out.
+//! The judge of a flow, together with the output of the meters of its runs.
 
 ghost use Rattle.std.specs.Prelude.{◌≡◌, ◌≤◌, [], ℕ, List, IfOk, None, true};
 ghost use Rattle.timing_base.specs.Media.{Media as MediaValue};
@@ -12,10 +12,12 @@ use run_meter::RunMeter;
 use std::alloc::{AllocError as OutOfMemory, Global};
 use timing_base::{FlowKey, FlowPacket, Media, Row, Rtp};
 
-/// The judge of a flow, and the output of the meters of its runs.
+/// The judge of a flow, and the output of the meters of the flow's runs.
 #[derive(Drop)]
 pub struct Metered<M: Drop, O: Drop> {
+    /// Judge of the flow.
     pub judge: FlowJudge<M>,
+    /// Output of the meters.
     pub out: O,
 }
 
@@ -24,8 +26,9 @@ impl<M: RunMeter<Out = O>, O: Drop> Metered<M, O> {
     ghost use Rattle.fail_interval.specs.Meterings.{IsFed};
     ghost use Rattle.fail_interval.specs.Stands.{StandsFor, count_fed};
 
-    /// The judge of the flow with this key, of packets of this media, and an output that tells of none yet. `tai`
-    /// seconds are added to the stamps of the judged packets, but not to those that a fault tells.
+    /// Returns the judge of the flow with this key and this media, before the first packet. `out` must not contain any
+    /// result yet. `tai` seconds are added to the capture timestamps of judged packets, but not to those in a reported
+    /// fault.
     pub fn new(alloc: Global, media: &Media, key: FlowKey, tai: u64, out: O) -> Metered<M, O>
         requires { tai ≤ 1000 }
         ensures fed { (past : M.Past) → M.tells past out media.now tai [] None
@@ -40,7 +43,7 @@ impl<M: RunMeter<Out = O>, O: Drop> Metered<M, O> {
         }
     }
 
-    /// The row of the flow, where it ends here, and the output of its meters. `Err` is want of memory.
+    /// Ends the flow, and returns its result and the output of its meters. Returns `Err` if memory runs out.
     pub fn finish(self) -> Result<(Row, O), OutOfMemory>
         ensures row { IfOk result (λ told. (media : MediaValue) (key : KeyValue) (tai : ℕ) (packets : List PacketValue)
             → StandsFor media key tai self.judge packets → told.0 ≡ row packets key media tai) }

@@ -1,4 +1,4 @@
-//! The meters of one run: what the two models say of its judged packets.
+//! The meters of one run: the state of both models of SMPTE ST 2110-21 for its judged packets.
 
 ghost use Rattle.std.specs.Prelude.{◌≡◌, ◌≤◌, ◌<◌, ◌^◌, ◌++◌, ◌∷◌, [], ℕ, List, length};
 ghost use Rattle.fail_interval.specs.SoFar.{AreStamps};
@@ -14,7 +14,7 @@ use sender_params::Params;
 use timing_base::{Judged, Kind};
 use vrx_buffer::{Held, VrxFault};
 
-/// What the two models say of the judged packets of one run.
+/// Peaks and verdicts of both models for the judged packets of one run.
 #[derive(Clone, Copy)]
 pub struct RunMeters {
     gapped: Schedule,
@@ -31,7 +31,7 @@ impl RunMeters {
     ghost use Rattle.fail_interval.specs.Meters.{AreFed, CanFollow, IsWithin, StandsFor, TakesNext};
     ghost use Rattle.sender_params.specs.declared.params.Params.{Params as ParamsValue};
 
-    /// The meters before the first packet, which comes at `origin` in nanoseconds of TAI.
+    /// Returns the meters before the first packet, which comes at `origin`, in nanoseconds of TAI.
     pub fn new(params: &Params, origin: u64) -> RunMeters
         requires { origin < 2 ^ 62 }
         ensures origin { result.bucket.origin ≡ origin }
@@ -49,7 +49,7 @@ impl RunMeters {
         }
     }
 
-    /// Takes the next judged packet.
+    /// Takes the next judged packet, which comes at `at`, in nanoseconds of TAI.
     #[inline(always)]
     pub fn feed(&mut self, params: &Params, at: u64)
         requires { ∥ ((stamps : List ℕ) × CanFollow params.now self.old stamps at) ∥₁ }
@@ -65,7 +65,7 @@ impl RunMeters {
         }
     }
 
-    /// Takes the next judged packet as [`RunMeters::feed`] does, and answers what the models hold just after it.
+    /// Takes the next judged packet as [`RunMeters::feed`] does, and returns the state of the models just after it.
     #[inline(always)]
     pub fn feed_level(&mut self, params: &Params, at: u64) -> Level
         requires { ∥ ((stamps : List ℕ) × CanFollow params.now self.old stamps at) ∥₁ }
@@ -86,7 +86,7 @@ impl RunMeters {
         }
     }
 
-    /// Takes the next judged packet, which went into the bucket, in a lull. No other meter changes.
+    /// Takes the next judged packet in a quiet period. The bucket has already taken it. No other meter changes.
     #[inline(always)]
     fn pass(&mut self, at: u64)
         requires lull { Holds self.old.lull self.old.bucket.seen self.old.bucket.count at }
@@ -98,7 +98,7 @@ impl RunMeters {
         self.lull.linear.go_on(at);
     }
 
-    /// Takes the next judged packet, which went into the bucket, in no lull.
+    /// Takes the next judged packet outside a quiet period. The bucket has already taken it.
     #[cold]
     #[inline(never)]
     fn tell(&mut self, params: &Params, at: u64)
@@ -114,7 +114,7 @@ impl RunMeters {
         self.lull = self.next_lull(at);
     }
 
-    /// The lull from the next packet on, after one that came at `last`.
+    /// Returns the quiet period from the next packet on, after one that came at `last`.
     fn next_lull(&self, last: u64) -> Lull
         ensures { (params : ParamsValue) (stamps : List ℕ) → AreFed params self.now stamps
             → IsLull params self.now.bucket.origin (length stamps) self.now.narrow self.now.narrow_linear
@@ -149,7 +149,7 @@ impl RunMeters {
         }
     }
 
-    /// The packets that were taken.
+    /// Returns the number of packets taken.
     pub fn seen(&self) -> u64
         ensures { (params : ParamsValue) (stamps : List ℕ) → StandsFor params self.now stamps
             → result ≡ length stamps }
@@ -157,7 +157,7 @@ impl RunMeters {
         self.bucket.seen
     }
 
-    /// The verdict on a run of so many whole groups with this head and no tail.
+    /// Returns the verdict on a run of `frames` complete frames or fields, with a head of `head` packets and no tail.
     pub fn judged(&self, params: &Params, frames: u64, head: u64) -> Judged
         ensures { (stamps : List ℕ) → StandsFor params.now self.now stamps
             → result ≡ judged_values params.now.media (record {
@@ -191,7 +191,7 @@ ghost use Rattle.timing_base.specs.Media.{Media as MediaValue};
 ghost use Rattle.read_schedule.specs.Between.{IsFrom, IsUpTo};
 ghost use Rattle.read_schedule.specs.Stands.{StandsBy};
 
-/// Whether two buffers have a fault.
+/// Returns whether both buffers have a fault.
 fn both_break(first: Option<VrxFault>, second: Option<VrxFault>) -> bool
     ensures first { first ≡ None → result ≡ false }
     ensures second { second ≡ None → result ≡ false }
@@ -199,8 +199,8 @@ fn both_break(first: Option<VrxFault>, second: Option<VrxFault>) -> bool
     first.is_some() && second.is_some()
 }
 
-/// The instants from one read on, after a packet that came at `last`; up to the other read, too, where
-/// nothing breaks yet.
+/// Returns the instants from read `early` on, after a packet that came at `last`. If `breaks` is `false`, they end with
+/// read `late`.
 fn calm(schedule: &Schedule, early: u64, late: u64, last: u64, breaks: bool) -> Between
     ensures due { (m : MediaValue) (n : ℕ) (anchor : ℤ) (gapped : Bool) (at left : ℕ)
         → StandsBy m n anchor gapped schedule.now at → left ≤ result.lasts

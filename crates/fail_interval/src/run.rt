@@ -1,4 +1,4 @@
-//! One run between gaps, as far as it has come.
+//! The state of one run between gaps.
 
 ghost use Rattle.std.specs.Prelude.{◌≡◌, ◌≤◌, ◌<◌, ◌+◌, ◌^◌, ◌++◌, ◌∷◌, [], ◌-◌, if◌then◌else◌, ℕ, List, None, Some, IfOk, length, true, false};
 ghost use Rattle.timing_base.specs.Media.{Media as MediaValue};
@@ -18,19 +18,19 @@ use sender_params::Params;
 use std::alloc::{AllocError as OutOfMemory, Global};
 use timing_base::{Judged, Media, RunVerdict};
 
-/// A run with a whole group.
+/// State of a run with at least one complete frame or field.
 #[derive(Drop)]
 pub struct WholeGroups<M: Drop> {
     params: Params,
-    /// The packets up to and including the first marker.
+    /// Packets up to and including the first marker.
     head: u64,
-    /// The whole groups.
+    /// Complete frames or fields.
     groups: u64,
-    /// The meters of all packets after the first marker.
+    /// Meters of all packets after the first marker.
     meters: RunMeters,
-    /// The verdict on the whole groups, with no tail.
+    /// Verdict on the complete frames or fields, without a tail.
     judged: Judged,
-    /// What measures the run beside the verdict.
+    /// Meter that measures the run besides the verdict.
     meter: M,
 }
 
@@ -38,7 +38,8 @@ impl<M: RunMeter> WholeGroups<M> {
     ghost use Rattle.fail_interval.specs.Groups.{CanGoOn, IsWhole};
     ghost use Rattle.fail_interval.specs.Meters.{CanFollow, StandsFor as MetersStandFor};
 
-    /// After the last packet of the first group. `Err` is want of memory, as in all calls here.
+    /// Returns the state after the last packet of the first frame or field. Returns `Err` if memory runs out, as all
+    /// calls here do.
     fn first(
         alloc: Global,
         media: &Media,
@@ -74,7 +75,7 @@ impl<M: RunMeter> WholeGroups<M> {
         })
     }
 
-    /// Puts the next packet into the meters.
+    /// Feeds the next packet to the meters.
     #[inline(always)]
     fn put(&mut self, packet: RunPacket) -> Result<(), OutOfMemory>
         requires { ∥ ((stamps : List ℕ) × CanFollow self.old.params self.old.meters stamps packet.at) ∥₁ }
@@ -100,7 +101,7 @@ impl<M: RunMeter> WholeGroups<M> {
         }
     }
 
-    /// Takes the next packet, which doesn't end its group.
+    /// Takes the next packet, which doesn't end its frame or field.
     #[inline(always)]
     fn feed_within(&mut self, packet: RunPacket) -> Result<(), OutOfMemory>
         requires { ∥ ((m : MediaValue) × (so_far : Groups) × CanGoOn m self.old so_far packet.at false) ∥₁ }
@@ -116,7 +117,7 @@ impl<M: RunMeter> WholeGroups<M> {
         self.put(packet)
     }
 
-    /// Takes the next packet.
+    /// Takes the next packet, with the marker if it ends its frame or field.
     #[inline(always)]
     fn feed(&mut self, packet: RunPacket, marker: bool, out: &mut M::Out) -> Result<(), OutOfMemory>
         requires { ∥ ((m : MediaValue) × (so_far : Groups) × CanGoOn m self.old so_far packet.at marker) ∥₁ }
@@ -147,7 +148,7 @@ impl<M: RunMeter> WholeGroups<M> {
         Ok(())
     }
 
-    /// A group is whole: the verdict is on all packets so far.
+    /// Ends a frame or field: the verdict is then on all packets so far.
     #[cold]
     #[inline(never)]
     fn end_group(&mut self, out: &mut M::Out) -> Result<(), OutOfMemory>
@@ -179,7 +180,7 @@ impl<M: RunMeter> WholeGroups<M> {
         self.meter.commit(&self.params, out)
     }
 
-    /// The packets after the last marker.
+    /// Returns the number of packets after the last marker.
     fn tail(&self) -> u64
         ensures { (m : MediaValue) (so_far : Groups) → IsWhole m self.now so_far
             → result ≡ length so_far.stamps - length so_far.whole }
@@ -187,7 +188,7 @@ impl<M: RunMeter> WholeGroups<M> {
         self.meters.seen().saturating_sub(self.judged.packets)
     }
 
-    /// The verdict on the run, where it ends here.
+    /// Returns the verdict on the run if it ends here.
     fn judged(&self) -> Judged
         ensures { (m : MediaValue) (so_far : Groups) → IsWhole m self.now so_far
             → result ≡ judged_values m (record {
@@ -203,7 +204,7 @@ impl<M: RunMeter> WholeGroups<M> {
         judged
     }
 
-    /// The run is over: the verdict on it.
+    /// Ends the run, and returns the verdict on it.
     fn close(self, out: &mut M::Out) -> Result<Judged, OutOfMemory>
         ensures judged { IfOk result (λ judged. (m : MediaValue) (so_far : Groups) → IsWhole m self so_far
             → judged ≡ judged_values m (record {
@@ -231,14 +232,14 @@ impl<M: RunMeter> WholeGroups<M> {
     }
 }
 
-/// One run between gaps, as far as it has come.
+/// State of one run between gaps.
 #[derive(Drop)]
 pub enum RunJudge<M: Drop> {
-    /// No packet has the marker yet.
+    /// No packet has the marker yet; `packets` have come.
     Head { packets: u64 },
-    /// The first group goes on. Its size isn't known yet, so its packets are kept.
+    /// The first frame or field isn't complete. Its number of packets isn't known yet, so its packets are kept.
     First { head: u64, group: FirstGroup },
-    /// The first group is whole.
+    /// The first frame or field is complete.
     Groups(WholeGroups<M>),
 }
 
@@ -248,7 +249,7 @@ impl<M: RunMeter> RunJudge<M> {
     ghost use Rattle.fail_interval.specs.declared.run.RunJudge.TheVariants.{First, Groups as GroupsValue, Head};
     ghost use Rattle.fail_interval.specs.declared.run.WholeGroups.{WholeGroups as WholeGroupsValue};
 
-    /// Before the first packet.
+    /// Returns the run before its first packet.
     pub fn new() -> RunJudge<M>
         ensures stands { (m : MediaValue) → StandsFor m result (in_head 0) }
         ensures is { result ≡ Head 0 }
@@ -256,7 +257,7 @@ impl<M: RunMeter> RunJudge<M> {
         RunJudge::Head { packets: 0 }
     }
 
-    /// Whether the first group is whole.
+    /// Returns whether the first frame or field is complete.
     #[inline(always)]
     pub fn has_groups(&self) -> bool
         ensures { result ≡ has_groups self.now }
@@ -267,7 +268,8 @@ impl<M: RunMeter> RunJudge<M> {
         }
     }
 
-    /// Takes the next packet, which has no marker, where the first group is whole.
+    /// Takes the next packet, which has no marker, after the first frame or field is complete. Returns `Err` if memory
+    /// runs out.
     #[inline(always)]
     pub fn feed_whole(&mut self, packet: RunPacket) -> Result<(), OutOfMemory>
         requires whole { has_groups self.old ≡ true }
@@ -284,7 +286,7 @@ impl<M: RunMeter> RunJudge<M> {
         Ok(())
     }
 
-    /// Takes the next packet of this run. `Err` is want of memory.
+    /// Takes the next packet of this run. Returns `Err` if memory runs out.
     #[inline(always)]
     pub fn feed(
         &mut self,
@@ -306,7 +308,7 @@ impl<M: RunMeter> RunJudge<M> {
         self.feed_early(alloc, media, run, packet, marker, out)
     }
 
-    /// Takes the next packet, before the first group is whole. `Err` is want of memory.
+    /// Takes the next packet, before the first frame or field is complete. Returns `Err` if memory runs out.
     #[cold]
     #[inline(never)]
     fn feed_early(
@@ -342,7 +344,7 @@ impl<M: RunMeter> RunJudge<M> {
         Ok(())
     }
 
-    /// The first marker has come: the head is over.
+    /// Ends the head of the run, since the first marker came.
     #[cold]
     #[inline(never)]
     fn begin_first(&mut self, alloc: Global)
@@ -359,7 +361,8 @@ impl<M: RunMeter> RunJudge<M> {
         }
     }
 
-    /// The second marker has come: the first group is whole.
+    /// Begins the judgement, since the second marker came: the first frame or field is complete. Returns `Err` if
+    /// memory runs out.
     #[cold]
     #[inline(never)]
     fn begin_groups(
@@ -383,7 +386,7 @@ impl<M: RunMeter> RunJudge<M> {
         Ok(())
     }
 
-    /// The run is over: the verdict on it. `Err` is want of memory.
+    /// Ends the run, and returns the verdict on it. Returns `Err` if memory runs out.
     pub fn close(self, out: &mut M::Out) -> Result<RunVerdict, OutOfMemory>
         ensures verdict { IfOk result (λ verdict. (m : MediaValue) (so_far : SoFar) → StandsFor m self so_far
             → verdict ≡ run_verdict_of m (outcome_of so_far)) }

@@ -1,10 +1,10 @@
--- what is promised
+-- definitions that the clauses of the public functions use
 pub mod Takings
 pub mod Rooms
 pub mod Readings
--- flows that are worked by hand
+-- a taker for the values worked by hand
 pub mod Worked
--- these only serve proofs
+-- definitions for proofs only
 pub mod Awaits
 pub mod Orders
 pub mod Steps

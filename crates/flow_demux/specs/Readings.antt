@@ -1,10 +1,10 @@
--- What the reading of a packet can come to.
+-- The results of parsing a packet.
 use Rattle.std.specs.Prelude.{◌≡◌, ⊤, Result, Ok, Err, ◌⊎◌}
 use Rattle.timing_base.specs.declared.packet.PacketFault.{PacketFault}
 use Rattle.timing_base.specs.declared.packet.PacketFault.TheVariants.{Short, Version}
 use Rattle.timing_base.specs.declared.packet.Rtp.{Rtp}
 
--- a packet that was not read is too short, or of another version
+-- a packet that couldn't be parsed is too short, or of another RTP version
 abbrev pub IsReading : Result Rtp PacketFault → Type 0
 IsReading (Ok rtp) = ⊤
 IsReading (Err fault) = (fault ≡ Short) ⊎ (fault ≡ Version)

@@ -1,4 +1,4 @@
--- What the crate's own functions promise each other: what one record does to a flow, and to one flow after the other.
+-- Clauses of the crate's private functions: the effect of one record on one flow, and on the flows in turn.
 use Rattle.std.specs.Prelude.{◌≡◌, ◌+◌, ℕ, zero, suc, List, [], ◌∷◌, Option}
 use Rattle.timing_base.specs.Captures.{Record}
 use Rattle.timing_base.specs.Media.{Media}
@@ -7,14 +7,14 @@ use Rattle.flow_demux.specs.Awaits.{AwaitsExpected}
 use Rattle.flow_demux.specs.Takings.{TakesFlow}
 use Rattle.flow_demux.specs.declared.media_flow.MediaFlow.{MediaFlow}
 
--- a record was taken off by a flow, for which there is then room for one packet less
+-- a flow took a record; there is then room for one packet less
 pub record StepsOn {F : Type 0} (takes : Media → F → F → List Record → Type 0) (room : (count : ℕ) → F → Type 0)
     (expects : F → Option Rtp) (r : Record) (old new : MediaFlow F) : Type 0 where
   pub taken : TakesFlow takes old new (r ∷ [])
   pub leaves : (count : ℕ) → room (count + 1) old.taker → room count new.taker
   pub awaited : AwaitsExpected expects new
 
--- so many items went on by such a step, and the others are as they were
+-- the first n items made such a step, and the others are unchanged
 abbrev pub StepUpTo : {X : Type 0} → (Step : X → X → Type 0) → ℕ → (olds news : List X) → Type 0
 StepUpTo Step zero olds news = news ≡ olds
 StepUpTo Step (suc i) [] news = news ≡ []

@@ -16,7 +16,7 @@ use std::alloc::{AllocError as OutOfMemory, Global};
 use timing_base::Target;
 use udp_rtp::datagram;
 
-/// Whether one of these flows goes to this target.
+/// Returns whether one of the flows has this target.
 fn go_to<F: Drop>(flows: &[MediaFlow<F>], target: Target) -> bool
     ensures { result ≡ false → All (λ f. target_of f.media ≡ target → ⊥) flows.now }
 {
@@ -28,7 +28,7 @@ fn go_to<F: Drop>(flows: &[MediaFlow<F>], target: Target) -> bool
     false
 }
 
-/// Whether no two of these flows go to one target.
+/// Returns whether no two of the flows have the same target.
 fn have_own_targets<F: Drop>(flows: &[MediaFlow<F>]) -> bool
     ensures { result ≡ true → HaveOwnTargets (media_in flows.now) }
 {
@@ -40,7 +40,7 @@ fn have_own_targets<F: Drop>(flows: &[MediaFlow<F>]) -> bool
     true
 }
 
-/// The order of the packets of these flows, where each packet goes to one of them at most. `Err` is want of memory.
+/// Returns an order for the flows if each packet belongs to at most one of them. Returns `Err` if memory runs out.
 fn order_of<F: Drop>(alloc: Global, flows: &[MediaFlow<F>]) -> Result<Option<Order>, OutOfMemory>
     ensures { IfOk result (λ order. ForSome order (λ o. IsOrderOf o flows.now)) }
 {
@@ -50,13 +50,12 @@ fn order_of<F: Drop>(alloc: Global, flows: &[MediaFlow<F>]) -> Result<Option<Ord
     Ok(Some(Order::new(alloc, flows.len())?))
 }
 
-/// The flows of the media of a session, each with what takes it, over the records of one capture, or of captures that
-/// are joined.
+/// The flows of a session's media, each with its taker, over the packet records of one capture or of joined captures.
 #[derive(Drop)]
 pub struct Demux<F: Drop> {
-    /// One for each media, in order.
+    /// One flow for each media, in the order of the media.
     flows: Vec<MediaFlow<F>>,
-    /// The order in which packets come; none where one packet may go to two media.
+    /// Order in which packets are expected; `None` if there is no flow, or if two media have the same target.
     order: Option<Order>,
 }
 
@@ -64,7 +63,7 @@ impl<F: FlowTaker> Demux<F> {
     ghost use Rattle.flow_demux.specs.Rooms.{HasRoom, IsReady, flows_of};
     ghost use Rattle.flow_demux.specs.Takings.{TakesAll};
 
-    /// These flows before the first record. `Err` is want of memory.
+    /// Returns a demux of these flows, before the first packet record. Returns `Err` if memory runs out.
     pub fn new(alloc: Global, flows: Vec<MediaFlow<F>>) -> Result<Demux<F>, OutOfMemory>
         requires awaits { All (AwaitsExpected F.expects) flows.items }
         ensures flows { IfOk result (λ demux. flows_of demux ≡ flows.items) }
@@ -74,7 +73,7 @@ impl<F: FlowTaker> Demux<F> {
         Ok(Demux { flows, order })
     }
 
-    /// The flows, in order.
+    /// Returns the flows in the order in which [`Demux::new`] got them.
     pub fn into_flows(self) -> Vec<MediaFlow<F>>
         ensures { result.items ≡ flows_of self }
     {
@@ -82,9 +81,9 @@ impl<F: FlowTaker> Demux<F> {
         flows
     }
 
-    /// Takes a record: its number from 1, its timestamp in nanoseconds, and its frame. The packet of the frame goes to
-    /// the flow of each media whose target is the frame's. `Err` is want of memory; what was taken isn't known from
-    /// then on.
+    /// Takes a packet record: its number, counted from 1, its capture timestamp in nanoseconds since 1970-01-01
+    /// 00:00:00, and the captured bytes of its Ethernet frame. Its packet goes to the flow of each media with the
+    /// target of the frame. Returns `Err` if memory runs out; what was taken is then unspecified.
     #[inline(always)]
     pub fn take(&mut self, number: u64, at: u64, frame: &[u8]) -> Result<(), OutOfMemory>
         requires stamp { IsStamp at }
@@ -102,9 +101,9 @@ impl<F: FlowTaker> Demux<F> {
         self.take_expected(number, at, frame)
     }
 
-    /// Takes a record whose frame carries the packet that is expected of the flow whose turn it is, as most do, where
-    /// that flow's taker takes it by [`FlowTaker::take_next`], and returns whether it did. Else nothing changes. `Err`
-    /// is want of memory.
+    /// Takes a packet record if its frame carries the packet that is expected of the flow with the next turn, and that
+    /// flow's taker accepts it by [`FlowTaker::take_next`]. Returns whether it was taken; if not, nothing changes.
+    /// Returns `Err` if memory runs out.
     #[inline(always)]
     fn take_ahead(&mut self, number: u64, at: u64, frame: &[u8]) -> Result<bool, OutOfMemory>
         requires stamp { IsStamp at }
@@ -117,19 +116,34 @@ impl<F: FlowTaker> Demux<F> {
         ensures takes { result ≡ Ok true → TakesAll F.takes (flows_of self.old) (flows_of self.new)
             (record { number = number; stamp = at; bytes = frame.now } ∷ []) }
     {
-        // One call of `take_next` for any number of media: with two of them this function would grow too large to be
-        // inlined.
+        // `take_next` is called at one place for any number of media. With two calls this function would be too large
+        // to be inlined.
         let Some(ahead) = self.ahead() else {
             return Ok(false);
         };
         if !self.flows[ahead].take_next(number, at, frame)? {
             return Ok(false);
         }
-        Order::pass_in(&mut self.order, ahead);
+        self.pass(ahead);
         Ok(true)
     }
 
-    /// The flow whose turn it is, where that is known. With one media it is always its turn.
+    /// Notes that the flow with the next turn took its packet. With one media there is nothing to note: it is always
+    /// its turn.
+    #[inline(always)]
+    fn pass(&mut self, ahead: usize)
+        requires ready { IsReady F.expects self.old }
+        requires within { ahead < length (flows_of self.old) }
+        ensures flows { flows_of self.new ≡ flows_of self.old }
+        ensures ready { IsReady F.expects self.new }
+    {
+        if self.flows.len() > 1 {
+            Order::pass_in(&mut self.order, ahead);
+        }
+    }
+
+    /// Returns the position of the flow with the next turn, counted from 0, or `None` if no order is kept. With one
+    /// media it is always its turn.
     #[inline(always)]
     fn ahead(&self) -> Option<usize>
         requires { IsReady F.expects self.now }
@@ -145,8 +159,8 @@ impl<F: FlowTaker> Demux<F> {
         Some(order.ahead())
     }
 
-    /// Takes a record as [`Demux::take`] does, whatever its frame: one that carries the packet that is expected isn't
-    /// read anew, though the flow's taker doesn't take it by [`FlowTaker::take_next`].
+    /// Takes a packet record as [`Demux::take`] does, whatever its frame. The expected packet isn't parsed, even if the
+    /// flow's taker didn't accept it by [`FlowTaker::take_next`].
     #[cold]
     #[inline(never)]
     fn take_expected(&mut self, number: u64, at: u64, frame: &[u8]) -> Result<(), OutOfMemory>
@@ -169,7 +183,7 @@ impl<F: FlowTaker> Demux<F> {
         self.take_other(number, at, frame)
     }
 
-    /// Takes a record as [`Demux::take`] does, whatever its frame, and learns whose packet it has.
+    /// Takes a packet record as [`Demux::take`] does, whatever its frame, and updates the order of the media.
     #[cold]
     #[inline(never)]
     fn take_other(&mut self, number: u64, at: u64, frame: &[u8]) -> Result<(), OutOfMemory>
@@ -203,7 +217,7 @@ impl<F: FlowTaker> Taker for Demux<F> {
     ghost use Rattle.flow_demux.specs.Rooms.{HasRoom, flows_of, room_less};
     ghost use Rattle.flow_demux.specs.Takings.{TakesAll, all_more, all_none};
 
-    /// Want of memory.
+    /// Memory ran out.
     type Stop = OutOfMemory;
 
     ghost takes = { λ old new items. TakesAll F.takes (flows_of old) (flows_of new) items };

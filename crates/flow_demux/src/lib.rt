@@ -1,10 +1,10 @@
-//! The flows of the media of a session, taken off the records of a capture.
+//! The flows of a session's media, taken from the packet records of a capture.
 //!
-//! A [`Demux`] takes the records of one capture, or of captures that are joined. A record's frame is parsed once, and
-//! where its target is that of a media, its packet is read and goes to what takes the flow of that media: a
-//! [`FlowTaker`]. A frame that carries the packet that goes on in the flow whose turn it is, as most do, is only
-//! compared with it. Media count from 0, records from 1; the timestamps of records are nanoseconds since 1970-01-01
-//! 00:00:00.
+//! A [`Demux`] takes the packet records of one capture or of joined captures. It parses the Ethernet frame of a record
+//! once. If the frame's target is that of a media, the packet goes to the taker of that media's flow, a [`FlowTaker`].
+//! Most frames carry the packet that is expected next in the flow with the next turn; such a frame is only compared
+//! with that packet and not parsed. Media count from 0, packet records from 1. Capture timestamps are in nanoseconds
+//! since 1970-01-01 00:00:00.
 #![tactic(auto)]
 
 mod demux;

@@ -1,16 +1,16 @@
-//! The order in which the packets of media come.
+//! The order in which the packets of the media come.
 
 ghost use Rattle.std.specs.Prelude.{◌≡◌, ◌≤◌, ◌<◌, ℕ, All, IfOk, is_some, length, slice_index, slice_set};
 ghost use Rattle.std.specs.Option.{ForSome};
 
 use std::alloc::{AllocError as OutOfMemory, Global};
 
-/// Whose packet came last, and whose came after it the last time. Media count from 0.
+/// The media of the last packet, and for each media the one that followed it the last time. Media count from 0.
 #[derive(Drop)]
 pub struct Order {
-    /// The media of the packet before.
+    /// Media of the last packet.
     last: usize,
-    /// For each media the one whose packet came after its own the last time.
+    /// For each media, the media of the packet that came after its own packet the last time.
     next: Vec<usize>,
     ghost here: { last < length next.items },
     ghost within: { All (λ media. media < length next.items) next.items },
@@ -19,7 +19,8 @@ pub struct Order {
 impl Order {
     ghost use Rattle.flow_demux.specs.Orders.{count};
 
-    /// Before the first packet of so many media: each is taken to come after itself. `Err` is want of memory.
+    /// Returns the order for this number of media, before the first packet: each media is expected to follow itself.
+    /// Returns `Err` if memory runs out.
     pub fn new(alloc: Global, media: usize) -> Result<Order, OutOfMemory>
         requires { 1 ≤ media }
         ensures { IfOk result (λ order. count order ≡ media) }
@@ -31,7 +32,7 @@ impl Order {
         Ok(Order { last: 0, next })
     }
 
-    /// The media whose packet is tried first.
+    /// Returns the media of the packet that is expected next.
     #[inline(always)]
     pub fn ahead(&self) -> usize
         ensures is { result ≡ slice_index self.now.next.items self.now.last }
@@ -40,7 +41,7 @@ impl Order {
         self.next[self.last]
     }
 
-    /// A packet of this media came, as it was tried first.
+    /// Notes that a packet of the expected media came.
     #[inline(always)]
     pub fn pass(&mut self, media: usize)
         requires { media < count self.old }
@@ -50,7 +51,7 @@ impl Order {
         self.last = media;
     }
 
-    /// A packet of this media came, as it was tried first, and the order is followed, if there is one.
+    /// Notes in the order, if there is one, that a packet of the expected media came.
     #[inline(always)]
     pub fn pass_in(order: &mut Option<Order>, media: usize)
         requires { ForSome order.old (λ o. media < count o) }
@@ -63,7 +64,7 @@ impl Order {
         }
     }
 
-    /// A packet of this media came: it will be tried after one of the media before.
+    /// Notes that a packet of this media came: from then on it is expected after a packet of the media before.
     pub fn learn(&mut self, media: usize)
         requires { media < count self.old }
         ensures last { self.new.last ≡ media }
@@ -74,7 +75,7 @@ impl Order {
         self.last = media;
     }
 
-    /// A packet of this media came, if of one, and the order is followed, if there is one.
+    /// Notes in the order, if there is one, that a packet of the media `came` came. Does nothing if `came` is `None`.
     pub fn learn_in(order: &mut Option<Order>, came: Option<usize>)
         requires { ForSome order.old (λ o. ForSome came (λ media. media < count o)) }
         ensures count { (n : ℕ) → ForSome order.old (λ o. count o ≡ n)

@@ -1,4 +1,4 @@
-//! What takes the packets of a media's flow, one after the other.
+//! The trait of what takes the packets of a flow.
 
 ghost use Rattle.std.specs.Prelude.{◌≡◌, ◌≤◌, ◌+◌, ◌++◌, ◌∷◌, [], ℕ, List, Option, None, Some, Ok, IfOk, IsOkAnd, length, true, false};
 ghost use Rattle.timing_base.specs.Captures.{IsStamp, Record};
@@ -11,23 +11,26 @@ ghost use Rattle.flow_demux.specs.Readings.{IsReading};
 use std::alloc::AllocError as OutOfMemory;
 use timing_base::{FlowPacket, Rtp};
 
-/// What takes the packets of a flow, one after the other.
+/// A taker of the packets of a flow, which come one by one and in order.
 pub trait FlowTaker: Drop {
-    /// By the flow of this media in these records, and by nothing else, the first became the second.
+    /// The taker changed from the first state to the second by the packets of this media's flow in these records, and
+    /// by nothing else.
     ghost takes: { MediaValue → Self → Self → List Record → Type 0 };
 
-    /// It has room for so many packets more.
+    /// The taker has room for `count` more packets.
     ghost room: { (count : ℕ) → Self → Type 0 };
 
-    /// By what it keeps, the packet with which the flow goes on in its frame or field, where it knows that.
+    /// The next packet of the frame or field, as far as the taker's state determines it.
     ghost expects: { Self → Option RtpValue };
 
-    /// The packet with which the flow goes on, where it goes on as most do. `None` where what takes it doesn't know.
+    /// Returns the packet that is expected next, which most often is the one that comes; `None` if the taker doesn't
+    /// know it.
     fn expected(&self) -> Option<Rtp>
         ensures { result ≡ expects self.now };
 
-    /// Takes the packet that is expected, and the frame that carried it, where it takes that on a short way, and returns
-    /// whether it did. Else nothing changes. `Err` is want of memory; what was taken isn't known from then on.
+    /// Takes the expected packet, and the Ethernet frame that carried it, if the taker has a short path for it. Returns
+    /// whether it was taken; if not, nothing changes. Returns `Err` if memory runs out; what was taken is then
+    /// unspecified.
     fn take_next(&mut self, packet: &FlowPacket, frame: &[u8]) -> Result<bool, OutOfMemory>
         requires stamp { IsStamp packet.now.at }
         requires reading { IsReading packet.now.rtp }
@@ -41,8 +44,8 @@ pub trait FlowTaker: Drop {
             → flow_packet m r ≡ Some packet.now → r.bytes ≡ frame.now
             → takes m self.old self.new (r ∷ []) };
 
-    /// Takes the next packet, and the frame that carried it. `Err` is want of memory; what was taken isn't known from
-    /// then on.
+    /// Takes the next packet, and the Ethernet frame that carried it. Returns `Err` if memory runs out; what was taken
+    /// is then unspecified.
     fn take(&mut self, packet: &FlowPacket, frame: &[u8]) -> Result<(), OutOfMemory>
         requires stamp { IsStamp packet.now.at }
         requires reading { IsReading packet.now.rtp }
@@ -53,17 +56,17 @@ pub trait FlowTaker: Drop {
             → flow_packet m r ≡ Some packet.now → r.bytes ≡ frame.now
             → takes m self.old self.new (r ∷ [])) };
 
-    /// No record changes nothing.
+    /// An empty list of records changes nothing.
     ghost none: { (m : MediaValue) (x : Self) → takes m x x [] };
 
-    /// Nor does one that is no packet of the flow.
+    /// A record that is no packet of the flow changes nothing.
     ghost other: { (m : MediaValue) (x : Self) (r : Record) → flow_packet m r ≡ None
         → takes m x x (r ∷ []) };
 
-    /// Some records, and then others.
+    /// Records that are taken in two parts are taken as all of them are.
     ghost more: { (m : MediaValue) (x y z : Self) (a b : List Record) → takes m x y a
         → takes m y z b → takes m x z (a ++ b) };
 
-    /// Room for many packets is room for few.
+    /// Room for many packets is room for fewer.
     ghost less: { (few many : ℕ) (x : Self) → few ≤ many → room many x → room few x };
 }

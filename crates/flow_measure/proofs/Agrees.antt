@@ -1,16 +1,18 @@
 -- A meter knows no more than what it was fed: it stands for all numbers that are the same there.
 use Rattle.std.proofs.Common.{◌≡◌, ◌<◌, ◌+◌, ◌-◌, ◌*◌, ◌/◌, ℕ, zero, suc, ℤ, ◌+ℤ◌, Bool, ◌||◌, ap, ◌∙◌, sym, refl, arith}
-use Rattle.std.proofs.lemmas.Nat.{div-add-mod', mul-add-lt}
+use Rattle.std.proofs.lemmas.Nat.{mul-add-lt}
 use Rattle.flow_measure.specs.Bins.{is_above, is_below, is_in_bin}
 use Rattle.flow_measure.specs.Broken.{any_of, group_breaks}
 use Rattle.flow_measure.specs.Classes.{is_in_class}
-use Rattle.flow_measure.specs.Columns.{places_in}
-use Rattle.flow_measure.specs.Stands.{Classifies, Counts, CountsBroken, Draws, Summarizes, column_of}
+use Rattle.flow_measure.specs.Columns.{AreExtremes, column_at, places_in}
+use Rattle.flow_measure.specs.Stands.{Classifies, Counts, CountsBroken, DrawsCurve, DrawsEye, Summarizes, curve_columns, eye_column_of, eye_columns}
 use Rattle.flow_measure.specs.Summary.{sum_of}
 use Rattle.flow_measure.specs.declared.bins.Bins.{Bins}
 use Rattle.flow_measure.specs.declared.broken.BrokenGroups.{BrokenGroups}
 use Rattle.flow_measure.specs.declared.classes.Classes.{Classes}
-use Rattle.flow_measure.specs.declared.columns.Columns.{Columns}
+use Rattle.flow_measure.specs.declared.columns.Extremes.{Extremes}
+use Rattle.flow_measure.specs.declared.columns.curve.Curve.{Curve}
+use Rattle.flow_measure.specs.declared.columns.eye.Eye.{Eye}
 use Rattle.flow_measure.specs.declared.summary.SummaryMeter.{SummaryMeter}
 use Rattle.flow_measure.proofs.Bounds.{IsGreatest-same, IsLeast-same}
 use Rattle.flow_measure.proofs.Counted.{count_of-same}
@@ -65,18 +67,32 @@ classes-agree c numbers others same h =
       ends = λ last e. omega (arith, kept last, h.ends last e);
     }
 
-pub columns-agree : (c : Columns) (numbers others : ℕ → ℤ)
+-- the extremes of a column
+extremes-agree : (column_of : ℕ → ℕ) (numbers others : ℕ → ℤ) (count k : ℕ) (e : Extremes)
+    → ((i : ℕ) → i < count → others i ≡ numbers i)
+    → AreExtremes numbers (places_in column_of count k) e
+    → AreExtremes others (places_in column_of count k) e
+extremes-agree column_of numbers others count k e same h = record {
+  least = IsLeast-same numbers others (places_in column_of count k) e.least (λ i p. same i p.0) h.least;
+  greatest = IsGreatest-same numbers others (places_in column_of count k) e.greatest (λ i p. same i p.0) h.greatest;
+}
+
+pub curve-agrees : {N : Type 0} (value : N → ℤ) (c : Curve N) (numbers others : ℕ → ℤ)
     → ((i : ℕ) → i < c.seen → others i ≡ numbers i)
-    → Draws c numbers
-    → Draws c others
-columns-agree c numbers others same h = record {
-  within = h.within;
+    → DrawsCurve value c numbers
+    → DrawsCurve value c others
+curve-agrees value c numbers others same h = record {
   each = λ k few.
-      let e = h.each k few in
-      record {
-        least = IsLeast-same numbers others (places_in (column_of c) c.seen k) _ (λ i p. same i p.0) e.least;
-        greatest = IsGreatest-same numbers others (places_in (column_of c) c.seen k) _ (λ i p. same i p.0) e.greatest;
-      };
+      extremes-agree (λ i. i / c.width) numbers others c.seen k (column_at (curve_columns value c) k) same (h.each k few);
+}
+
+pub eye-agrees : {N : Type 0} (value : N → ℤ) (e : Eye N) (numbers others : ℕ → ℤ)
+    → ((i : ℕ) → i < e.seen → others i ≡ numbers i)
+    → DrawsEye value e numbers
+    → DrawsEye value e others
+eye-agrees value e numbers others same h = record {
+  within = h.within;
+  each = λ k few. extremes-agree (eye_column_of e) numbers others e.seen k (column_at (eye_columns value e) k) same (h.each k few);
 }
 
 -- whether one passes, of tests that are the same at those places
@@ -86,20 +102,17 @@ any_of-same test other (suc count) same =
     let before = any_of-same test other count (λ i few. same i (omega (arith, few))) in
     ap (λ (b : Bool). b || other count) before ∙ ap (λ (b : Bool). any_of test count || b) (same count (omega arith))
 
-pub broken-agrees : (b : BrokenGroups) (broken others : ℕ → Bool)
-    → ((i : ℕ) → i < b.seen → others i ≡ broken i)
-    → CountsBroken b broken
-    → CountsBroken b others
-broken-agrees b broken others same h =
-    let split = div-add-mod' b.seen b.n in
-    let groups = b.seen / b.n in
-    record {
-      before = h.before
-          ∙ sym (count_of-same (group_breaks b.n broken) (group_breaks b.n others) groups
-          (λ k few. any_of-same (λ j. broken (k * b.n + j)) (λ j. others (k * b.n + j)) b.n
-          (λ j inside. same (k * b.n + j)
-          (omega (arith, mul-add-lt k b.n j groups few inside, split)))));
-      here = h.here
-          ∙ sym (any_of-same (λ j. broken (groups * b.n + j)) (λ j. others (groups * b.n + j)) b.place
-          (λ j inside. same (groups * b.n + j) (omega (arith, inside, split, b.place_is))));
-    }
+pub broken-agrees : (n seen : ℕ) (b : BrokenGroups) (broken others : ℕ → Bool)
+    → ((i : ℕ) → i < seen → others i ≡ broken i)
+    → CountsBroken n b broken seen
+    → CountsBroken n b others seen
+broken-agrees n seen b broken others same h = record {
+  over = h.over
+      ∙ sym (count_of-same (group_breaks n broken) (group_breaks n others) b.whole
+      (λ k few. any_of-same (λ j. broken (k * n + j)) (λ j. others (k * n + j)) n
+      (λ j inside. same (k * n + j) (omega (arith, mul-add-lt k n j b.whole few inside, h.begun)))));
+  here_is = h.here_is
+      ∙ sym (any_of-same (λ j. broken (b.whole * n + j)) (λ j. others (b.whole * n + j)) (seen - b.whole * n)
+      (λ j inside. same (b.whole * n + j) (omega (arith, inside, h.begun))));
+  begun = h.begun;
+}

@@ -3,6 +3,8 @@ use Rattle.std.proofs.Common.{◌≡◌, ◌<◌, ◌≤◌, ◌+◌, ◌-◌, �
 use Rattle.std.proofs.Math.Nat.{add-mul}
 use Rattle.std.proofs.lemmas.Nat.{div-add-mod', div-mul-add, mod-mul-add}
 use Rattle.flow_measure.specs.Broken.{any_of, broken_groups, group_breaks}
+use Rattle.flow_measure.specs.Stands.{CountsBroken}
+use Rattle.flow_measure.specs.declared.broken.BrokenGroups.{BrokenGroups}
 use Rattle.flow_measure.proofs.Counted.{count_of-more}
 
 -- so many packets further in a group, and at its end
@@ -16,10 +18,6 @@ end-of-group x n times few outside =
     let split : (x / n + 1) * n + 0 ≡ x + times = omega (arith, div-add-mod' x n, add-mul (x / n) 1 n, outside) in
     let some : 0 < n = omega (arith, few, outside) in
     (sym (ap (λ y. y / n) split) ∙ div-mul-add (x / n + 1) n 0 some, sym (ap (λ y. y % n) split) ∙ mod-mul-add (x / n + 1) n 0 some)
-
--- a packet in its group
-place-is : (seen n place j : ℕ) → seen % n ≡ place → (seen / n) * n + (place + j) ≡ seen + j
-place-is seen n place j e = omega (arith, e, div-add-mod' seen n)
 
 or-again : (x y : Bool) → (x || y) || y ≡ x || y
 or-again true y = refl
@@ -42,63 +40,55 @@ any_of-times test place (suc k) x h =
     ∙ ap (λ y. y || x) before
     ∙ or-again (any_of test place) x
 
--- whether its group is broken with so many packets more
-with-them : (broken : ℕ → Bool) (seen n place times : ℕ) (here is_broken : Bool)
-    → seen % n ≡ place
+-- whether the group that goes on is broken with so many packets more
+pub here-more : (n : ℕ) (b : BrokenGroups) (broken : ℕ → Bool) (seen times : ℕ) (is_broken : Bool)
     → 1 ≤ times
-    → here ≡ any_of (λ j. broken ((seen / n) * n + j)) place
+    → CountsBroken n b broken seen
     → ((j : ℕ) → j < times → broken (seen + j) ≡ is_broken)
-    → here || is_broken ≡ any_of (λ j. broken ((seen / n) * n + j)) (place + times)
-with-them broken seen n place times here is_broken e some h b =
-    let test = λ (j : ℕ). broken ((seen / n) * n + j) in
+    → b.here || is_broken ≡ any_of (λ j. broken (b.whole * n + j)) (seen + times - b.whole * n)
+here-more n b broken seen times is_broken some h all =
+    let test = λ (j : ℕ). broken (b.whole * n + j) in
+    let place = seen - b.whole * n in
     let k = times - 1 in
-    let size : times ≡ suc k = omega (arith, some) in
+    let size : seen + times - b.whole * n ≡ place + suc k = omega (arith, some, h.begun) in
     let last : (j : ℕ) → j < suc k → test (place + j) ≡ is_broken =
-    λ j few. ap broken (place-is seen n place j e) ∙ b j (omega (arith, few, size)) in
-    ap (λ x. x || is_broken) h
-    ∙ sym (any_of-times test place k is_broken last)
-    ∙ sym (ap (λ t. any_of test (place + t)) size)
+    λ j few. let here : b.whole * n + (place + j) ≡ seen + j = omega (arith, h.begun) in ap broken here ∙ all j (omega (arith, few, some)) in
+    ap (λ (x : Bool). x || is_broken) h.here_is ∙ sym (any_of-times test place k is_broken last) ∙ sym (ap (any_of test) size)
 
--- of a group that goes on
-pub here-more : (broken : ℕ → Bool) (seen n place times : ℕ) (here is_broken : Bool)
-    → seen % n ≡ place
+-- so many packets more
+pub broken-more : (n : ℕ) (b c : BrokenGroups) (broken : ℕ → Bool) (seen times : ℕ) (is_broken : Bool)
     → 1 ≤ times
-    → place + times < n
-    → here ≡ any_of (λ j. broken ((seen / n) * n + j)) place
+    → c.whole ≡ b.whole
+    → c.broken ≡ b.broken
+    → c.here ≡ b.here || is_broken
+    → CountsBroken n b broken seen
     → ((j : ℕ) → j < times → broken (seen + j) ≡ is_broken)
-    → here || is_broken ≡ any_of (λ j. broken (((seen + times) / n) * n + j)) (place + times)
-here-more broken seen n place times here is_broken e some inside h b =
-    let same = (within-group seen n times (omega (arith, e, inside))).0 in
-    with-them broken seen n place times here is_broken e some h b
-    ∙ ap (λ k. any_of (λ j. broken (k * n + j)) (place + times)) (sym same)
+    → CountsBroken n c broken (seen + times)
+broken-more n b c broken seen times is_broken some whole count here h all = record {
+  over = count ∙ h.over ∙ ap (broken_groups n broken) (sym whole);
+  here_is = here ∙ here-more n b broken seen times is_broken some h all
+      ∙ ap (λ k. any_of (λ j. broken (k * n + j)) (seen + times - k * n)) (sym whole);
+  begun = omega (arith, h.begun, ap (λ k. k * n) whole);
+}
 
-pub before-same : (broken : ℕ → Bool) (seen n place times before : ℕ)
-    → seen % n ≡ place
-    → place + times < n
-    → before ≡ broken_groups n broken (seen / n)
-    → before ≡ broken_groups n broken ((seen + times) / n)
-before-same broken seen n place times before e inside h =
-    let same = (within-group seen n times (omega (arith, e, inside))).0 in
-    h ∙ ap (broken_groups n broken) (sym same)
-
--- of a group that ends
-pub before-more : (broken : ℕ → Bool) (seen n place times before : ℕ) (here is_broken : Bool)
-    → seen % n ≡ place
-    → 1 ≤ times
-    → place + times ≡ n
-    → before ≡ broken_groups n broken (seen / n)
-    → here ≡ any_of (λ j. broken ((seen / n) * n + j)) place
-    → ((j : ℕ) → j < times → broken (seen + j) ≡ is_broken)
-    → before + cond (here || is_broken) 1 0 ≡ broken_groups n broken ((seen + times) / n)
-before-more broken seen n place times before here is_broken e some outside h g b =
-    let turn = (end-of-group seen n times some (omega (arith, e, outside))).0 in
-    let whole : here || is_broken ≡ group_breaks n broken (seen / n) =
-    with-them broken seen n place times here is_broken e some g b ∙ ap (any_of (λ j. broken ((seen / n) * n + j))) outside in
-    ap (λ x. x + cond (here || is_broken) 1 0) h
-    ∙ ap (λ y. broken_groups n broken (seen / n) + cond y 1 0) whole
-    ∙ sym (count_of-more (group_breaks n broken) (seen / n))
-    ∙ ap (broken_groups n broken) (sym turn)
-
--- the next group has no packet yet
-pub here-none : (broken : ℕ → Bool) (seen n : ℕ) → false ≡ any_of (λ j. broken ((seen / n) * n + j)) 0
-here-none broken seen n = refl
+-- the group is over
+pub group-over : (n : ℕ) (b c : BrokenGroups) (broken : ℕ → Bool) (seen : ℕ)
+    → c.whole ≡ b.whole + 1
+    → c.broken ≡ b.broken + cond b.here 1 0
+    → c.here ≡ false
+    → CountsBroken n b broken seen
+    → seen ≡ b.whole * n + n
+    → CountsBroken n c broken seen
+group-over n b c broken seen whole count here h all =
+    let last : seen - b.whole * n ≡ n = omega (arith, all) in
+    let next : c.whole * n ≡ seen = ap (λ k. k * n) whole ∙ add-mul b.whole 1 n ∙ omega (arith, all) in
+    let breaks : b.here ≡ group_breaks n broken b.whole = h.here_is ∙ ap (any_of (λ j. broken (b.whole * n + j))) last in
+    let none : seen - c.whole * n ≡ 0 = omega (arith, next) in
+    record {
+      over = count ∙ ap (λ k. k + cond b.here 1 0) h.over
+          ∙ ap (λ (x : Bool). broken_groups n broken b.whole + cond x 1 0) breaks
+          ∙ sym (count_of-more (group_breaks n broken) b.whole)
+          ∙ ap (broken_groups n broken) (sym whole);
+      here_is = here ∙ sym (ap (any_of (λ j. broken (c.whole * n + j))) none);
+      begun = omega (arith, next);
+    }

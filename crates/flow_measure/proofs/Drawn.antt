@@ -1,61 +1,72 @@
 -- The columns of one number more.
-use Rattle.std.proofs.Common.{◌≡◌, ◌<◌, ◌≤◌, ◌+◌, ◌/◌, ◌%◌, ◌*◌, ℕ, ℤ, pos, List, length, set, take, max, ◌⊎◌, inl, inr, ap, ◌∙◌, sym, subst, vec_len, arith}
-use Rattle.std.proofs.Math.Nat.{mod-eq_of_lt, mul-le-mul_right}
+use Rattle.std.proofs.Common.{◌≡◌, ◌<◌, ◌≤◌, ◌+◌, ◌/◌, ◌*◌, ◌-◌, ℕ, ℤ, pos, List, length, set, take, max}
+use Rattle.std.proofs.Common.{◌⊎◌, inl, inr, ap, ◌∙◌, sym, subst, refl, arith}
+use Rattle.std.proofs.Math.Nat.{div-div-eq-div-mul, div-le_of_le-mul, mul-le-mul_right}
 use Rattle.std.proofs.lemmas.Bool.{cases_eq, cases_lt}
 use Rattle.std.proofs.lemmas.List.{get_or-set_other, get_or-set_same, get_or-take, length-take-le}
-use Rattle.std.proofs.lemmas.Nat.{div-mul-add}
-use Rattle.std.specs.Int.{int_max, int_min}
-use Rattle.flow_measure.specs.Columns.{AreColumns, AreCurve, AreExtremes, AreEye, column_at, places_in, width_of}
-use Rattle.flow_measure.specs.Stands.{Draws, column_of}
-use Rattle.flow_measure.specs.declared.columns.Columns.{Columns}
+use Rattle.std.proofs.lemmas.Nat.{div-mul-add, div_below}
+use Rattle.flow_measure.specs.Columns.{AreColumns, AreExtremes, column_at, places_in}
+use Rattle.flow_measure.specs.Extremes.{joined, only}
 use Rattle.flow_measure.specs.declared.columns.Extremes.{Extremes}
-use Rattle.flow_measure.proofs.Bounds.{AreExtremes-one, AreExtremes-same, IsGreatest-more, IsLeast-more}
+use Rattle.flow_measure.proofs.Bounds.{AreExtremes-joined, AreExtremes-one, AreExtremes-same}
 use Rattle.flow_measure.proofs.Summarized.{last-split}
 
--- the column of a place, of which the place in its group is known
-pub column-is : (place group width column within seen : ℕ) → seen % group ≡ place → column * width + within ≡ place → within < width
-    → (seen % group) / width ≡ column
-column-is place group width column within seen ep es few =
-    ap (λ x. x / width) (ep ∙ sym es) ∙ div-mul-add column width within few
-
--- what a column has with the next number
+-- what a column has with the next number: that one alone where it is the column's first
 pub record Widens (begun column : ℕ) (number : ℤ) (old new : Extremes) : Type 0 where
-  pub fresh : begun ≤ column → (new.least ≡ number) × (new.greatest ≡ number)
-  pub kept : column < begun → (new.least ≡ int_min old.least number) × (new.greatest ≡ int_max old.greatest number)
+  pub fresh : begun ≤ column → new ≡ only number
+  pub kept : column < begun → new ≡ joined old (only number)
+
+-- what is joined, of extremes that are the same
+pub joined-as : (new was now old last : Extremes) → new ≡ joined was now → old ≡ was → now ≡ last → new ≡ joined old last
+joined-as new was now old last is same same_last = is ∙ ap (λ x. joined x now) (sym same) ∙ ap (joined old) same_last
+
+-- the extremes of one place
+alone : (numbers : ℕ → ℤ) (places : ℕ → Type 0) (i : ℕ) → places i → ((j : ℕ) → places j → j ≡ i) → AreExtremes numbers places (only (numbers i))
+alone numbers places i here only_here = AreExtremes-one numbers places i (only (numbers i)) here only_here refl refl
 
 -- the extremes of the column to which the next number belongs
-column-here : (column_of : ℕ → ℕ) (numbers : ℕ → ℤ) (count begun column : ℕ) (old new : Extremes)
+pub column-here : (column_of : ℕ → ℕ) (numbers : ℕ → ℤ) (count begun column : ℕ) (old new : Extremes)
     → column_of count ≡ column
     → ((i : ℕ) → i < count → column_of i < begun)
     → (column < begun → AreExtremes numbers (places_in column_of count column) old)
     → Widens begun column (numbers count) old new
     → AreExtremes numbers (places_in column_of (count + 1) column) new
 column-here column_of numbers count begun column old new here within was w =
-    elim (cases_lt column begun) as (λ _. AreExtremes numbers (places_in column_of (count + 1) column) new) [
+    let after = places_in column_of (count + 1) column in
+    let now : after count = (omega arith, here) in
+    elim (cases_lt column begun) as (λ _. AreExtremes numbers after new) [
       | inl begun_before ↦
-          let h = was begun_before in
-          let keeps : (i : ℕ) → places_in column_of count column i → places_in column_of (count + 1) column i =
-          λ i p. (omega (arith, p.0), p.1) in
-          let now : places_in column_of (count + 1) column count = (omega arith, here) in
-          let split : (i : ℕ) → places_in column_of (count + 1) column i → places_in column_of count column i ⊎ (i ≡ count) =
-          λ i p. elim (last-split count i p.0) as (λ _. places_in column_of count column i ⊎ (i ≡ count)) [
+          subst (AreExtremes numbers after) (sym (w.kept begun_before))
+          (AreExtremes-joined numbers (places_in column_of count column) (λ i. i ≡ count) after old (only (numbers count))
+          (was begun_before) (alone numbers (λ i. i ≡ count) count refl (λ i same. same))
+          (λ i p. (omega (arith, p.0), p.1))
+          (λ i same. subst after (sym same) now)
+          (λ i p. elim (last-split count i p.0) as (λ _. places_in column_of count column i ⊎ (i ≡ count)) [
             | inl few ↦ inl (few, p.1)
             | inr same ↦ inr same
-          ] in
-          record {
-            least = IsLeast-more numbers (places_in column_of count column) (places_in column_of (count + 1) column) count old.least new.least
-                h.least keeps now split (w.kept begun_before).0;
-            greatest = IsGreatest-more numbers (places_in column_of count column) (places_in column_of (count + 1) column) count
-                old.greatest new.greatest h.greatest keeps now split (w.kept begun_before).1;
-          }
+          ]))
       | inr fresh ↦
-          AreExtremes-one numbers (places_in column_of (count + 1) column) count new (omega arith, here)
-          (λ i p. elim (last-split count i p.0) as (λ _. i ≡ count) [
+          subst (AreExtremes numbers after) (sym (w.fresh fresh))
+          (alone numbers after count now (λ i p. elim (last-split count i p.0) as (λ _. i ≡ count) [
             | inl few ↦ absurd (omega (arith, within i few, p.1, fresh))
             | inr same ↦ same
-          ])
-          (w.fresh fresh).0 (w.fresh fresh).1
+          ]))
     ]
+
+-- the extremes of every other one
+pub column-there : (column_of : ℕ → ℕ) (numbers : ℕ → ℤ) (count column k : ℕ) (e : Extremes)
+    → column_of count ≡ column
+    → (k ≡ column → ⊥)
+    → AreExtremes numbers (places_in column_of count k) e
+    → AreExtremes numbers (places_in column_of (count + 1) k) e
+column-there column_of numbers count column k e here other h =
+    AreExtremes-same numbers (places_in column_of count k) (places_in column_of (count + 1) k) e
+    (λ i p. (omega (arith, p.0), p.1))
+    (λ i p. elim (last-split count i p.0) as (λ _. places_in column_of count k i) [
+      | inl before ↦ (before, p.1)
+      | inr last ↦ absurd (other (sym p.1 ∙ ap column_of last ∙ here))
+    ])
+    h
 
 -- the extremes of every column
 pub columns-more : (column_of : ℕ → ℕ) (numbers : ℕ → ℤ) (count begun column : ℕ) (columns : List Extremes) (new : Extremes)
@@ -68,25 +79,16 @@ pub columns-more : (column_of : ℕ → ℕ) (numbers : ℕ → ℤ) (count begu
     → (k : ℕ) → k < max begun (column + 1)
     → AreExtremes numbers (places_in column_of (count + 1) k) (column_at (set columns column new) k)
 columns-more column_of numbers count begun column columns new here next room within each w k few =
-    let zero : Extremes = record { least = pos 0; greatest = pos 0 } in
-    elim (cases_eq k column) as (λ _. AreExtremes numbers (places_in column_of (count + 1) k) (column_at (set columns column new) k)) [
+    let zero : Extremes = only (pos 0) in
+    let is = λ (c : ℕ) (e : Extremes). AreExtremes numbers (places_in column_of (count + 1) c) e in
+    elim (cases_eq k column) as (λ _. is k (column_at (set columns column new) k)) [
       | inl same ↦
-          let now = column-here column_of numbers count begun column (column_at columns column) new here within
-          (λ some. each column some) w in
-          let there : column_at (set columns column new) column ≡ new = get_or-set_same columns column new zero room in
-          subst (λ c. AreExtremes numbers (places_in column_of (count + 1) c) (column_at (set columns column new) c)) (sym same)
-          (subst (AreExtremes numbers (places_in column_of (count + 1) column)) (sym there) now)
+          subst (λ c. is c (column_at (set columns column new) c)) (sym same)
+          (subst (is column) (sym (get_or-set_same columns column new zero room))
+          (column-here column_of numbers count begun column (column_at columns column) new here within (λ some. each column some) w))
       | inr other ↦
-          let there : column_at (set columns column new) k ≡ column_at columns k = get_or-set_other columns column k new zero other in
-          let h = each k (omega (arith, few, next, other)) in
-          let same : (i : ℕ) → places_in column_of (count + 1) k i → places_in column_of count k i =
-          λ i p. elim (last-split count i p.0) as (λ _. places_in column_of count k i) [
-            | inl before ↦ (before, p.1)
-            | inr last ↦ absurd (other (sym p.1 ∙ ap column_of last ∙ here))
-          ] in
-          subst (AreExtremes numbers (places_in column_of (count + 1) k)) (sym there)
-          (AreExtremes-same numbers (places_in column_of count k) (places_in column_of (count + 1) k) (column_at columns k)
-          (λ i p. (omega (arith, p.0), p.1)) same h)
+          subst (is k) (sym (get_or-set_other columns column k new zero other))
+          (column-there column_of numbers count column k (column_at columns k) here other (each k (omega (arith, few, next, other))))
     ]
 
 -- each number has a column
@@ -108,7 +110,7 @@ pub columns-shown : (column_of : ℕ → ℕ) (numbers : ℕ → ℤ) (count beg
     → AreColumns column_of numbers count (take begun columns)
 columns-shown column_of numbers count begun columns most within each =
     let long : length (take begun columns) ≡ begun = length-take-le begun columns most in
-    let zero : Extremes = record { least = pos 0; greatest = pos 0 } in
+    let zero : Extremes = only (pos 0) in
     record {
       within = λ i few. omega (arith, within i few, long);
       each = λ k few.
@@ -117,78 +119,92 @@ columns-shown column_of numbers count begun columns most within each =
           subst (AreExtremes numbers (places_in column_of count k)) (sym there) (each k inside);
     }
 
--- the eye
-pub eye-shown : (c : Columns) (numbers : ℕ → ℤ) (columns : List Extremes)
-    → columns ≡ c.columns.items
-    → Draws c numbers
-    → AreEye c.group c.most numbers c.seen (take c.begun columns)
-eye-shown c numbers columns e h =
-    let most : c.begun ≤ length c.columns.items = omega (arith, c.begun_most) in
-    let shown = columns-shown (column_of c) numbers c.seen c.begun c.columns.items most h.within h.each in
-    let taken = subst (λ l. AreColumns (column_of c) numbers c.seen (take c.begun l)) (sym e) shown in
-    subst (λ w. AreColumns (λ i. (i % c.group) / w) numbers c.seen (take c.begun columns)) c.width_is taken
+-- ---- columns of twice the width
 
--- where all numbers are one group, the place of each is its place in the group
-columns-same : (column_of other : ℕ → ℕ) (numbers : ℕ → ℤ) (count : ℕ) (columns : List Extremes)
-    → ((i : ℕ) → i < count → other i ≡ column_of i)
-    → AreColumns column_of numbers count columns
-    → AreColumns other numbers count columns
-columns-same column_of other numbers count columns same h = record {
-  within = λ i few. omega (arith, same i few, h.within i few);
-  each = λ k few. AreExtremes-same numbers (places_in column_of count k) (places_in other count k) (column_at columns k)
-      (λ i p. (p.0, same i p.0 ∙ p.1)) (λ i p. (p.0, sym (same i p.0) ∙ p.1)) (h.each k few);
-}
+-- the column of twice the width to which a place belongs
+pub half-column : (i w : ℕ) → i / (2 * w) ≡ i / w / 2
+half-column i w = let e : w * 2 ≡ 2 * w = omega arith in sym (div-div-eq-div-mul i w 2 ∙ ap (λ x. i / x) e)
 
--- the curve
-pub curve-shown : (c : Columns) (numbers : ℕ → ℤ) (columns : List Extremes)
-    → columns ≡ c.columns.items
-    → Draws c numbers
-    → c.seen ≡ c.group
-    → AreCurve c.most numbers c.seen (take c.begun columns)
-curve-shown c numbers columns e h one =
-    let eye = eye-shown c numbers columns e h in
-    columns-same (λ i. (i % c.group) / width_of c.group c.most) (λ i. i / width_of c.seen c.most) numbers c.seen (take c.begun columns)
-    (λ i few.
-    let place : i % c.group ≡ i = mod-eq_of_lt (omega (arith, few, one)) in
-    ap (λ g. i / width_of g c.most) one ∙ sym (ap (λ x. x / width_of c.group c.most) place))
-    eye
+-- neighbours
+pub pair-joined : (numbers : ℕ → ℤ) (count w k : ℕ) (a b : Extremes)
+    → AreExtremes numbers (places_in (λ i. i / w) count (2 * k)) a
+    → AreExtremes numbers (places_in (λ i. i / w) count (2 * k + 1)) b
+    → AreExtremes numbers (places_in (λ i. i / (2 * w)) count k) (joined a b)
+pair-joined numbers count w k a b h g =
+    let first = places_in (λ i. i / w) count (2 * k) in
+    let second = places_in (λ i. i / w) count (2 * k + 1) in
+    AreExtremes-joined numbers first second (places_in (λ i. i / (2 * w)) count k) a b h g
+    (λ i p. (p.0, omega (arith, half-column i w, p.1)))
+    (λ i p. (p.0, omega (arith, half-column i w, p.1)))
+    (λ i p. elim (cases_eq (i / w) (2 * k)) as (λ _. first i ⊎ second i) [
+      | inl even ↦ inl (p.0, even)
+      | inr odd ↦ inr (p.0, omega (arith, half-column i w, p.1, odd))
+    ])
 
--- the column of the next number is one of the list
-column-room : (column width within place group long : ℕ) → column * width + within ≡ place → place < group → group ≤ long * width → column < long
-column-room column width within place group long split few room = elim (cases_lt column long) as (λ _. column < long) [
-  | inl inside ↦ inside
-  | inr past ↦ let p : long * width ≤ column * width = mul-le-mul_right width past in absurd (omega (arith, split, few, room, p))
-]
+-- one that has no neighbour
+pub alone-joined : (numbers : ℕ → ℤ) (count w k : ℕ) (a : Extremes) → count ≤ (2 * k + 1) * w → 1 ≤ w
+    → AreExtremes numbers (places_in (λ i. i / w) count (2 * k)) a
+    → AreExtremes numbers (places_in (λ i. i / (2 * w)) count k) a
+alone-joined numbers count w k a few some h =
+    AreExtremes-same numbers (places_in (λ i. i / w) count (2 * k)) (places_in (λ i. i / (2 * w)) count k) a
+    (λ i p. (p.0, omega (arith, half-column i w, p.1)))
+    (λ i p.
+    let below = column-below i w (2 * k + 1) some (omega (arith, p.0, few)) in
+    (p.0, omega (arith, half-column i w, p.1, below)))
+    h
+  where
+    column-below : (i w c : ℕ) → 1 ≤ w → i < c * w → i / w < c
+    column-below i w c some few = elim (cases_lt (i / w) c) as (λ _. i / w < c) [
+      | inl below ↦ below
+      | inr past ↦
+          let p : c * w ≤ i / w * w = mul-le-mul_right w past in
+          absurd (omega (arith, p, few, some))
+    ]
 
--- the columns of a meter with the next number
-pub draws-more : (b c : Columns) (numbers : ℕ → ℤ) (e : Extremes)
-    → c.group ≡ b.group
-    → c.width ≡ b.width
-    → c.seen ≡ b.seen + 1
-    → c.begun ≡ max b.begun (b.column + 1)
-    → c.columns.items ≡ set b.columns.items b.column e
-    → Widens b.begun b.column (numbers b.seen) (column_at b.columns.items b.column) e
-    → Draws b numbers
-    → Draws c numbers
-draws-more b c numbers e eg ew es eb ec w h =
-    let here = column-is b.place b.group b.width b.column b.within b.seen b.place_is b.split b.within_column in
-    let long : length b.columns.items ≡ vec_len b.columns = omega (arith, b.columns.ok.0) in
-    let room : b.group ≤ length b.columns.items * b.width = subst (λ n. b.group ≤ n * b.width) (sym long) b.room in
-    let inside = column-room b.column b.width b.within b.place b.group (length b.columns.items) b.split b.place_within room in
-    let same : (i : ℕ) → column_of c i ≡ column_of b i =
-    λ i. ap (λ g. (i % g) / c.width) eg ∙ ap (λ x. (i % b.group) / x) ew in
-    record {
-      within = λ i few. omega (
-        arith,
-        same i,
-        within-more (column_of b) b.seen b.begun b.column here h.within i (omega (arith, few, es)),
-        eb,
-      );
-      each = λ k few.
-          let more = columns-more (column_of b) numbers b.seen b.begun b.column b.columns.items e here b.next_begun inside h.within h.each w k
-          (omega (arith, few, eb)) in
-          subst (λ l. AreExtremes numbers (places_in (column_of c) c.seen k) (column_at l k)) (sym ec)
-          (AreExtremes-same numbers (places_in (column_of b) (b.seen + 1) k) (places_in (column_of c) c.seen k)
-          (column_at (set b.columns.items b.column e) k)
-          (λ i p. (omega (arith, p.0, es), same i ∙ p.1)) (λ i p. (omega (arith, p.0, es), sym (same i) ∙ p.1)) more);
-    }
+-- all of them, of full columns, with the next number in the last one
+pub columns-doubled : (numbers : ℕ → ℤ) (most w : ℕ) (columns pairs : List Extremes) (new : Extremes)
+    → 1 ≤ w
+    → length pairs ≡ most
+    → 1 ≤ most
+    → ((k : ℕ) → k < most → AreExtremes numbers (places_in (λ i. i / w) (most * w) k) (column_at columns k))
+    → ((k : ℕ) → 2 * k + 1 < most → column_at pairs k ≡ joined (column_at columns (2 * k)) (column_at columns (2 * k + 1)))
+    → (2 * (most / 2) + 1 ≡ most → new ≡ joined (column_at columns (2 * (most / 2))) (only (numbers (most * w))))
+    → (2 * (most / 2) ≡ most → new ≡ only (numbers (most * w)))
+    → (k : ℕ) → k < most / 2 + 1
+    → AreExtremes numbers (places_in (λ i. i / (2 * w)) (most * w + 1) k) (column_at (set pairs (most / 2) new) k)
+columns-doubled numbers most w columns pairs new some long some_most each joins odd even k few =
+    let p = most / 2 in
+    let count = most * w in
+    let column_of : ℕ → ℕ = λ i. i / (2 * w) in
+    let zero : Extremes = only (pos 0) in
+    let is = λ (c : ℕ) (e : Extremes). AreExtremes numbers (places_in column_of (count + 1) c) e in
+    let there : count / w ≡ most = full-columns most w some in
+    let here : column_of count ≡ p = omega (arith, half-column count w, there) in
+    let below : (i : ℕ) → i < count → column_of i ≤ (most - 1) / 2 =
+    λ i early. omega (arith, half-column i w, div_below i w most (omega (arith, some)) early) in
+    elim (cases_eq k p) as (λ _. is k (column_at (set pairs p new) k)) [
+      | inl same ↦
+          subst (λ c. is c (column_at (set pairs p new) c)) (sym same)
+          (subst (is p) (sym (get_or-set_same pairs p new zero (omega (arith, long, some_most))))
+          (elim (cases_eq (2 * p) most) as (λ _. is p new) [
+            | inl whole ↦
+                column-here column_of numbers count p p zero new here (λ i early. omega (arith, below i early, whole, some_most))
+                (λ before. absurd (omega (arith, before)))
+                (record { fresh = λ _. even whole; kept = λ before. absurd (omega (arith, before)) })
+            | inr rest ↦
+                let one : 2 * p + 1 ≡ most = omega (arith, rest) in
+                let fits : count ≤ (2 * p + 1) * w = omega (arith, ap (λ x. x * w) one) in
+                column-here column_of numbers count (p + 1) p (column_at columns (2 * p)) new here (λ i early. omega (arith, below i early))
+                (λ _. alone-joined numbers count w p (column_at columns (2 * p)) fits some (each (2 * p) (omega (arith, one))))
+                (record { fresh = λ before. absurd (omega (arith, before)); kept = λ _. odd one })
+          ]))
+      | inr other ↦
+          let in_pair : 2 * k + 1 < most = omega (arith, few, other) in
+          subst (is k) (sym (get_or-set_other pairs p k new zero other ∙ joins k in_pair))
+          (column-there column_of numbers count p k (joined (column_at columns (2 * k)) (column_at columns (2 * k + 1))) here other
+          (pair-joined numbers count w k (column_at columns (2 * k)) (column_at columns (2 * k + 1))
+          (each (2 * k) (omega (arith, in_pair))) (each (2 * k + 1) in_pair)))
+    ]
+  where
+    full-columns : (most w : ℕ) → 1 ≤ w → most * w / w ≡ most
+    full-columns most w some = let e : most * w ≡ most * w + 0 = omega arith in ap (λ x. x / w) e ∙ div-mul-add most w 0 (omega (arith, some))

@@ -30,39 +30,6 @@ none-left seen n d groups some same whole =
     let product : seen ≡ groups * d = whole ∙ ap (λ x. x * groups) (sym same) ∙ mul_comm d groups in
     omega (arith, all, product, div-add-mod' seen d)
 
--- what was fed to the meter of the groups that have begun
-firsts-more : {F : Type 0} (fed : F → Type 0) (old new : F) (place : ℕ)
-    → (0 < place → new ≡ old)
-    → (place ≡ 0 → fed new)
-    → fed old
-    → fed new
-firsts-more fed old new place kept begun h = elim (cases_lt 0 place) as (λ _. fed new) [
-  | inl more ↦ subst fed (sym (kept more)) h
-  | inr none ↦ begun (omega (arith, none))
-]
-
--- so with one packet more, at this place in a group of d, which is n, where so many groups have begun
-pub firsts-next : {F : Type 0} (fed : (anchor : ℤ) → F → (stamp timestamp : ℕ → ℕ) → Type 0) (n d seen place begun : ℕ) (n0 anchor : ℤ) (old new : F)
-    (stamp timestamp : ℕ → ℕ) (at ticks : ℕ)
-    → n0 ≡ anchor
-    → d ≡ n
-    → seen % d ≡ place
-    → (place ≡ 0 → begun ≡ seen / d)
-    → (0 < place → new ≡ old)
-    → ((s t : ℕ → ℕ) → place ≡ 0 → fed n0 old s t → s begun ≡ at → t begun ≡ ticks → fed n0 new s t)
-    → stamp seen ≡ at
-    → timestamp seen ≡ ticks
-    → fed anchor old (firsts_of n stamp) (firsts_of n timestamp)
-    → fed anchor new (firsts_of n stamp) (firsts_of n timestamp)
-firsts-next fed n d seen place begun n0 anchor old new stamp timestamp at ticks same whole place_is begun_is kept begins at_is ticks_is h =
-    let first = firsts_of n stamp in
-    let ticks_first = firsts_of n timestamp in
-    let lifted = subst (λ a. fed a old first ticks_first) (sym same) h in
-    let here : place ≡ 0 → begun * n ≡ seen = λ none. first-is seen n d begun whole (place_is ∙ none) (begun_is none) in
-    subst (λ a. fed a new first ticks_first) same
-    (firsts-more (λ f. fed n0 f first ticks_first) old new place kept
-    (λ none. begins first ticks_first none lifted (ap stamp (here none) ∙ at_is) (ap timestamp (here none) ∙ ticks_is)) lifted)
-
 -- the numbers of the first packet of a group, by its stamp and timestamp
 pub since-first : (m : Media) (n0 there : ℤ) (stamp : ℕ → ℕ) (k seen at : ℕ) (x y : ℤ) → k ≡ seen → stamp seen ≡ at → there ≡ n0
     → x ≡ after_start m there seen at → y ≡ x → since_at m n0 stamp k ≡ y

@@ -14,9 +14,10 @@ use Rattle.drain_bucket.specs.Word.{bucket_of}
 use Rattle.drain_bucket.proofs.Reich.{count_is_load}
 use Rattle.read_schedule.proofs.Held.{held_at-is}
 use Rattle.read_schedule.proofs.Rising.{due-once, due-some}
+use Rattle.vrx_buffer.specs.Occupancy.{IsOccupancy, is_late}
 use Rattle.vrx_buffer.proofs.Instants.{keep-packets, packets-keep}
 use Rattle.flow_measure.specs.Bins.{above_limit}
-use Rattle.flow_measure.specs.Occupancy.{AreOccupancies, IsOccupancy, IsPeak, buckets_of, is_late, late_of}
+use Rattle.flow_measure.specs.Occupancy.{AreOccupancies, IsPeak, buckets_of, late_of}
 use Rattle.flow_measure.specs.Summary.{IsSummary}
 use Rattle.flow_measure.specs.declared.summary.Summary.{Summary}
 use Rattle.flow_measure.proofs.Counted.{count_of-none, none-above, none-count_of}

@@ -1,16 +1,21 @@
 -- Numbers have one summary and one list of columns, in which no peak is hidden.
-use Rattle.std.proofs.Common.{◌≡◌, ◌<◌, ◌≤◌, ◌+◌, ◌*◌, ◌/◌, ◌%◌, ℕ, ℤ, pos, ◌≤ℤ◌, List, length, inl, inr, ap, ◌∙◌, sym, refl, arith}
-use Rattle.std.proofs.Math.Nat.{div-eq_of_lt, mod-eq_of_lt}
+use Rattle.std.proofs.Common.{◌≡◌, ◌<◌, ◌≤◌, ◌+◌, ◌*◌, ◌/◌, ◌%◌, ℕ, ℤ, pos, ◌≤ℤ◌, List, length, Option, inl, inr, ap, ◌∙◌, sym, refl, arith}
+use Rattle.std.proofs.Math.Nat.{mul-le-mul_right}
 use Rattle.std.proofs.lemmas.Bool.{cases_lt, cases_order}
+use Rattle.std.proofs.lemmas.Grind.{div_ceil_times}
 use Rattle.std.proofs.lemmas.Int.{ints}
 use Rattle.std.proofs.lemmas.List.{ext_get_or}
-use Rattle.std.proofs.lemmas.Nat.{div-add-mod', div-mul-add, mod-mul-add}
-use Rattle.flow_measure.specs.Columns.{AreColumns, AreCurve, AreExtremes, column_at, greatest_at, least_at, places_in, width_of}
+use Rattle.std.proofs.lemmas.Nat.{div-add-mod', div-mul-add}
+use Rattle.std.specs.Int.{div_ceil}
+use Rattle.flow_measure.specs.Columns.{AreColumns, AreCurve, AreExtremes, column_at, columns_of, greatest_at, least_at, places_in, width_of}
+use Rattle.flow_measure.specs.Slope.{IsSlope, slope_of}
 use Rattle.flow_measure.specs.Summary.{IsGreatest, IsLeast, IsSummary}
 use Rattle.flow_measure.specs.Worked.{column, summary}
 use Rattle.flow_measure.specs.declared.columns.Extremes.{Extremes}
+use Rattle.flow_measure.specs.declared.columns.slope.Slope.{Slope}
 use Rattle.flow_measure.specs.declared.summary.Summary.{Summary}
 use Rattle.flow_measure.proofs.Bounds.{AreExtremes-one}
+use Rattle.flow_measure.proofs.Widths.{ceil-room, width-fits, width-some, width_of-is}
 
 -- there is one least number, and one greatest
 pub least-once : (numbers : ℕ → ℤ) (places : ℕ → Type 0) (x y : ℤ) → IsLeast numbers places x → IsLeast numbers places y → x ≡ y
@@ -97,25 +102,12 @@ greatest-shown column_of numbers count columns s h k =
     }
 
 -- where all numbers fit, each place is a column
-width-one : (count most : ℕ) → 1 ≤ count → count ≤ most → width_of count most ≡ 1
-width-one count most some fits = elim (cases_lt count most) as (λ _. width_of count most ≡ 1) [
-  | inl less ↦
-      let whole : count / most ≡ 0 = div-eq_of_lt less in
-      let rest : count % most ≡ count = mod-eq_of_lt less in
-      omega (arith, whole, rest, some)
-  | inr same ↦
-      let e : count ≡ 1 * most + 0 = omega (arith, fits, same) in
-      let whole : count / most ≡ 1 = ap (λ x. x / most) e ∙ div-mul-add 1 most 0 (omega (arith, some, e)) in
-      let rest : count % most ≡ 0 = ap (λ x. x % most) e ∙ mod-mul-add 1 most 0 (omega (arith, some, e)) in
-      omega (arith, whole, rest)
-]
-
 div-one : (i : ℕ) → i / 1 ≡ i
 div-one i = omega (arith, div-add-mod' i 1)
 
 fits-at : (count most i : ℕ) → i < count → count ≤ most → i / width_of count most ≡ i
 fits-at count most i few fits =
-    ap (λ w. i / w) (width-one count most (omega (arith, few)) fits) ∙ div-one i
+    ap (λ w. i / w) (width-fits count most fits) ∙ div-one i
 
 -- so there are as many columns as numbers
 pub fits-length : (most : ℕ) (numbers : ℕ → ℤ) (count : ℕ) (columns : List Extremes) → count ≤ most
@@ -140,3 +132,49 @@ fits-each most numbers count i columns fits few h =
     let alone : (k : ℕ) → places k → k ≡ i = λ k p. sym (fits-at count most k p.0 fits) ∙ p.1 in
     extremes-once numbers places (column_at columns i) (column (numbers i) (numbers i)) mine
     (AreExtremes-one numbers places i (column (numbers i) (numbers i)) (few, fits-at count most i few fits) alone refl refl)
+
+-- ---- how many columns a curve has
+
+-- columns of a width hold all numbers, and each has one
+held : (w : ℕ) (numbers : ℕ → ℤ) (count : ℕ) (columns : List Extremes) → 1 ≤ w → AreColumns (λ i. i / w) numbers count columns
+    → length columns ≡ div_ceil count w
+held w numbers count columns some h =
+    let long = length columns in
+    let fits = ceil-room count w some in
+    let tight = (div_ceil_times count w (omega (arith, some))).1 in
+    elim (cases_order long (div_ceil count w)) as (λ _. long ≡ div_ceil count w) [
+      | inl same ↦ same
+      | inr apart ↦ elim apart as (λ _. long ≡ div_ceil count w) [
+        | inl shorter ↦
+            let p : (long + 1) * w ≤ div_ceil count w * w = mul-le-mul_right w (omega (arith, shorter)) in
+            let inside : long * w < count = omega (arith, p, tight) in
+            let at : long * w / w ≡ long = omega (arith, whole long w some) in
+            absurd (omega (arith, h.within (long * w) inside, at))
+        | inr longer ↦
+            let r = (h.each (div_ceil count w) longer).least.reached in
+            let p : div_ceil count w * w ≤ r.0 / w * w = mul-le-mul_right w (omega (arith, (r.1).1)) in
+            absurd (omega (arith, p, div-add-mod' r.0 w, fits, (r.1).0))
+      ]
+    ]
+  where
+    whole : (k w : ℕ) → 1 ≤ w → k * w / w ≡ k
+    whole k w some = let e : k * w ≡ k * w + 0 = omega arith in ap (λ x. x / w) e ∙ div-mul-add k w 0 (omega (arith, some))
+
+pub curve-length : (most : ℕ) (numbers : ℕ → ℤ) (count : ℕ) (columns : List Extremes) → 1 ≤ most → AreCurve most numbers count columns
+    → length columns ≡ columns_of count most
+curve-length most numbers count columns some h = held (width_of count most) numbers count columns (width-some count most) h
+
+pub curve-short : (most : ℕ) (numbers : ℕ → ℤ) (count : ℕ) (columns : List Extremes) → 1 ≤ most → AreCurve most numbers count columns
+    → length columns ≤ most
+curve-short most numbers count columns some h =
+    omega (arith, curve-length most numbers count columns some h, (width_of-is count most some).fits)
+
+-- ---- slopes
+
+-- numbers have one slope
+pub slope-once : (most : ℕ) (numbers : ℕ → ℤ) (count : ℕ) (s other : Option Slope) → IsSlope most numbers count s
+    → IsSlope most numbers count other → s ≡ other
+slope-once most numbers count s other h k =
+    h.is
+    ∙ ap (slope_of count most) (columns-once (λ i. i / width_of count most) numbers count h.columns k.columns h.are k.are)
+    ∙ sym k.is

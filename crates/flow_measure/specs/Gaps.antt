@@ -1,5 +1,5 @@
--- The times from each packet to the next. `stamp` gives the nanoseconds at which each packet came, counted from 0, and
--- `count` says how many there are.
+-- The times from each packet to the next. `stamp` gives the capture timestamp of each packet in nanoseconds, counted
+-- from 0, and `count` is how many packets there are.
 use Rattle.std.specs.Prelude.{◌≡◌, ◌+◌, ◌-◌, ℕ, pos}
 use Rattle.flow_measure.specs.Stands.{Classifies}
 use Rattle.flow_measure.specs.Summary.{IsSummary}
@@ -10,12 +10,12 @@ use Rattle.flow_measure.specs.declared.numbers.Gaps.{Gaps}
 abbrev pub gap_after : (stamp : ℕ → ℕ) → ℕ → ℕ
 gap_after stamp i = stamp (i + 1) - stamp i
 
--- the classes have the first `count` numbers
+-- the classes hold the first `count` numbers
 pub record AreClassesOf (numbers : ℕ → ℕ) (count : ℕ) (c : Classes) : Type 0 where
   pub seen : c.seen ≡ count
   pub counts : Classifies c numbers
 
--- these are the times between the first `count` packets
+-- the times between the first `count` packets
 pub record AreGapsOf (stamp : ℕ → ℕ) (count : ℕ) (g : Gaps) : Type 0 where
   pub summary : IsSummary (λ i. pos (gap_after stamp i)) (count - 1) g.summary
   pub classes : AreClassesOf (gap_after stamp) (count - 1) g.classes

@@ -1,6 +1,7 @@
--- what is promised
+-- the definitions that public clauses use
 pub mod Summary
 pub mod Columns
+pub mod Slope
 pub mod Counts
 pub mod Bins
 pub mod Classes
@@ -10,22 +11,23 @@ pub mod Frames
 pub mod Broken
 pub mod First
 pub mod Stands
-pub mod Followed
 pub mod Gaps
 pub mod Groups
-pub mod Begun
 pub mod Kinds
-pub mod Fed
-pub mod Filled
-pub mod Metered
+pub mod Packets
 pub mod Run
+pub mod Measured
+-- the state of the meters of a run
+pub mod Fed
+pub mod Margins
+pub mod Metered
 pub mod RunStands
--- numbers that are worked by hand
+-- examples worked by hand
 pub mod Worked
--- these only serve proofs
+-- definitions for proofs alone
 pub mod Places
+pub mod Extremes
 pub mod Parts
-pub mod Own
--- what is promised of these modules
+-- the definitions of the modules `report` and `rows`
 pub mod report
 pub mod rows

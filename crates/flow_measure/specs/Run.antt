@@ -1,8 +1,8 @@
--- The numbers of one judged run: what SMPTE ST 2110-21's two models and the media clock of ST 2110-10 say of its
--- packets and groups. m is the video, n the packets of one group, and `groups` the groups. Of each judged packet,
--- counted from 0, `stamps` has the nanoseconds of TAI, `records` the record of the capture, counted from 1, and
--- `timestamps` the RTP timestamp in ticks of 90 kHz, which all packets of a group share. Which numbers these are is
--- this project's own.
+-- The measurements of one judged run: its packets against the two models of SMPTE ST 2110-21, and its frames or fields
+-- against the media clock of ST 2110-10. m is the video, n the packets per frame or field, and `groups` the count of
+-- frames or fields. For each judged packet, counted from 0, `stamps` has the capture timestamp in nanoseconds of TAI,
+-- `records` the packet record, from 1, and `timestamps` the RTP timestamp in ticks of 90 kHz, which all packets of a
+-- frame or field share. The choice of measurements is this project's own.
 use Rattle.std.specs.Prelude.{◌≡◌, ◌-◌, ◌*◌, ◌/◌, ◌≤◌, ℕ, ℤ, Bool, true, false, List, [], ◌∷◌, length, slice_index}
 use Rattle.std.specs.Prelude.{Option, None, MatchOption}
 use Rattle.std.specs.List.{slice_index_or}
@@ -23,11 +23,11 @@ use Rattle.flow_measure.specs.declared.numbers.Buffer.{Buffer}
 use Rattle.flow_measure.specs.declared.numbers.KindNumbers.{KindNumbers}
 use Rattle.flow_measure.specs.declared.numbers.RunNumbers.{RunNumbers}
 
--- after packet i the bucket holds more than C_MAX of this type
+-- the bucket exceeds C_MAX of this type just after packet i
 abbrev pub is_overfull : Media → ℕ → List ℕ → Kind → ℕ → Bool
 is_overfull m n stamps kind i = is_above (c_max_of m n kind) (buckets_of m n stamps i)
 
--- what is known of the packets of this type, where `occupancy` is what the buffer holds by its schedule
+-- the values of the packets for this type; `occupancy` is that of the buffer by its schedule
 abbrev pub packets_of : Media → ℕ → (stamps records : List ℕ) → (occupancy : ℕ → ℤ) → Kind → Packets
 packets_of m n stamps records occupancy kind = record {
   bucket = buckets_of m n stamps;
@@ -39,14 +39,14 @@ packets_of m n stamps records occupancy kind = record {
   stamp = slice_index stamps;
 }
 
--- how near the packets come to the limits of this type, where packet `named` is named
+-- the measurements of the packets against the limits of this type, with the place of packet `named`
 abbrev pub IsKind : Media → (n groups : ℕ) → (stamps records : List ℕ) → (occupancy : ℕ → ℤ) → Kind → Option ℕ
     → KindNumbers → Type 0
 IsKind m n groups stamps records occupancy kind named k =
     AreKindNumbers n groups (length stamps) (c_max_of m n kind) (vrx_full_of m n kind) named
     (packets_of m n stamps records occupancy kind) k
 
--- so of the types N, NL and W: the reads of N are gapped, those of the others linear
+-- the measurements for the types N, NL and W: the reads of N are gapped, those of NL and W linear
 abbrev pub AreKinds : Media → (n groups : ℕ) → (stamps records : List ℕ) → (gapped linear : ℕ → ℤ)
     → List (Option ℕ) → List KindNumbers → Type 0
 AreKinds m n groups stamps records gapped linear named (narrow ∷ narrow_linear ∷ wide ∷ []) =
@@ -55,7 +55,7 @@ AreKinds m n groups stamps records gapped linear named (narrow ∷ narrow_linear
     × IsKind m n groups stamps records linear W (slice_index_or named 2 None) wide
 AreKinds m n groups stamps records gapped linear named _ = ⊥
 
--- what the buffer held by the reads of one schedule
+-- the occupancy of the buffer by the reads of one schedule
 pub record IsBuffer (m : Media) (n : ℕ) (stamps : List ℕ) (gapped : Bool) (occupancy : ℕ → ℤ) (b : Buffer)
     : Type 0 where
   pub are : AreOccupancies m n stamps gapped occupancy
@@ -63,26 +63,26 @@ pub record IsBuffer (m : Media) (n : ℕ) (stamps : List ℕ) (gapped : Bool) (o
   pub slack : IsSlack m n stamps gapped b.margins.slack
   pub late : b.margins.late ≡ late_of m n stamps gapped
 
--- the number in the epoch of the group to which the first packet belongs
+-- the number of the first packet's frame or field, counted from the epoch
 abbrev pub anchor_in : Media → (stamps : List ℕ) → ℤ
 anchor_in m stamps = anchor_of m (slice_index stamps 0)
 
--- these are the numbers of the run; for N, NL and W, in this order, `named` is the packet that the verdict's fail names
+-- the measurements of the run; `named` has the packet that the verdict's violation names, for N, NL and W in this order
 pub record IsMeasured (m : Media) (n groups : ℕ) (stamps records timestamps : List ℕ) (named : List (Option ℕ))
     (x : RunNumbers) : Type 0 where
   pub whole : length stamps ≡ n * groups
-  -- what the buffer holds after each packet, by gapped reads and by linear ones
+  -- the occupancy of the buffer just after each packet, by gapped and by linear reads
   pub gapped_at : ℕ → ℤ
   pub linear_at : ℕ → ℤ
   pub bucket : IsSummary (buckets_of m n stamps) (length stamps) x.bucket
   pub gapped : IsBuffer m n stamps true gapped_at x.gapped
   pub linear : IsBuffer m n stamps false linear_at x.linear
   pub kinds : AreKinds m n groups stamps records gapped_at linear_at named x.kinds
-  -- of each group the first and the last packet against the instant with which the group begins
+  -- the first and the last packet of each frame or field against the instant at which it begins
   pub first : IsSummary (since_at m (anchor_in m stamps) (firsts_of n (slice_index stamps))) groups x.first
   pub last : IsSummary (since_at m (anchor_in m stamps) (lasts_of n (slice_index stamps))) groups x.last
   pub target : x.target ≡ (offset_time m).0 / (offset_time m).1
-  -- the timestamp of each group against that of the one before, that instant, and its first packet
+  -- each RTP timestamp against the one before, against the media clock at that instant, and against its first packet
   pub step : MatchOption x.step (groups - 1 ≡ 0)
       (IsSummary (step_after (firsts_of n (slice_index timestamps))) (groups - 1))
   pub offset : IsSummary (offset_at m (anchor_in m stamps) (firsts_of n (slice_index timestamps))) groups x.offset

@@ -1,21 +1,18 @@
--- What the meters of plain numbers say of the numbers that they were fed: `numbers` gives the number at each place,
--- and the first `seen` of them were fed.
-use Rattle.std.specs.Prelude.{◌≡◌, ◌<◌, ◌≤◌, ◌+◌, ◌*◌, ◌/◌, ◌%◌, ℕ, ℤ, Bool, List, length, slice_index}
-use Rattle.fraction128.specs.Fractions.{below, whole}
-use Rattle.timing_base.specs.Media.{Media}
-use Rattle.sender_params.specs.Reads.{read_of}
+-- The state of the meters of plain numbers after the numbers that they were fed. `numbers` gives the number at each
+-- place, and the first `seen` of them were fed.
+use Rattle.std.specs.Prelude.{◌≡◌, ◌<◌, ◌≤◌, ◌+◌, ◌-◌, ◌*◌, ◌/◌, ◌%◌, ℕ, ℤ, Bool, List, length, map, slice_index}
 use Rattle.flow_measure.specs.Bins.{above_limit, below_zero, in_bin}
 use Rattle.flow_measure.specs.Broken.{any_of, broken_groups}
 use Rattle.flow_measure.specs.Classes.{in_class}
 use Rattle.flow_measure.specs.Columns.{AreExtremes, column_at, places_in}
-use Rattle.flow_measure.specs.Counts.{count_of}
-use Rattle.flow_measure.specs.Own.{AreReadsOf, margin_in_parts}
-use Rattle.flow_measure.specs.Summary.{IsLeast, IsSummary}
+use Rattle.flow_measure.specs.Extremes.{extremes_of}
+use Rattle.flow_measure.specs.Summary.{IsSummary}
 use Rattle.flow_measure.specs.declared.bins.Bins.{Bins}
 use Rattle.flow_measure.specs.declared.broken.BrokenGroups.{BrokenGroups}
 use Rattle.flow_measure.specs.declared.classes.Classes.{Classes}
-use Rattle.flow_measure.specs.declared.columns.Columns.{Columns}
-use Rattle.flow_measure.specs.declared.margin.MarginMeter.{MarginMeter}
+use Rattle.flow_measure.specs.declared.columns.curve.Curve.{Curve}
+use Rattle.flow_measure.specs.declared.columns.Extremes.{Extremes}
+use Rattle.flow_measure.specs.declared.columns.eye.Eye.{Eye}
 use Rattle.flow_measure.specs.declared.summary.SummaryMeter.{SummaryMeter}
 
 -- the meter was fed these numbers
@@ -34,27 +31,31 @@ pub record Classifies (c : Classes) (numbers : ℕ → ℕ) : Type 0 where
   pub rest : (class : ℕ) → c.length ≤ class → in_class class numbers c.seen ≡ 0
   pub ends : (last : ℕ) → c.length ≡ last + 1 → 0 < in_class last numbers c.seen
 
--- the column to which the number at place i belongs
-abbrev pub column_of : Columns → ℕ → ℕ
-column_of c i = (i % c.group) / c.width
+-- the columns of a curve of numbers with these values
+abbrev pub curve_columns : {N : Type 0} → (value : N → ℤ) → Curve N → List Extremes
+curve_columns value c = map (extremes_of value) c.columns.items
 
--- the columns were fed these numbers
-pub record Draws (c : Columns) (numbers : ℕ → ℤ) : Type 0 where
-  pub within : (i : ℕ) → i < c.seen → column_of c i < c.begun
+-- the curve was fed these numbers
+pub record DrawsCurve {N : Type 0} (value : N → ℤ) (c : Curve N) (numbers : ℕ → ℤ) : Type 0 where
   pub each : (k : ℕ) → k < c.begun
-      → AreExtremes numbers (places_in (column_of c) c.seen k) (column_at c.columns.items k)
+      → AreExtremes numbers (places_in (λ i. i / c.width) c.seen k) (column_at (curve_columns value c) k)
 
--- the meter was fed packets of which these are broken
-pub record CountsBroken (b : BrokenGroups) (broken : ℕ → Bool) : Type 0 where
-  pub before : b.before ≡ broken_groups b.n broken (b.seen / b.n)
-  pub here : b.here ≡ any_of (λ j. broken ((b.seen / b.n) * b.n + j)) b.place
+-- the columns of an eye of numbers with these values
+abbrev pub eye_columns : {N : Type 0} → (value : N → ℤ) → Eye N → List Extremes
+eye_columns value e = map (extremes_of value) e.columns.items
 
--- the meter, of this schedule of a flow whose first packet is of group `anchor`, was fed packets with these stamps
-pub record Times (m : Media) (n : ℕ) (anchor : ℤ) (gapped : Bool) (meter : MarginMeter) (stamps : List ℕ) : Type 0 where
-  pub seen : meter.seen ≡ length stamps
-  pub reads : AreReadsOf m n anchor gapped meter.own.reads
-  -- the least margin so far, in parts of a nanosecond
-  pub least : 0 < length stamps
-      → IsLeast (margin_in_parts meter.own.reads stamps) (λ i. i < length stamps) meter.least
-  pub late : meter.late
-      ≡ count_of (λ i. below (read_of m n anchor gapped i) (whole (slice_index stamps i))) (length stamps)
+-- the column of an eye to which the number at place i belongs
+abbrev pub eye_column_of : {N : Type 0} → Eye N → ℕ → ℕ
+eye_column_of e i = (i % e.group) / e.width
+
+-- the eye was fed these numbers
+pub record DrawsEye {N : Type 0} (value : N → ℤ) (e : Eye N) (numbers : ℕ → ℤ) : Type 0 where
+  pub within : (i : ℕ) → i < e.seen → eye_column_of e i < e.begun
+  pub each : (k : ℕ) → k < e.begun
+      → AreExtremes numbers (places_in (eye_column_of e) e.seen k) (column_at (eye_columns value e) k)
+
+-- the counter was fed `seen` packets, in frames or fields of n packets, and `broken` is which of them are broken
+pub record CountsBroken (n : ℕ) (b : BrokenGroups) (broken : ℕ → Bool) (seen : ℕ) : Type 0 where
+  pub over : b.broken ≡ broken_groups n broken b.whole
+  pub here_is : b.here ≡ any_of (λ j. broken (b.whole * n + j)) (seen - b.whole * n)
+  pub begun : b.whole * n ≤ seen

@@ -1,10 +1,10 @@
--- The summary of whole numbers: the least and the greatest of them, their sum, the first and the last. `numbers`
--- gives the number at each place, counted from 0, and `count` says how many there are. All but `count` has the
--- numbers' unit. This project's own.
+-- The summary of whole numbers: their least, greatest, sum, first and last. `numbers` gives the number at each place,
+-- from 0, and `count` is how many there are. All values except `count` have the numbers' unit. This project's own
+-- definition.
 use Rattle.std.specs.Prelude.{◌≡◌, ◌<◌, ◌-◌, ℕ, zero, suc, ℤ, pos, ◌+ℤ◌, ◌≤ℤ◌}
 use Rattle.flow_measure.specs.declared.summary.Summary.{Summary}
 
--- x is the least of the numbers at these places: it is the number of one, and that of none is below it
+-- x is the least of the numbers at these places: it is one of them, and none is below it
 pub record IsLeast (numbers : ℕ → ℤ) (places : ℕ → Type 0) (x : ℤ) : Type 0 where
   pub least : (i : ℕ) → places i → x ≤ℤ numbers i
   pub reached : (i : ℕ) × (places i) × (numbers i ≡ x)
@@ -19,7 +19,7 @@ abbrev pub sum_of : (numbers : ℕ → ℤ) → (count : ℕ) → ℤ
 sum_of numbers zero = pos 0
 sum_of numbers (suc i) = sum_of numbers i +ℤ numbers i
 
--- the summary of the first `count` numbers, of which there is one at least
+-- the summary of the first `count` numbers, of which there is at least one
 pub record IsSummary (numbers : ℕ → ℤ) (count : ℕ) (s : Summary) : Type 0 where
   pub some : 0 < count
   pub least : IsLeast numbers (λ i. i < count) s.least

@@ -1,12 +1,12 @@
--- The counts that bins and classes tell.
+-- The counts that bins and classes return.
 use Rattle.std.specs.Prelude.{◌+◌, ◌/◌, ℕ, List, take}
 use Rattle.flow_measure.specs.declared.bins.Bins.{Bins}
 use Rattle.flow_measure.specs.declared.classes.Classes.{Classes}
 
--- how many numbers each bin has, in order, up to the bin of the limit
+-- the count of each bin, in order, up to the bin of the limit
 abbrev pub bin_counts : Bins → List ℕ
 bin_counts b = take (b.limit / b.width + 1) b.counts
 
--- how many numbers each class has, in order, up to the last one that has a number
+-- the count of each class, in order, up to the last class that has a number
 abbrev pub class_counts : Classes → List ℕ
 class_counts c = take c.length c.counts

@@ -1,8 +1,8 @@
--- what is promised
+-- the definitions that public clauses use
 pub mod Told
 pub mod Json
 pub mod Rows
--- numbers that are worked by hand
+-- examples worked by hand
 pub mod Examples
--- these only serve proofs
+-- definitions for proofs alone
 pub mod Line

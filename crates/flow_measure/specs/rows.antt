@@ -1,5 +1,5 @@
--- what is promised
-pub mod Packets
+-- the definitions that public clauses use
 pub mod Rows
--- these only serve proofs, and the crates above
+pub mod Told
+-- definitions for proofs alone
 pub mod making

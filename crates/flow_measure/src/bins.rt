@@ -1,33 +1,37 @@
-//! How often numbers come, up to a limit.
+//! Histogram of whole numbers up to a limit.
 
 ghost use Rattle.std.specs.Prelude.{◌≡◌, ◌<◌, ◌≤◌, ◌+◌, ◌/◌, ◌^◌, ℕ, ℤ, length, sum};
 ghost use Rattle.flow_measure.specs.Bins.{bin_width};
 
-/// The most bins that there are.
+/// The greatest number of bins.
 const MOST: usize = 64;
 
-/// Where a number belongs.
+/// The bin of a number, or the side on which it lies outside all bins.
 #[derive(Clone, Copy)]
 enum Place {
+    /// Below 0.
     Below,
-    /// The bin.
+    /// The index of the bin, from 0.
     Bin(usize),
+    /// Above the limit.
     Above,
 }
 
-/// How many of the numbers so far belong to each bin up to a limit, and how many to none.
+/// The histogram of the numbers so far: a count for each bin up to a limit, and the counts of the numbers outside all
+/// bins.
 #[derive(Clone, Copy)]
 pub struct Bins {
     /// The greatest number that belongs to a bin.
     pub limit: u64,
-    /// The numbers that a bin takes: bin b takes those from b times `width` on.
+    /// The numbers per bin: bin b takes the numbers from b * `width` to (b + 1) * `width` - 1, if they aren't above
+    /// `limit`.
     pub width: u64,
     counts: [u64; MOST],
-    /// How many numbers are above the limit.
+    /// The count of numbers above the limit.
     pub above: u64,
-    /// How many numbers are below 0.
+    /// The count of numbers below 0.
     pub below: u64,
-    /// The numbers fed.
+    /// The count of numbers fed.
     pub seen: u64,
     ghost width_is: { width ≡ bin_width limit },
     ghost few: { seen ≤ 2 ^ 41 },
@@ -41,7 +45,7 @@ impl Bins {
     ghost use Rattle.flow_measure.specs.Stands.{Counts};
     ghost use Rattle.flow_measure.specs.Told.{bin_counts};
 
-    /// The bins for a limit, before the first number: at most 64, as narrow as that allows.
+    /// Returns empty bins for a limit. There are at most 64 bins, as narrow as that allows.
     pub fn new(limit: u64) -> Bins
         ensures limit { result.limit ≡ limit }
         ensures width { result.width ≡ bin_width limit }
@@ -58,13 +62,14 @@ impl Bins {
         }
     }
 
-    /// Counts the next number, which comes so many times.
+    /// Counts the next `times` numbers, which all equal `number`.
+    #[inline(always)]
     pub fn feed(&mut self, number: i128, times: u64)
         requires few { self.old.seen + times ≤ 2 ^ 41 }
         ensures limit { self.new.limit ≡ self.old.limit }
         ensures seen { self.new.seen ≡ self.old.seen + times }
 
-        // Whatever numbers the bins were fed, they were now fed this one so many times, too.
+        // Whatever numbers the bins were fed before, `times` copies of `number` now follow them.
         ensures stands { (numbers : ℕ → ℤ) → Counts self.old numbers
             → ((j : ℕ) → j < times → numbers (self.old.seen + j) ≡ number) → Counts self.new numbers }
     {
@@ -77,7 +82,7 @@ impl Bins {
         }
     }
 
-    /// Whether a number is above the limit.
+    /// Returns whether a number is above the limit.
     #[inline(always)]
     pub fn is_above(&self, number: i128) -> bool
         ensures { result ≡ is_above self.now.limit number }
@@ -85,7 +90,7 @@ impl Bins {
         number > i128::from(self.limit)
     }
 
-    /// Where a number belongs.
+    /// Returns the bin of a number, or the side on which it lies outside.
     #[inline(always)]
     fn place_of(&self, number: i128) -> Place
         ensures value { result ≡ place_of self.now.limit number }
@@ -100,7 +105,8 @@ impl Bins {
         }
     }
 
-    /// The bin of a number that isn't above the limit.
+    /// Returns the index of the bin of a number that isn't above the limit.
+    #[inline(always)]
     fn bin_of(&self, number: u64) -> usize
         requires { number ≤ self.now.limit }
         ensures value { result ≡ number / self.now.width }
@@ -109,7 +115,7 @@ impl Bins {
         (number / self.width) as usize
     }
 
-    /// How many numbers each bin has, in order, up to the bin of the limit.
+    /// Returns the count of each bin, in order, up to the bin of the limit.
     pub fn counts(&self) -> &[u64]
         ensures value { result.now ≡ bin_counts self.now }
         ensures bins { (numbers : ℕ → ℤ) → Counts self.now numbers
@@ -119,7 +125,7 @@ impl Bins {
         ensures below { (numbers : ℕ → ℤ) → Counts self.now numbers
             → self.now.below ≡ below_zero numbers self.now.seen }
 
-        // Each number is counted once.
+        // Each number is counted exactly once.
         ensures all { (numbers : ℕ → ℤ) → Counts self.now numbers
             → sum result.now + self.now.above + self.now.below ≡ self.now.seen }
     {

@@ -1,19 +1,19 @@
-//! How often numbers come, in classes that double.
+//! Histogram of whole numbers, in classes that double.
 
 ghost use Rattle.std.specs.Prelude.{◌≡◌, ◌<◌, ◌≤◌, ◌+◌, ◌^◌, ℕ, length as list_length, max, sum, true};
 ghost use Rattle.flow_measure.specs.Classes.{is_in_class};
 
-/// The classes of the numbers below 2^63.
+/// The greatest number of classes: class 63 ends with 2^63 - 1.
 const MOST: usize = 64;
 
-/// How many of the numbers so far belong to each class: class 0 has the zeros, and class c, from 1 on, the
-/// numbers from 2^(c - 1) to 2^c - 1.
+/// The histogram of the numbers so far. Class 0 takes zeros, and class c, from 1 on, takes the numbers from 2^(c - 1)
+/// to 2^c - 1.
 #[derive(Clone, Copy)]
 pub struct Classes {
     counts: [u64; MOST],
-    /// The classes up to the last one that has a number.
+    /// The number of classes up to the last one that has a number.
     length: usize,
-    /// The numbers fed.
+    /// The count of numbers fed.
     pub seen: u64,
     ghost within: { length ≤ 64 },
     ghost few: { seen ≤ 2 ^ 41 },
@@ -26,7 +26,7 @@ impl Classes {
     ghost use Rattle.flow_measure.specs.Stands.{Classifies};
     ghost use Rattle.flow_measure.specs.Told.{class_counts};
 
-    /// The classes before the first number.
+    /// Returns the classes before the first number.
     pub fn new() -> Classes
         ensures seen { result.seen ≡ 0 }
         ensures stands { (numbers : ℕ → ℕ) → Classifies result numbers }
@@ -45,7 +45,7 @@ impl Classes {
         requires few { self.old.seen < 2 ^ 41 }
         ensures seen { self.new.seen ≡ self.old.seen + 1 }
 
-        // Whatever numbers the classes were fed, they were now fed this one, too.
+        // Whatever numbers the classes were fed before, this number now follows them.
         ensures stands { (numbers : ℕ → ℕ) → Classifies self.old numbers
             → numbers self.old.seen ≡ number → Classifies self.new numbers }
     {
@@ -55,13 +55,13 @@ impl Classes {
         self.seen += 1;
     }
 
-    /// How many numbers each class has, in order, up to the last one that has a number.
+    /// Returns the count of each class, in order, up to the last class that has a number.
     pub fn counts(&self) -> &[u64]
         ensures value { result.now ≡ class_counts self.now }
         ensures classes { (numbers : ℕ → ℕ) → Classifies self.now numbers
             → AreClasses numbers self.now.seen result.now }
 
-        // Each number is counted once.
+        // Each number is counted exactly once.
         ensures all { (numbers : ℕ → ℕ) → Classifies self.now numbers
             → sum result.now ≡ self.now.seen }
     {
@@ -69,7 +69,7 @@ impl Classes {
     }
 }
 
-/// Takes a length in the place of a shorter one.
+/// Raises a length to at least `least`.
 #[inline(always)]
 fn reach(length: &mut usize, least: usize)
     ensures { length.new ≡ max length.old least }
@@ -79,7 +79,7 @@ fn reach(length: &mut usize, least: usize)
     }
 }
 
-/// The class of a number.
+/// Returns the class of a number.
 fn class_of(number: u64) -> usize
     requires { number < 2 ^ 63 }
     ensures class { is_in_class result number ≡ true }

@@ -1,4 +1,4 @@
-//! Groups against the frames of their epoch, and RTP timestamps against the media clock.
+//! Frames or fields against the frame grid from the epoch, and RTP timestamps against the media clock.
 
 ghost use Rattle.std.specs.Prelude.{◌≡◌, ◌<◌, ◌≤◌, ◌^◌, pos, negsuc, neg_ℤ, ◌≤ℤ◌, ◌<ℤ◌, ◌-ℤ◌};
 ghost use Rattle.fraction128.specs.Fractions.{floor_of_signed};
@@ -9,30 +9,32 @@ use crate::groups::{GROUPS_BEFORE, lifted};
 use fraction128::floor_signed;
 use sender_params::Params;
 
-/// An RTP timestamp counts modulo so many ticks.
+/// The number of values of an RTP timestamp: it counts ticks modulo 2^32.
 const TURN: i128 = 1 << 32;
 
-/// Half of that.
+/// Half of `TURN`.
 const HALF_TURN: i128 = 1 << 31;
 
-/// The ticks of the media clock in `NANOS` nanoseconds.
+/// The ticks of the 90 kHz media clock in `NANOS` nanoseconds.
 const TICKS: u128 = 9;
 
 /// The nanoseconds in which the media clock ticks `TICKS` times.
 const NANOS: u128 = 100_000;
 
-/// The instant with which a group begins: `(num - before) / den` nanoseconds of TAI.
+/// The instant at which a frame or field begins: `(num - before) / den` nanoseconds of TAI.
 #[derive(Clone, Copy)]
 struct Start {
-    /// So much is counted from `GROUPS_BEFORE` groups before 0 of TAI.
+    /// The numerator, counted from `GROUPS_BEFORE` frames or fields before 0 of TAI.
     num: u128,
-    /// These groups.
+    /// The numerator of `GROUPS_BEFORE` frames or fields.
     before: u128,
+    /// The common denominator.
     den: u128,
 }
 
-/// By how many nanoseconds `at`, in nanoseconds of TAI, is after the instant with which the k-th judged
-/// group begins, rounded down, where the first packet is of group `n0`; below 0 where it is before.
+/// Returns the time from the instant at which the k-th judged frame or field begins to `at`, in nanoseconds, rounded
+/// down; below 0 if `at` is earlier. `at` is nanoseconds of TAI, `k` counts from 0, and `n0` is the number of the first
+/// packet's frame or field, counted from the epoch.
 pub fn since_start(params: &Params, n0: i128, k: u64, at: u64) -> i128
     requires low { negsuc 479 ≤ℤ n0 }
     requires high { n0 ≤ℤ pos (2 ^ 42) }
@@ -47,8 +49,9 @@ pub fn since_start(params: &Params, n0: i128, k: u64, at: u64) -> i128
     floor_difference(reached, start.num, start.den)
 }
 
-/// By how many ticks of 90 kHz the timestamp of the k-th judged group is after that of the instant with
-/// which the group begins, where the first packet is of group `n0`: -2^31 to 2^31 - 1.
+/// Returns by how many ticks of 90 kHz an RTP timestamp exceeds the media clock at the instant at which the k-th judged
+/// frame or field begins: -2^31 to 2^31 - 1. `k` counts from 0, and `n0` is the number of the first packet's frame or
+/// field, counted from the epoch.
 pub fn offset_of(params: &Params, n0: i128, k: u64, timestamp: u32) -> i128
     requires low { negsuc 479 ≤ℤ n0 }
     requires high { n0 ≤ℤ pos (2 ^ 42) }
@@ -62,8 +65,8 @@ pub fn offset_of(params: &Params, n0: i128, k: u64, timestamp: u32) -> i128
     wrap(i128::from(timestamp) - clock)
 }
 
-/// By how many ticks of 90 kHz a first packet at `at`, in nanoseconds of TAI, comes after its timestamp:
-/// -2^31 to 2^31 - 1.
+/// Returns by how many ticks of 90 kHz the media clock at `at`, in nanoseconds of TAI, exceeds an RTP timestamp: -2^31
+/// to 2^31 - 1.
 pub fn latency_of(at: u64, timestamp: u32) -> i128
     requires { at < 2 ^ 62 }
     ensures value { result ≡ timestamp_latency at timestamp }
@@ -73,14 +76,15 @@ pub fn latency_of(at: u64, timestamp: u32) -> i128
     wrap((u128::from(at) * TICKS / NANOS) as i128 - i128::from(timestamp))
 }
 
-/// The ticks of 90 kHz from the timestamp of one group to that of the next.
+/// Returns the ticks of 90 kHz from one RTP timestamp to the next, modulo 2^32.
 pub fn step_of(before: u32, timestamp: u32) -> u32
     ensures { result ≡ timestamp_step before timestamp }
 {
     timestamp.wrapping_sub(before)
 }
 
-/// The instant with which the k-th judged group begins, where the first packet is of group `n0`.
+/// Returns the instant at which the k-th judged frame or field begins. `n0` is the number of the first packet's frame
+/// or field, counted from the epoch.
 fn start_of(params: &Params, n0: i128, k: u64) -> Start
     requires low { negsuc 479 ≤ℤ n0 }
     requires high { n0 ≤ℤ pos (2 ^ 42) }
@@ -100,11 +104,11 @@ fn start_of(params: &Params, n0: i128, k: u64) -> Start
     }
 }
 
-/// `(up - down) / den`, rounded towards minus infinity.
-fn floor_difference(up: u128, down: u128, den: u128) -> i128
+/// Returns `(up - down) / den`, rounded towards minus infinity.
+pub(crate) fn floor_difference(up: u128, down: u128, den: u128) -> i128
     requires some { 1 ≤ den }
-    requires up_small { up < 2 ^ 100 }
-    requires down_small { down < 2 ^ 100 }
+    requires up_small { up < 2 ^ 124 }
+    requires down_small { down < 2 ^ 124 }
     ensures value { result ≡ floor_of_signed (pos up -ℤ pos down) den }
     ensures low { neg_ℤ (pos down) ≤ℤ result }
     ensures high { result ≤ℤ pos up }
@@ -112,7 +116,7 @@ fn floor_difference(up: u128, down: u128, den: u128) -> i128
     floor_signed(up as i128 - down as i128, den)
 }
 
-/// A difference of timestamps, from -2^31 to 2^31 - 1.
+/// Reduces a difference of RTP timestamps modulo 2^32 to -2^31 to 2^31 - 1.
 fn wrap(difference: i128) -> i128
     requires low { neg_ℤ (pos (2 ^ 100)) ≤ℤ difference }
     requires high { difference ≤ℤ pos (2 ^ 100) }

@@ -1,11 +1,12 @@
-//! The groups of the epoch, counted from the earliest one that there may be.
+//! Numbers of frames or fields, counted from the earliest possible one instead of from the epoch.
 
 ghost use Rattle.std.specs.Prelude.{◌≡◌, ◌≤◌, ◌+◌, ◌^◌, pos, negsuc, ◌≤ℤ◌, ◌+ℤ◌};
 
-/// The groups that a first read may be before 0 of TAI.
+/// The greatest number of frames or fields by which a first read may be before 0 of TAI.
 pub const GROUPS_BEFORE: u32 = 480;
 
-/// The number of a group, counted from `GROUPS_BEFORE` groups before 0 of TAI.
+/// Returns the number of a frame or field, counted from `GROUPS_BEFORE` frames or fields before 0 of TAI. `n0` is its
+/// number, counted from 0 of TAI.
 pub fn lifted(n0: i128) -> u128
     requires low { negsuc 479 ≤ℤ n0 }
     requires high { n0 ≤ℤ pos (2 ^ 42) }

@@ -1,40 +1,36 @@
-//! The numbers of one flow, packet by packet and group by group, what a picture of them has, and both in writing.
+//! Measurements of one flow, per packet and per frame or field, the columns of its pictures, and the reports of them.
 //!
-//! A [`SummaryMeter`], [`Columns`], [`Bins`] and [`Classes`] are fed whole numbers, one by one and in
-//! order. A [`ScheduleMeter`] and a [`MarginMeter`] are fed the stamps of the judged packets, and
-//! [`BrokenGroups`] whether each is broken. A [`RunMeter`] has all numbers of a judged run. None keeps a
-//! history: their size doesn't grow with what they are fed. Stamps are nanoseconds of TAI; numbers, packets
-//! and groups are counted from 0.
+//! A [`NumbersMeter`] collects all measurements of a judged run while the run is judged. It is made of a
+//! [`SummaryMeter`], [`Bins`] and [`Classes`], which are fed whole numbers in order, and of [`BrokenGroups`], which is
+//! fed whether each packet is broken. A [`Curve`] and an [`Eye`] hold the columns of a picture. No meter keeps a
+//! history: its size doesn't grow with the count of numbers fed. Capture timestamps are nanoseconds of TAI. Numbers,
+//! packets and groups are counted from 0. In identifiers, a group is a frame, or a field of interlaced video.
 //!
-//! - `laws`: what follows of the definitions, and numbers worked by hand.
-//! - `report`: the numbers of a capture's flows as JSON, and the line of a packet or a group.
-//! - `rows`: these lines of a judged run, made while its packets go by.
+//! - `laws`: theorems about the definitions, and numbers worked by hand.
+//! - `report`: the measurements of all flows of a capture as JSON, and the line of a packet or a frame.
+//! - `rows`: these lines of a judged run, written while the run is judged.
 #![tactic(auto)]
 
 mod bins;
 mod broken;
-mod bucket_meter;
+mod buffer;
 mod classes;
 mod columns;
 mod first;
-mod firsts;
 mod frames;
 mod gaps;
 mod group_meter;
 mod group_walk;
 mod groups;
 mod kind;
-mod kinds;
 pub mod laws;
 mod margin;
 mod meters;
-mod named;
+mod models;
 mod numbers;
-mod occupancy;
-mod reader;
+mod numbers_meter;
 pub mod report;
 pub mod rows;
-mod run;
 mod steps;
 mod summary;
 mod target;
@@ -42,11 +38,10 @@ mod target;
 pub use bins::Bins;
 pub use broken::BrokenGroups;
 pub use classes::Classes;
-pub use columns::{Columns, Extremes};
+pub use columns::{Curve, Extremes, Eye, Integer, Slope, width_of};
 pub use frames::{latency_of, offset_of, since_start, step_of};
 pub use group_walk::GroupWalk;
-pub use margin::{MarginMeter, Margins};
+pub use margin::Margins;
 pub use numbers::{Buffer, Gaps, KindNumbers, MeasuredFlow, MeasuredRun, Place, RunNumbers};
-pub use reader::{Held, ScheduleMeter};
-pub use run::RunMeter;
+pub use numbers_meter::{MeasuredRuns, NumbersMeter};
 pub use summary::{Summary, SummaryMeter};

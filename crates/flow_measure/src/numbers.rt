@@ -1,4 +1,4 @@
-//! The numbers of one judged run.
+//! The measurements of one judged run.
 
 use crate::bins::Bins;
 use crate::classes::Classes;
@@ -6,99 +6,105 @@ use crate::margin::Margins;
 use crate::summary::Summary;
 use timing_base::{Items, Judged, Verdict};
 
-/// What the receiver buffer held at each packet by the reads of one schedule.
+/// The occupancy of the receiver buffer by the reads of one schedule.
 #[derive(Clone, Copy)]
 pub struct Buffer {
-    /// What it held just after each packet, in packets, reads at that instant done; below 0 where the reads are ahead.
+    /// The occupancy just after each packet, in packets, with the reads at that instant done; below 0 if the reads are
+    /// ahead.
     pub occupancy: Summary,
-    /// By how much the packets come before their own reads.
+    /// The margin by which packets arrive before their own reads.
     pub margins: Margins,
 }
 
-/// Where in a capture a packet stands.
+/// The place of a packet in the capture.
 #[derive(Clone, Copy, Debug, PartialEq, Eq)]
 pub struct Place {
-    /// Its record, counted from 1.
+    /// The number of its packet record, from 1.
     pub record: u64,
-    /// Its stamp in nanoseconds, with the seconds that are added.
+    /// Its capture timestamp in nanoseconds, including the seconds that are added to get TAI.
     pub stamp: u64,
 }
 
-/// How near a run comes to the limits of one sender type, and how often it breaks them.
+/// The measurements of a run against the limits of one sender type.
 #[derive(Clone, Copy)]
 pub struct KindNumbers {
-    /// The groups that have a packet that breaks a model.
+    /// The count of frames or fields that have a packet that breaks a limit.
     pub groups_broken: u64,
-    /// How often the bucket holds how many packets, up to C_MAX.
+    /// The histogram of the bucket just after each packet, in packets, up to C_MAX.
     pub bucket: Bins,
-    /// How often the buffer holds how many packets, up to VRX_FULL, by the type's schedule.
+    /// The histogram of the buffer just after each packet by the type's schedule, in packets, up to VRX_FULL.
     pub buffer: Bins,
-    /// The first packet after which the bucket holds more than C_MAX.
+    /// The first packet after which the bucket holds more than C_MAX, from 0; `None` if there is none.
     pub first_bucket: Option<u64>,
-    /// The first packet after which the buffer holds more than VRX_FULL.
+    /// The first packet after which the buffer holds more than VRX_FULL, from 0; `None` if there is none.
     pub first_over: Option<u64>,
-    /// The first packet that comes after its own read.
+    /// The first packet that arrives after its own read, from 0; `None` if there is none.
     pub first_empty: Option<u64>,
-    /// Where packet `to` of the fail that the verdict names stands; none where the type passes.
+    /// The place of packet `to` of the violation in the verdict; `None` if the type passes.
     pub named: Option<Place>,
 }
 
 /// The times from each packet to the next, in nanoseconds.
 #[derive(Clone, Copy)]
 pub struct Gaps {
+    /// The least, the greatest, the sum, the first and the last of these times.
     pub summary: Summary,
+    /// The histogram of these times, in classes that double.
     pub classes: Classes,
 }
 
-/// The numbers of one judged run. Packets and groups count from 0.
+/// The measurements of one judged run. Packets, frames and fields are counted from 0.
 #[derive(Clone, Copy)]
 pub struct RunNumbers {
-    /// What the bucket held just after each packet, in packets.
+    /// The count of the bucket just after each packet, in packets.
     pub bucket: Summary,
-    /// The buffer by gapped reads, as type N has them.
+    /// The buffer by gapped reads, as for type N.
     pub gapped: Buffer,
-    /// The buffer by linear reads, as types NL and W have them.
+    /// The buffer by linear reads, as for types NL and W.
     pub linear: Buffer,
     /// The types N, NL and W, in this order.
     pub kinds: [KindNumbers; 3],
-    /// By how many nanoseconds the first packet of each group comes after the instant with which the group begins.
+    /// Nanoseconds from the instant at which each frame or field begins to its first packet.
     pub first: Summary,
-    /// The same of the last packet of each group.
+    /// Nanoseconds from the instant at which each frame or field begins to its last packet.
     pub last: Summary,
     /// TR_OFFSET (or TROFF) in nanoseconds, rounded down.
     pub target: u64,
-    /// From the RTP timestamp of each group to that of the next, in ticks; none where there is one group.
+    /// Ticks of 90 kHz from each RTP timestamp to that of the next frame or field; `None` if there is only one.
     pub step: Option<Summary>,
-    /// By how many ticks the timestamp of each group is after that of the instant with which the group begins.
+    /// Ticks by which each RTP timestamp exceeds the media clock at the instant at which its frame or field begins.
     pub offset: Summary,
-    /// From the timestamp of each group to its first packet, in ticks.
+    /// Ticks from each RTP timestamp to the first packet of its frame or field.
     pub latency: Summary,
-    /// From each packet to the next; none where there is one packet.
+    /// The times from each packet to the next; `None` if there is only one packet.
     pub gap: Option<Gaps>,
 }
 
-/// A judged run of a flow and its numbers.
+/// A judged run of a flow and its measurements.
 #[derive(Clone, Copy)]
 pub struct MeasuredRun {
-    /// Which of the flow's runs it is, judged or not, counted from 1.
-    pub run: u32,
-    /// The record of its first packet, head included, counted from 1.
+    /// The number of the run among all runs of the flow, judged or not, from 1.
+    pub run: u64,
+    /// The packet record of its first packet, head included, from 1.
     pub record: u64,
-    /// The number of that packet.
+    /// The 32-bit sequence number of that packet (RFC 4175).
     pub number: u32,
+    /// The verdict on the run, with its counts and peaks.
     pub judged: Judged,
+    /// The measurements.
     pub numbers: RunNumbers,
 }
 
 /// A flow and its judged runs.
 #[derive(Drop)]
 pub struct MeasuredFlow {
-    /// The media, counted from 0.
+    /// The index of its media, from 0.
     pub media: u32,
-    /// All packets of the flow in the capture, judged or not.
+    /// The count of its packets in the capture, judged or not.
     pub packets: u64,
-    /// The source of the first packet that is read, where one is.
+    /// The SSRC of the first packet that is read; `None` if no packet is read.
     pub ssrc: Option<u32>,
+    /// The verdict on the flow.
     pub verdict: Verdict,
     /// The judged runs alone, in order.
     pub runs: Items<MeasuredRun>,

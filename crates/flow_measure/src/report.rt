@@ -1,8 +1,8 @@
-//! The numbers of the flows of a capture as text: as JSON, and as comma-separated rows, packet by packet or group by
-//! group.
+//! The measurements of the flows of a capture as text: as JSON, and as comma-separated rows, one per packet or one per
+//! frame or field.
 //!
-//! The JSON is made whole, as a value; rows are written one by one, into memory that is used again. Stamps are
-//! nanoseconds since 1970-01-01 00:00:00, with the seconds that are added, and ticks are of 90 kHz.
+//! The JSON is made whole, as one string. Rows are written one by one, into memory that is reused. Capture timestamps
+//! are nanoseconds since 1970-01-01 00:00:00, including the seconds that are added to get TAI. Ticks are of 90 kHz.
 
 mod flow;
 mod json;

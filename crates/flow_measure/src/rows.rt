@@ -1,16 +1,15 @@
-//! The rows of a judged run: what the bucket and the receiver buffer hold at each packet, or what each group comes to.
+//! The rows of the judged runs of a flow: the levels of the bucket and of the receiver buffer at each packet, or the
+//! measurements of each frame or field.
 //!
-//! A `RunRows` is fed the judged packets of one run in order, and puts a line of comma-separated values behind a text: at each
-//! packet, or at the last packet of each group. Its size doesn't grow with what it is fed. Packets, groups and places count
-//! from 0, runs and records from 1; stamps are nanoseconds of TAI, RTP timestamps ticks of 90 kHz.
+//! A `RowsMeter` is fed the packets of one run in order. When a frame or field is judged, the meter appends lines of
+//! comma-separated values to a text: one line per packet, or one line for the frame or field. Packets, frames, fields
+//! and places count from 0, runs and packet records from 1. Capture timestamps are nanoseconds of TAI, RTP timestamps
+//! ticks of 90 kHz.
 
-mod groups;
 pub mod laws;
-mod levels;
-mod packets;
+mod maker;
+mod meter;
 mod rows;
 
-pub use groups::GroupRows;
-pub use levels::{Level, LevelMeter};
-pub use packets::PacketRows;
-pub use rows::{Rows, RunRows, header};
+pub use meter::RowsMeter;
+pub use rows::{Rows, header};

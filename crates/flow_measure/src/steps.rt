@@ -1,16 +1,16 @@
-//! From the RTP timestamp of each group to that of the next.
+//! The steps from the RTP timestamp of each frame or field to that of the next.
 
 ghost use Rattle.std.specs.Prelude.{◌≡◌, ◌<◌, ◌≤◌, ◌+◌, ◌-◌, ◌^◌, ℕ, MatchOption};
 
 use crate::frames::step_of;
 use crate::summary::{Summary, SummaryMeter};
 
-/// The steps from the RTP timestamp of each group so far to that of the next, in ticks of 90 kHz.
+/// A meter of the steps from each RTP timestamp so far to the next, in ticks of 90 kHz.
 #[derive(Clone, Copy)]
 pub struct StepMeter {
-    /// The groups fed.
+    /// The count of frames or fields fed.
     pub seen: u64,
-    /// The timestamp of the last one, and 0 before the first.
+    /// The RTP timestamp of the last one; 0 before the first.
     last: u32,
     summary: SummaryMeter,
     ghost few: { seen ≤ 2 ^ 41 },
@@ -22,7 +22,7 @@ impl StepMeter {
     ghost use Rattle.flow_measure.specs.Groups.{step_after};
     ghost use Rattle.flow_measure.specs.Summary.{IsSummary};
 
-    /// The meter before the first group.
+    /// Returns the meter before the first frame or field.
     pub fn new() -> StepMeter
         ensures seen { result.seen ≡ 0 }
         ensures stands { (timestamp : ℕ → ℕ) → MeasuresSteps result timestamp }
@@ -34,12 +34,12 @@ impl StepMeter {
         }
     }
 
-    /// Takes in the timestamp of the next group.
+    /// Takes the RTP timestamp of the next frame or field.
     pub fn feed(&mut self, ticks: u32)
         requires few { self.old.seen < 2 ^ 41 }
         ensures seen { self.new.seen ≡ self.old.seen + 1 }
 
-        // Whatever groups the meter was fed, it was now fed this one, too.
+        // Whatever frames or fields the meter was fed before, this one now follows them.
         ensures stands { (timestamp : ℕ → ℕ) → MeasuresSteps self.old timestamp → timestamp self.old.seen ≡ ticks
             → MeasuresSteps self.new timestamp }
     {
@@ -54,7 +54,7 @@ impl StepMeter {
         self.last = ticks;
     }
 
-    /// The steps, where there are two groups or more.
+    /// Returns the summary of the steps, or `None` if there are fewer than two frames or fields.
     pub fn finish(&self) -> Option<Summary>
         ensures { (timestamp : ℕ → ℕ) → MeasuresSteps self.now timestamp
             → MatchOption result (self.now.seen - 1 ≡ 0) (IsSummary (step_after timestamp) (self.now.seen - 1)) }

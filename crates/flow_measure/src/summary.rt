@@ -3,7 +3,7 @@
 ghost use Rattle.std.specs.Prelude.{◌≡◌, ◌<◌, ◌≤◌, ◌+◌, ◌*◌, ◌^◌, ℕ, ℤ, pos, neg_ℤ, ◌≤ℤ◌, ◌*ℤ◌, MatchOption};
 ghost use Rattle.std.specs.Int.{int_max, int_min};
 
-/// The summary of whole numbers, of which there is one at least. It has their unit.
+/// The summary of whole numbers, of which there is at least one. It has their unit.
 #[derive(Clone, Copy)]
 pub struct Summary {
     /// The least of them.
@@ -19,7 +19,7 @@ pub struct Summary {
 }
 
 impl Summary {
-    /// The summary of one number.
+    /// Returns the summary of one number.
     fn of(number: i128) -> Summary
         ensures least { result.least ≡ number }
         ensures greatest { result.greatest ≡ number }
@@ -37,12 +37,12 @@ impl Summary {
     }
 }
 
-/// The summary of the numbers so far.
+/// A meter of the summary of the numbers so far.
 #[derive(Clone, Copy)]
 pub struct SummaryMeter {
-    /// The numbers fed.
+    /// The count of numbers fed.
     pub seen: u64,
-    /// Their summary; before the first, that of 0.
+    /// Their summary; that of a single 0 before the first number.
     so_far: Summary,
     ghost few: { seen ≤ 2 ^ 41 },
     ghost sum_low: { neg_ℤ (pos (seen * 2 ^ 84)) ≤ℤ so_far.sum },
@@ -53,7 +53,7 @@ impl SummaryMeter {
     ghost use Rattle.flow_measure.specs.Stands.{Summarizes};
     ghost use Rattle.flow_measure.specs.Summary.{IsSummary};
 
-    /// The meter before the first number.
+    /// Returns the meter before the first number.
     pub fn new() -> SummaryMeter
         ensures seen { result.seen ≡ 0 }
         ensures stands { (numbers : ℕ → ℤ) → Summarizes result numbers }
@@ -64,7 +64,7 @@ impl SummaryMeter {
         }
     }
 
-    /// Takes the next number in.
+    /// Takes the next number.
     #[inline(always)]
     pub fn feed(&mut self, number: i128)
         requires low { neg_ℤ (pos (2 ^ 84)) ≤ℤ number }
@@ -72,7 +72,7 @@ impl SummaryMeter {
         requires few { self.old.seen < 2 ^ 41 }
         ensures seen { self.new.seen ≡ self.old.seen + 1 }
 
-        // Whatever numbers the meter was fed, it was now fed this one, too.
+        // Whatever numbers the meter was fed before, this number now follows them.
         ensures stands { (numbers : ℕ → ℤ) → Summarizes self.old numbers
             → numbers self.old.seen ≡ number → Summarizes self.new numbers }
     {
@@ -88,7 +88,7 @@ impl SummaryMeter {
         self.so_far.last = number;
     }
 
-    /// Takes in the next number, which comes so many times.
+    /// Takes the next `times` numbers, which all equal `number`.
     pub(crate) fn feed_often(&mut self, number: i128, times: u64)
         requires low { neg_ℤ (pos (2 ^ 84)) ≤ℤ number }
         requires high { number ≤ℤ pos (2 ^ 84) }
@@ -96,7 +96,7 @@ impl SummaryMeter {
         requires few { self.old.seen + times ≤ 2 ^ 41 }
         ensures seen { self.new.seen ≡ self.old.seen + times }
 
-        // Whatever numbers the meter was fed, it was now fed this one so many times, too.
+        // Whatever numbers the meter was fed before, `times` copies of `number` now follow them.
         ensures stands { (numbers : ℕ → ℤ) → Summarizes self.old numbers
             → ((j : ℕ) → j < times → numbers (self.old.seen + j) ≡ number) → Summarizes self.new numbers }
     {
@@ -106,7 +106,7 @@ impl SummaryMeter {
         self.seen += more;
     }
 
-    /// The summary of the numbers that were fed, if there is one.
+    /// Returns the summary of the numbers fed, or `None` if there is none.
     pub fn finish(&self) -> Option<Summary>
         ensures { (numbers : ℕ → ℤ) → Summarizes self.now numbers
             → MatchOption result (self.now.seen ≡ 0) (IsSummary numbers self.now.seen) }
@@ -115,7 +115,7 @@ impl SummaryMeter {
     }
 }
 
-/// A number so many times.
+/// Returns `number` times `times`.
 fn product(number: i128, times: u64) -> i128
     requires low { neg_ℤ (pos (2 ^ 84)) ≤ℤ number }
     requires high { number ≤ℤ pos (2 ^ 84) }
@@ -127,7 +127,7 @@ fn product(number: i128, times: u64) -> i128
     number * i128::from(times)
 }
 
-/// Takes a number in the place of a greater one.
+/// Lowers `least` to `number` if that is less.
 #[inline(always)]
 pub fn lessen(least: &mut i128, number: i128)
     ensures { least.new ≡ int_min least.old number }
@@ -137,7 +137,7 @@ pub fn lessen(least: &mut i128, number: i128)
     }
 }
 
-/// Takes a number in the place of one that is less.
+/// Raises `greatest` to `number` if that is greater.
 #[inline(always)]
 pub fn raise(greatest: &mut i128, number: i128)
     ensures { greatest.new ≡ int_max greatest.old number }

@@ -1,6 +1,6 @@
--- The head of the page with all styles, its heading, how the capture ends, what the marks of the pictures are, and
--- the page's end. It needs nothing else: no script, and nothing that is fetched. A name is escaped, and its direction
--- is its own (HTML Standard, `bdi`). This project's own.
+-- The head of the page with all styles, its heading, the line on how the capture ends, the legend of the pictures, and
+-- the end of the page. The page has no script and loads no other file. A name is escaped, and has its own text
+-- direction (HTML Standard, `bdi`). This project's own format.
 use Rattle.std.specs.Prelude.{ℕ, List, ◌++◌, codes}
 use Rattle.timing_base.specs.declared.capture.FileNote.{FileNote}
 use Rattle.timing_report.specs.Words.{note_text}
@@ -45,21 +45,22 @@ styles =
     ++ codes "ody><h1>Sender timing: <bdi>"
     ))))))))))))))))))))))))))))))))
 
--- from the first byte to the title, for a capture of this name
+-- the first bytes of the page, up to the title
 unfoldable pub front : List ℕ
 front =
     codes "<!DOCTYPE html><html lang=\"en\"><head><meta charset=\"utf-8\"><meta name=\"viewport\""
     ++ codes " content=\"width=device-width,initial-scale=1\"><title>"
 
+-- the start of the page of a capture with this name
 abbrev pub page_start : List ℕ → List ℕ
 page_start name = told front name ++ (told styles name ++ codes "</bdi></h1>\n")
 
--- how the capture ends
+-- the line on how the capture ends
 abbrev pub note_line : FileNote → List ℕ
 note_line note =
     codes "<p>By SMPTE ST 2110-21. How the capture ends: " ++ (note_text note ++ codes ".</p>\n")
 
--- what the marks are
+-- the legend of the pictures
 unfoldable pub legend : List ℕ
 legend =
     codes "<p class=\"legend\">In the curves each mark spans the least and the greatest number of its packets o"
@@ -71,6 +72,6 @@ legend =
     ++ (codes "what is beyond a limit stands behind the limit's line, or before 0, and is named so. Packets and fra"
     ++ codes "mes count from 0, records from 1.</p>\n"))))))
 
--- the end of it
+-- the end of the page
 abbrev pub page_end : List ℕ
 page_end = codes "</body></html>\n"

@@ -1,4 +1,4 @@
--- what is promised
+-- the definitions that public clauses use
 pub mod Words
 pub mod Shown
 pub mod Media
@@ -9,8 +9,8 @@ pub mod Timings
 pub mod Often
 pub mod Around
 pub mod Page
--- what is worked by hand
+-- examples worked by hand
 pub mod Worked
--- what is promised of these modules
+-- the definitions of the modules `chart` and `drawing`
 pub mod chart
 pub mod drawing

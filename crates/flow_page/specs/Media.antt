@@ -1,6 +1,6 @@
--- The table of the media of a session: a row for each, with its verdict, the packets of a group, the class and the type
--- that is declared, and of each sender type pass or fail and the peaks with their limits. Media count from 1 there.
--- This project's own.
+-- The table of the media of a session. The row of a media has its verdict, the packets per frame or field, the class
+-- and the declared type, and for each sender type pass or fail and the peaks with their limits. Media count from 1
+-- there. This project's own format.
 use Rattle.std.specs.Prelude.{ℕ, ◌+◌, ◌<◌, List, ◌++◌, codes, All, length, Option, Some, None}
 use Rattle.std.specs.Fmt.{decimal}
 use Rattle.std.specs.List.{flat_map}
@@ -21,7 +21,7 @@ use Rattle.flow_page.specs.declared.shown.FlowPage.{FlowPage}
 use Rattle.flow_page.specs.declared.shown.ShownRun.{ShownRun}
 use Rattle.flow_page.specs.declared.shown.TypeShown.{TypeShown}
 
--- the begin of the table, in a box of its own
+-- the start of the table, in a box of its own
 unfoldable pub media_open : List ℕ
 media_open =
     codes "<div class=\"scroll\"><table><thead><tr><th>Flow</th><th>Verdict</th><th>Packets</th><th>Frames</th>"
@@ -32,44 +32,44 @@ media_open =
 abbrev pub table_close : List ℕ
 table_close = codes "</tbody></table></div>\n"
 
--- pass or fail, and peaks of limits
+-- the cells of a type: pass or fail, and the peaks with their limits
 abbrev pub type_cells : TypeShown → List ℕ
 type_cells t =
     codes "<td>" ++ (sign_text t.verdict ++ (codes "</td><td>" ++ (decimal t.bucket_peak ++ (codes " of "
     ++ (decimal t.c_max ++ (codes "</td><td>" ++ (decimal t.buffer_peak ++ (codes " of " ++ (decimal t.vrx_full
     ++ codes "</td>")))))))))
 
--- the packets of a group, the groups, the class, and the type that is declared
+-- the packets per frame or field, the count of frames or fields, the class, and the declared type
 abbrev pub run_cells : Media → Judged → List ℕ
 run_cells media judged =
     codes "</td><td>" ++ (decimal judged.n ++ (codes " per " ++ (group_name media.interlaced ++ (codes "</td><td>"
     ++ (decimal judged.frames ++ (codes "</td><td>" ++ (class_name (first_passing judged) ++ (codes "</td><td>"
     ++ (declared_name media.declared ++ codes "</td>")))))))))
 
--- of a run that is shown, if any
+-- the cells of the run that is shown, if there is one
 abbrev pub shown_cells : Media → Option ShownRun → List ℕ
 shown_cells media None = codes "</td></tr>\n"
 shown_cells media (Some s) =
     run_cells media s.run.judged
     ++ (flat_map type_cells (types_shown s.run.judged s.run.numbers) ++ codes "</tr>\n")
 
--- which flow it is
+-- the start of a row, with the number and the target of its flow
 abbrev pub row_open : (number : ℕ) → Target → List ℕ
 row_open number target =
     codes "<tr><th>" ++ (decimal number ++ (codes " " ++ (target_text target ++ codes "</th>")))
 
--- a verdict in few words, as the table tells the rest
+-- a verdict in few words, since other cells have the rest
 abbrev pub verdict_told : Media → Verdict → List ℕ
 verdict_told media (verdict.Judged judged) = codes "judged"
 verdict_told media (verdict.Unjudged unjudged) = verdict_text media (verdict.Unjudged unjudged)
 verdict_told media (verdict.Runs runs) = verdict_text media (verdict.Runs runs)
 
--- where nothing is judged it takes the whole row
+-- the start of the verdict's cell, which takes the whole row if no run is judged
 abbrev pub verdict_open : Option ShownRun → List ℕ
 verdict_open None = codes "<td colspan=\"14\">"
 verdict_open (Some s) = codes "<td>"
 
--- a flow of this media
+-- the row of a flow of this media
 abbrev pub media_row : Media → FlowPage → List ℕ
 media_row media f =
     row_open (f.flow.media + 1) (target_of media)
@@ -79,7 +79,7 @@ media_row media f =
 abbrev pub flow_media : List Media → FlowPage → Media
 flow_media session f = media_of session (key_of 0 f.flow.media)
 
--- each flow is of a media of the session
+-- each flow belongs to a media of the session
 abbrev pub AreOfMedia : List Media → List FlowPage → Type 0
 AreOfMedia session flows = All (λ f. f.flow.media < length session) flows
 

@@ -1,5 +1,5 @@
--- The pictures of how often bucket and buffer hold so many packets, for each type, and how often so much time is
--- between two packets. This project's own.
+-- Histograms as pictures: of the packets in bucket and buffer for each type, and of the times between packets. This
+-- project's own format.
 use Rattle.std.specs.Prelude.{ℕ, pos, ◌+◌, ◌*◌, ◌^◌, ◌==◌, nat_lt, if◌then◌else◌, Bool, true, false}
 use Rattle.std.specs.Prelude.{List, [], ◌∷◌, ◌++◌, codes, Option, Some, None}
 use Rattle.std.specs.Fmt.{decimal, signed_decimal}
@@ -18,13 +18,13 @@ use Rattle.flow_page.specs.declared.chart.grid.UnitAcross.TheVariants as across
 use Rattle.flow_page.specs.Shown.{kind_at}
 use Rattle.flow_page.specs.Words.{counted}
 
--- bars of bins, from one on
+-- the bars of bins from bin k on
 abbrev pub width_bars : (width k : ℕ) → List ℕ → List Bar
 width_bars width k [] = []
 width_bars width k (count ∷ counts) =
     record { name = From (k * width); count = count } ∷ width_bars width (k + 1) counts
 
--- what is below 0, where that can be
+-- the bar of the numbers below 0, if there can be any
 abbrev pub below_bars : Bool → ℕ → List Bar
 below_bars true below = record { name = Below; count = below } ∷ []
 below_bars false below = []
@@ -35,57 +35,60 @@ bins_bars b signed =
     below_bars signed b.below
     ++ (width_bars b.width 0 (bin_counts b) ++ record { name = Above b.limit; count = b.above } ∷ [])
 
--- where the next class begins: at 1 after 0, and else at the double
+-- the first number of the next class: 1 after 0, and twice the first number of this class otherwise
 abbrev pub next_class : ℕ → ℕ
 next_class first = if first == 0 then 1 else if nat_lt first (2 ^ 100) then 2 * first else first
 
--- bars of classes, the first of which begins there
+-- the bars of classes, the first of which begins at `first`
 abbrev pub class_bars : (first : ℕ) → List ℕ → List Bar
 class_bars first [] = []
 class_bars first (count ∷ counts) =
     record { name = From first; count = count } ∷ class_bars (next_class first) counts
 
--- the title of a type's bucket or buffer
+-- the title of the histogram of a type's bucket or buffer
 abbrev pub often_title : (what : List ℕ) → Kind → List ℕ
 often_title what kind = codes "How often: " ++ (what ++ (codes ", " ++ kind_name kind))
 
--- how many packets of all are above the limit
+-- the text on how many of all packets are above the limit
 unfoldable pub above_of : (above seen : ℕ) → List ℕ
 above_of above seen =
     decimal above ++ (codes " of " ++ (counted (pos seen) (codes "packet") ++ codes " above"))
 
--- what is told beside it
+-- the text beside a histogram
 abbrev pub often_detail : Bins → List ℕ
 often_detail b =
     codes "limit " ++ (decimal b.limit ++ (codes "; " ++ (above_of b.above b.seen ++ (codes ", "
     ++ (decimal b.below ++ codes " below 0")))))
 
+-- the histogram of a type's bucket or buffer
 abbrev pub often_figure : (what : List ℕ) → Kind → UnitAcross → (signed : Bool) → Bins → List ℕ
 often_figure what kind along signed b =
     bars_figure (often_title what kind) (often_detail b) along b.seen (bins_bars b signed)
 
--- the two of a type
+-- the two histograms of a type
 unfoldable pub often_kind : Kind → KindNumbers → List ℕ
 often_kind kind k =
     often_figure (codes "bucket") kind across.Bucket false k.bucket
     ++ often_figure (codes "buffer") kind across.Buffer true k.buffer
 
--- those of the types from a place on
+-- the histograms of the types from a place on
 abbrev pub often_from : (place : ℕ) → List KindNumbers → List ℕ
 often_from place [] = []
 often_from place (k ∷ ks) = often_kind (kind_at place) k ++ often_from (place + 1) ks
 
--- the times from packet to packet, where there are two
+-- the text beside the histogram of the times between packets
 abbrev pub gap_detail : Summary → List ℕ
 gap_detail s =
     codes "least " ++ (signed_decimal s.least ++ (codes ", most " ++ (signed_decimal s.greatest
     ++ codes " ns; each bar goes up to the double of where it begins")))
 
+-- the histogram of the times between packets
 abbrev pub gaps_figure : Gaps → List ℕ
 gaps_figure g =
     bars_figure (codes "Time from packet to packet") (gap_detail g.summary) across.Gap g.classes.seen
     (class_bars 0 (class_counts g.classes))
 
+-- the histogram of the times between packets, if there are two packets
 abbrev pub gap_figure : Option Gaps → List ℕ
 gap_figure None = []
 gap_figure (Some g) = gaps_figure g

@@ -1,6 +1,6 @@
--- The whole page of a capture: the table of its media, of each flow with a judged run the pictures and the numbers of
--- one run, and what else the capture holds. Stamps are nanoseconds; media count from 1 in the text. This project's
--- own.
+-- The whole page of a capture: the table of its media, for each flow with a judged run the pictures and the
+-- measurements of one run, and the other contents of the capture. Capture timestamps are nanoseconds. Media count from
+-- 1 in the text. This project's own format.
 use Rattle.std.specs.Prelude.{ℕ, ◌+◌, List, [], ◌++◌, codes, Option, Some, None}
 use Rattle.std.specs.Fmt.{decimal}
 use Rattle.std.specs.List.{flat_map}
@@ -26,18 +26,18 @@ use Rattle.flow_page.specs.declared.shown.FlowPage.{FlowPage}
 use Rattle.flow_page.specs.declared.shown.ShownRun.{ShownRun}
 use Rattle.flow_page.specs.declared.shown.TypeShown.{TypeShown}
 
--- which flow a part of the page is of
+-- the heading of a flow
 abbrev pub flow_heading : (number : ℕ) → Target → List ℕ
 flow_heading number target =
     codes "<h2>Flow " ++ (decimal number ++ (codes ", " ++ (target_text target ++ codes "</h2>\n")))
 
--- which run, and when its first and its last judged packet come
+-- the line that names a run, with the times of its first and last judged packet
 abbrev pub run_heading : (run place first last : ℕ) → List ℕ
 run_heading run place first last =
     codes "<p>Run " ++ (decimal run ++ (codes ", from record " ++ (decimal place ++ (codes "; judged packets from "
     ++ (clock_text first ++ (codes " to " ++ (clock_text last ++ codes " UTC.</p>\n")))))))
 
--- the types in words
+-- the list of the results of all types, in words
 abbrev pub words_list : List TypeShown → (group : List ℕ) → (tai : ℕ) → List ℕ
 words_list types group tai =
     codes "<ul class=\"words\">\n" ++ (flat_map (λ t. type_words t group tai) types ++ codes "</ul>\n")
@@ -49,11 +49,11 @@ run_grid media s types =
     ++ (timing_figures (period_of media) s ++ (often_from 0 s.run.numbers.kinds ++ (gap_figure s.run.numbers.gap
     ++ (around_figures types s.regions ++ codes "</div>\n"))))))
 
--- its numbers, and those of all judged runs of its flow
+-- the tables of a run: its measurements, its types, and all judged runs of its flow
 unfoldable pub run_tables : ShownRun → List TypeShown → List MeasuredRun → List ℕ
 run_tables s types runs = numbers_table s.run.numbers ++ (types_table types ++ runs_table runs)
 
--- a run
+-- the part of a run
 unfoldable pub run_part : (tai : ℕ) → Media → MeasuredFlow → ShownRun → List TypeShown → List ℕ
 run_part tai media flow s types =
     flow_heading (flow.media + 1) (target_of media)
@@ -61,27 +61,28 @@ run_part tai media flow s types =
     ++ (words_list types (group_name media.interlaced) tai ++ (steps_line media s.run.numbers.step
     ++ (run_grid media s types ++ run_tables s types flow.runs))))
 
--- where a run is shown
+-- the part of a flow, if a run is shown
 abbrev pub part_if : (tai : ℕ) → Media → MeasuredFlow → Option ShownRun → List ℕ
 part_if tai media flow None = []
 part_if tai media flow (Some s) = run_part tai media flow s (types_shown s.run.judged s.run.numbers)
 
+-- the part of a flow of the page
 abbrev pub flow_part : (tai : ℕ) → Media → FlowPage → List ℕ
 flow_part tai media f = part_if tai media f.flow f.shown
 
--- all flows
+-- the parts of all flows
 abbrev pub flow_parts : (tai : ℕ) → List Media → List FlowPage → List ℕ
 flow_parts tai session flows = flat_map (λ f. flow_part tai (flow_media session f) f) flows
 
--- lines under their heading
+-- the start of the section on what the capture contains, with these lines
 abbrev pub contents_told : List ℕ → List ℕ
 contents_told lines = told (codes "<h2>What the capture holds</h2>\n<div class=\"scroll\"><pre>") lines
 
--- what the capture holds, told in these lines
+-- the section on what the capture contains
 unfoldable pub contents_part : List ℕ → List ℕ
 contents_part lines = contents_told lines ++ codes "</pre></div>\n"
 
--- the page of a capture of this name that ends so, with what it holds in these lines
+-- the page of a capture with this name and this end; `lines` is what the capture contains
 abbrev pub page_of : List ℕ → FileNote → (tai : ℕ) → List Media → List FlowPage → List ℕ → List ℕ
 page_of name note tai session flows lines =
     page_start name ++ (note_line note ++ (media_table session flows ++ (legend ++ (flow_parts tai session flows

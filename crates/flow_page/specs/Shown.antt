@@ -1,5 +1,5 @@
--- What a judged run shows of each sender type, as the page tells it. Units and meanings are those of the fields of
--- `TypeShown`.
+-- The values of a judged run for each sender type, as the page shows them. Units and meanings are those of the fields
+-- of `TypeShown`.
 use Rattle.std.specs.Prelude.{ℕ, zero, suc, ◌+◌, List, [], ◌∷◌}
 use Rattle.timing_base.specs.Verdicts.{Judged}
 use Rattle.timing_base.specs.declared.media.Kind.{Kind}
@@ -10,13 +10,13 @@ use Rattle.flow_measure.specs.declared.numbers.KindNumbers.{KindNumbers}
 use Rattle.flow_measure.specs.declared.numbers.RunNumbers.{RunNumbers}
 use Rattle.flow_page.specs.declared.shown.TypeShown.{TypeShown}
 
--- the reads of N are gapped, those of the others linear
+-- the margins by the reads of a type: those of N are gapped, those of NL and W linear
 abbrev pub margins_of : RunNumbers → Kind → Margins
 margins_of numbers N = numbers.gapped.margins
 margins_of numbers NL = numbers.linear.margins
 margins_of numbers W = numbers.linear.margins
 
--- one type
+-- the values for one type
 abbrev pub type_shown : Judged → RunNumbers → Kind → KindNumbers → TypeShown
 type_shown judged numbers kind k = record {
   kind = kind;
@@ -38,18 +38,18 @@ type_shown judged numbers kind k = record {
   named = k.named;
 }
 
--- the type at this place of N, NL and W
+-- the type at this place of N, NL and W, from 0
 abbrev pub kind_at : ℕ → Kind
 kind_at zero = N
 kind_at (suc zero) = NL
 kind_at (suc (suc place)) = W
 
--- the types from a place on
+-- the values for the types from a place on
 abbrev pub types_from : Judged → RunNumbers → (place : ℕ) → List KindNumbers → List TypeShown
 types_from judged numbers place [] = []
 types_from judged numbers place (k ∷ ks) =
     type_shown judged numbers (kind_at place) k ∷ types_from judged numbers (place + 1) ks
 
--- N, NL and W
+-- the values for N, NL and W
 abbrev pub types_shown : Judged → RunNumbers → List TypeShown
 types_shown judged numbers = types_from judged numbers 0 numbers.kinds

@@ -1,5 +1,5 @@
--- What is told of each sender type in words. Packets count from 0 and records from 1; a time of day is that of UTC, in
--- hours, minutes, seconds and nanoseconds. Pass and fail are told by a word and a sign. This project's own.
+-- The result of each sender type in words. Packets count from 0 and packet records from 1. A time of day is UTC, in
+-- hours, minutes, seconds and nanoseconds. Pass and fail have a sign and a word. This project's own format.
 use Rattle.std.specs.Prelude.{ℕ, ℤ, pos, ◌-◌, ◌*◌, ◌/◌, ◌%◌, unsigned_abs, if◌then◌else◌, List, [], ◌++◌, codes}
 use Rattle.std.specs.Prelude.{Option, Some, None}
 use Rattle.std.specs.Fmt.{decimal, signed_decimal}
@@ -11,21 +11,22 @@ use Rattle.timing_report.specs.Words.{kind_name}
 use Rattle.flow_measure.specs.declared.numbers.Place.{Place}
 use Rattle.flow_page.specs.declared.shown.TypeShown.{TypeShown}
 
--- the last digits of a number
+-- the last two digits of a number
 abbrev pub two : ℕ → List ℕ
 two n = decimal (n / 10 % 10) ++ decimal (n % 10)
 
+-- the last three digits of a number
 abbrev pub three : ℕ → List ℕ
 three n = decimal (n / 100 % 10) ++ (decimal (n / 10 % 10) ++ decimal (n % 10))
 
--- the time of day of an instant, in nanoseconds since the begin of a day
+-- a time of day; `ns` is nanoseconds since any midnight
 abbrev pub clock_text : ℕ → List ℕ
 clock_text ns =
     two (ns / 3600000000000 % 24) ++ (codes ":" ++ (two (ns / 60000000000 % 60) ++ (codes ":"
     ++ (two (ns / 1000000000 % 60) ++ (codes "." ++ (three (ns / 1000000 % 1000) ++ (three (ns / 1000 % 1000)
     ++ three (ns % 1000))))))))
 
--- a stamp, from which the seconds are taken that were added
+-- a capture timestamp less the seconds that were added, in nanoseconds of UTC
 abbrev pub utc : (tai stamp : ℕ) → ℕ
 utc tai stamp = stamp - tai * 1000000000
 
@@ -34,55 +35,56 @@ abbrev pub sign_text : KindVerdict → List ℕ
 sign_text Pass = codes "<span class=\"pass\">&#10003; pass</span>"
 sign_text (Fail proof) = codes "<span class=\"fail\">&#10007; fail</span>"
 
--- so many of a thing, whose name ends with an s unless they are one
+-- the plural ending of a noun with this count
 abbrev pub noun_end : (count : ℤ) → List ℕ
 noun_end count = if int_eq count (pos 1) then [] else codes "s"
 
+-- a count with its noun
 unfoldable pub counted : (count : ℤ) → (noun : List ℕ) → List ℕ
 counted count noun = signed_decimal count ++ (codes " " ++ (noun ++ noun_end count))
 
--- after how many packets something is above its limit, where it ever is
+-- the text on how many packets exceed a limit and which is the first, if there is one
 abbrev pub above_text : (what : List ℕ) → (count : ℕ) → (first : Option ℕ) → List ℕ
 above_text what count None = []
 above_text what count (Some first) =
     codes "; after " ++ (counted (pos count) (codes "packet") ++ (codes " the " ++ (what
     ++ (codes " is above its limit, first after packet " ++ decimal first))))
 
--- by how much the worst one is late
+-- the text on the greatest lateness of a packet
 unfoldable pub worst_text : (slack : ℤ) → List ℕ
 worst_text slack = codes ", at worst " ++ (decimal (unsigned_abs slack) ++ codes " ns late")
 
--- how many packets come late, where one does
+-- the text on how many packets are late and which is the first, if there is one
 abbrev pub late_text : (late : ℕ) → (slack : ℤ) → (first : Option ℕ) → List ℕ
 late_text late slack None = []
 late_text late slack (Some first) =
     codes "; " ++ (counted (pos late) (codes "packet") ++ (codes " too late for the reads, first packet "
     ++ (decimal first ++ worst_text slack)))
 
--- where the last packet of the fail stands
+-- the text on the place in the capture of the last packet of the violation
 abbrev pub named_text : (to tai : ℕ) → Option Place → List ℕ
 named_text to tai None = []
 named_text to tai (Some place) =
     codes ". Packet " ++ (decimal to ++ (codes ", with which the verdict's fail ends, is record "
     ++ (decimal place.«record» ++ (codes " at " ++ (clock_text (utc tai place.stamp) ++ codes " UTC")))))
 
--- how many groups break it
+-- the text on how many frames or fields break the type
 unfoldable pub broken_text : TypeShown → (group : List ℕ) → List ℕ
 broken_text t group =
     codes "; broken by " ++ (decimal t.groups_broken ++ (codes " of " ++ counted (pos t.groups) group))
 
--- what is above its limit
+-- the text on the packets that exceed a limit
 unfoldable pub over_text : TypeShown → List ℕ
 over_text t =
     above_text (codes "bucket") t.above_bucket t.first_bucket ++ above_text (codes "buffer") t.above_buffer t.first_over
 
--- what breaks
+-- the text on how a type fails
 abbrev pub breaks_text : TypeShown → (group : List ℕ) → (tai : ℕ) → FailProof → List ℕ
 breaks_text t group tai proof =
     broken_text t group ++ (over_text t ++ (late_text t.late t.slack t.first_empty
     ++ named_text proof.to tai t.named))
 
--- by how much a type passes, or how it fails
+-- the slack of a type that passes, or how it fails
 abbrev pub outcome_words : TypeShown → (group : List ℕ) → (tai : ℕ) → KindVerdict → List ℕ
 outcome_words t group tai Pass =
     codes "; each packet may come " ++ (signed_decimal t.slack ++ codes " ns later")
@@ -94,7 +96,7 @@ peaks_words t =
     codes "</b>: bucket " ++ (decimal t.bucket_peak ++ (codes " of " ++ (decimal t.c_max ++ (codes ", buffer "
     ++ (decimal t.buffer_peak ++ (codes " of " ++ decimal t.vrx_full))))))
 
--- a type
+-- the result of a type
 abbrev pub type_words : TypeShown → (group : List ℕ) → (tai : ℕ) → List ℕ
 type_words t group tai =
     codes "<li>" ++ (sign_text t.verdict ++ (codes " <b>" ++ (kind_name t.kind ++ (peaks_words t

@@ -1,5 +1,5 @@
--- Types that are worked by hand, of two frames of 20 packets at 50 frames per second: one that keeps its limits, and
--- one whose packets are 1,000,000 ns apart, so that all but the first of each frame come after their gapped reads.
+-- Examples of types worked by hand, with two frames of 20 packets at 50 frames per second: one that keeps its limits,
+-- and one with packets 1,000,000 ns apart, so that all but the first of each frame arrive after their gapped reads.
 use Rattle.std.specs.Prelude.{pos, neg_ℤ, Some, None}
 use Rattle.timing_base.specs.declared.fail.Broken.TheVariants.{Empty}
 use Rattle.timing_base.specs.declared.media.Kind.TheVariants.{N}
@@ -7,6 +7,7 @@ use Rattle.timing_base.specs.declared.row.KindVerdict.TheVariants.{Pass, Fail}
 use Rattle.flow_measure.specs.Worked.{place}
 use Rattle.flow_page.specs.declared.shown.TypeShown.{TypeShown}
 
+-- type N, which passes
 abbrev pub kept : TypeShown
 kept = record {
   kind = N;
@@ -28,6 +29,7 @@ kept = record {
   named = None;
 }
 
+-- type N, which fails with 38 late packets
 abbrev pub late : TypeShown
 late = record kept {
   verdict = Fail (record { model = Empty; from = 1; to = 1; count = 1; limit = 2 });

@@ -1,4 +1,4 @@
--- what is promised
+-- the definitions that public clauses use
 pub mod Marks
 pub mod Axes
 pub mod Pieces
@@ -10,5 +10,5 @@ pub mod Shades
 pub mod Bars
 pub mod Figures
 pub mod Charts
--- what is worked by hand
+-- examples worked by hand
 pub mod Worked

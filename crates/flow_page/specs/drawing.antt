@@ -1,7 +1,8 @@
--- what is promised
+-- the definitions that public clauses use
 pub mod Drawn
+pub mod Told
 pub mod Stands
--- what is worked by hand
+-- examples worked by hand
 pub mod Worked
--- these only serve proofs
+-- definitions for proofs alone
 pub mod drawing

@@ -1,18 +1,20 @@
-//! Pictures around fails.
+//! Pictures around violations.
 
 ghost use Rattle.std.specs.Prelude.{◌≡◌, ◌≤◌, ◌^◌, ◌++◌, IfOk, string_bytes};
 ghost use Rattle.std.specs.List.{flat_map};
 ghost use Rattle.timing_report.specs.Outcomes.{place_of};
-ghost use Rattle.flow_page.specs.Around.{around_detail, around_figure, around_figures, around_if, around_scene, around_title, broken_line};
+ghost use Rattle.flow_page.specs.Around.{around_ahead, around_count, around_detail, around_figure, around_figures};
+ghost use Rattle.flow_page.specs.Around.{around_if, around_scene, around_title, broken_line};
 
 use crate::chart::{Across, Limit, LineName, Scene, Shade, Unit, UnitAcross, add_curve_figure};
 use crate::levels::{line_name, one_line};
 use crate::shown::{Region, TypeShown};
+use flow_measure::width_of;
 use std::alloc::{AllocError as OutOfMemory, Global};
 use timing_base::{Broken, FailProof, Kind};
 use timing_report::{kind_name, model_name};
 
-/// The line that is broken: the type's own limit, and of an empty buffer the line of nothing.
+/// Returns the line that is broken: the limit of the type, or the line at 0 if the buffer underflows.
 fn broken_line(shown: &TypeShown, model: Broken) -> Limit
     ensures { result ≡ broken_line shown.now model }
 {
@@ -32,7 +34,7 @@ fn broken_line(shown: &TypeShown, model: Broken) -> Limit
     }
 }
 
-/// The title of a picture.
+/// Returns the title of a picture.
 fn around_title(alloc: Global, kind: Kind, model: Broken) -> Result<String, OutOfMemory>
     ensures { IfOk result (λ s. string_bytes s ≡ around_title kind model) }
 {
@@ -40,9 +42,9 @@ fn around_title(alloc: Global, kind: Kind, model: Broken) -> Result<String, OutO
     format!(in alloc; "Around the fail: {kind}, {model}")
 }
 
-/// What is told beside it.
-fn around_detail(alloc: Global, proof: FailProof) -> Result<String, OutOfMemory>
-    ensures { IfOk result (λ s. string_bytes s ≡ around_detail proof) }
+/// Returns the text on the packets of the violation, with count and limit.
+fn around_count(alloc: Global, proof: FailProof) -> Result<String, OutOfMemory>
+    ensures { IfOk result (λ s. string_bytes s ≡ around_count proof) }
 {
     format!(in alloc;
         "packets {} to {}: count {}, limit {}",
@@ -50,7 +52,29 @@ fn around_detail(alloc: Global, proof: FailProof) -> Result<String, OutOfMemory>
     )
 }
 
-/// The packets that are shown, with those that the verdict names shaded.
+/// Returns the text on the packets of the violation, if the first `ahead` of them come before the picture.
+fn around_ahead(alloc: Global, proof: FailProof, ahead: u64) -> Result<String, OutOfMemory>
+    ensures { IfOk result (λ s. string_bytes s ≡ around_ahead proof ahead) }
+{
+    format!(in alloc;
+        "packets {} to {}: count {}, limit {}; the first {} of them come before the picture",
+        proof.from, proof.to, proof.count, proof.limit, ahead
+    )
+}
+
+/// Returns the text beside the picture.
+fn around_detail(alloc: Global, region: &Region) -> Result<String, OutOfMemory>
+    ensures { IfOk result (λ s. string_bytes s ≡ around_detail region.now) }
+{
+    let ahead = region.start.saturating_sub(region.proof.from);
+    if ahead == 0 {
+        around_count(alloc, region.proof)
+    } else {
+        around_ahead(alloc, region.proof, ahead)
+    }
+}
+
+/// Returns the scene of the packets in the picture, with those of the violation shaded.
 fn around_scene(region: &Region) -> Scene
     ensures value { result ≡ around_scene region.now }
     ensures few { result.across.count ≤ 2 ^ 60 }
@@ -58,7 +82,7 @@ fn around_scene(region: &Region) -> Scene
     let across = Across {
         start: region.start,
         count: region.count.min(1 << 60),
-        each: region.count.div_ceil(400),
+        each: width_of(region.count, 400),
     };
     let shade = Shade {
         from: region.proof.from.saturating_sub(region.start),
@@ -74,7 +98,7 @@ fn around_scene(region: &Region) -> Scene
     }
 }
 
-/// Adds the picture around a fail of this type.
+/// Adds the picture around a violation of this type.
 fn add_around(
     text: &mut String,
     alloc: Global,
@@ -84,7 +108,7 @@ fn add_around(
     ensures { IfOk result (λ _. string_bytes text.new ≡ string_bytes text.old ++ around_figure shown.now region.now) }
 {
     let title = around_title(alloc, shown.kind, region.proof.model)?;
-    let detail = around_detail(alloc, region.proof)?;
+    let detail = around_detail(alloc, region)?;
     let lines = one_line(alloc, broken_line(shown, region.proof.model))?;
     let scene = around_scene(region);
     let columns = region.columns.as_slice();
@@ -99,7 +123,7 @@ fn add_around(
     )
 }
 
-/// The place of a type in the order N, NL, W.
+/// Returns the place of a type in the order N, NL, W, from 0.
 fn place_of(kind: Kind) -> u32
     ensures { result ≡ place_of kind }
 {
@@ -110,7 +134,7 @@ fn place_of(kind: Kind) -> u32
     }
 }
 
-/// Adds a picture where it is of this type.
+/// Adds a picture if it belongs to this type.
 #[tactic(auto, unfolding(crate::specs::Around::around_if))]
 fn add_around_if(
     text: &mut String,
@@ -127,7 +151,7 @@ fn add_around_if(
     }
 }
 
-/// Adds the pictures around fails of this type.
+/// Adds the pictures around violations of this type.
 fn add_around_type(
     text: &mut String,
     alloc: Global,
@@ -143,7 +167,7 @@ fn add_around_type(
     Ok(())
 }
 
-/// Adds those of all types.
+/// Adds the pictures around violations of all types.
 pub(crate) fn add_around_figures(
     text: &mut String,
     alloc: Global,

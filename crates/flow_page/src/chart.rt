@@ -1,7 +1,7 @@
-//! Pictures of numbers that were measured, as SVG in HTML: curves of columns and bars of bins and classes.
+//! Pictures of measured numbers, as SVG in HTML: curves of columns, and bars of bins and classes.
 //!
-//! Numbers stand where their size puts them: a picture's places are tenths of a unit of the picture, rounded down, and y
-//! grows downward. Texts are made whole, as values. What a text holds of a name is escaped here alone.
+//! Numbers are drawn at the place of their value. Places in a picture are tenths of an SVG unit, rounded down, and y
+//! grows downward. Texts are made whole, as strings. Names are escaped only here.
 
 mod axis;
 mod bars;

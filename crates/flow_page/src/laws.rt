@@ -1,11 +1,11 @@
-//! The page tried by hand. Each function is a theorem: it does nothing, and its clauses are proved.
+//! Texts of the page worked by hand. Each function does nothing: its clauses are what is proved.
 
 ghost use Rattle.std.specs.Prelude.{◌≡◌, ◌++◌, codes, neg_ℤ, pos};
 ghost use Rattle.flow_page.specs.Timings.{drift_of};
 ghost use Rattle.flow_page.specs.Words.{clock_text, counted, type_words, utc};
 ghost use Rattle.flow_page.specs.Worked.{kept, late};
 
-/// The time of day of a stamp, with and without seconds that were added.
+/// The time of day of a capture timestamp, without and with seconds that were added.
 #[tactic(auto, unfolding(crate::proofs::Numerals::numerals))]
 pub fn clock_by_hand()
     ensures plain { clock_text (utc 0 1600000000001764000) ≡ codes "12:26:40.001764000" }
@@ -13,19 +13,19 @@ pub fn clock_by_hand()
     ensures midnight { clock_text (utc 0 1599955200000000000) ≡ codes "00:00:00.000000000" }
 {}
 
-/// The words of a type that passes, and of one that fails.
+/// The result in words of a type that passes, and of one that fails.
 #[tactic(auto, unfolding(crate::proofs::Numerals::numerals))]
 pub fn words_by_hand()
     ensures pass { type_words kept (codes "frame") 0
         ≡ codes "<li><span class=\"pass\">&#10003; pass</span> <b>N</b>: bucket 1 of 4, buffer 1 of 8; each packet "
         ++ codes "may come 444 ns later.</li>\n" }
     ensures fail { type_words late (codes "frame") 0
-        ≡ codes "<li><span class=\"fail\">&#10007; fail</span> <b>N</b>: bucket 1 of 4, buffer 1 of 8; broken by 2 of 2 "
-        ++ (codes "frames; 38 packets too late for the reads, first packet 1, at worst 759556 ns late. Packet 1, "
+        ≡ codes "<li><span class=\"fail\">&#10007; fail</span> <b>N</b>: bucket 1 of 4, buffer 1 of 8; broken by 2 "
+        ++ (codes "of 2 frames; 38 packets too late for the reads, first packet 1, at worst 759556 ns late. Packet 1, "
         ++ codes "with which the verdict's fail ends, is record 3 at 12:26:40.001764000 UTC.</li>\n") }
 {}
 
-/// One packet, several, none, and fewer than none.
+/// A noun with the counts 1, 38, 0 and -1.
 #[tactic(auto, unfolding(crate::proofs::Numerals::numerals))]
 pub fn counts_by_hand()
     ensures one { counted (pos 1) (codes "packet") ≡ codes "1 packet" }

@@ -1,21 +1,26 @@
-//! Pictures of what bucket and buffer hold.
+//! Pictures of the levels of bucket and buffer.
 
 ghost use Rattle.std.specs.Prelude.{◌≡◌, ◌≤◌, ◌^◌, ◌++◌, ◌∷◌, [], IfOk, string_bytes};
 ghost use Rattle.std.specs.List.{flat_map};
-ghost use Rattle.flow_page.specs.Levels.{across_of, base_lines, bucket_limit, buffer_limit, eye_columns, eye_scene, eye_title, is_near, level_columns, level_detail, level_figure, level_figures, level_lines, level_scene, level_summary, level_title, level_words, limit_on, limit_words, line_name, run_columns, run_scene, run_title, type_line};
+ghost use Rattle.flow_page.specs.Levels.{across_group, across_of, base_lines, bucket_limit, buffer_limit, eye_columns};
+ghost use Rattle.flow_page.specs.Levels.{eye_scene, eye_title, is_near, level_columns, level_detail, level_figure};
+ghost use Rattle.flow_page.specs.Levels.{level_figures, level_lines, level_scene, level_summary, level_title};
+ghost use Rattle.flow_page.specs.Levels.{level_words, limit_on, limit_words, line_name, run_columns, run_scene};
+ghost use Rattle.flow_page.specs.Levels.{run_title, type_line};
 
 use crate::chart::{Across, Limit, LineName, Scene, Unit, UnitAcross, add_curve_figure};
 use crate::shown::{Curves, ShownRun, TypeShown};
 use crate::words::Counted;
-use flow_measure::{Extremes, RunNumbers, Summary};
+use flow_measure::{Extremes, RunNumbers, Summary, width_of};
 use std::alloc::{AllocError as OutOfMemory, Global};
 use std::fmt;
 use timing_base::{Judged, Kind};
 use timing_report::kind_name;
 
-/// What a picture is of.
+/// The level that a picture shows.
 #[derive(Clone, Copy)]
 enum Level {
+    /// The bucket.
     Bucket,
     /// The buffer by gapped reads.
     Gapped,
@@ -23,22 +28,23 @@ enum Level {
     Linear,
 }
 
-/// What a picture goes over.
+/// The range of a picture.
 #[derive(Clone, Copy)]
 pub(crate) enum View {
+    /// All packets of the run.
     WholeRun,
-    /// One group, with all groups laid over each other.
+    /// One frame or field, with all of them overlaid.
     Eye,
 }
 
-/// A limit, and the first packet that is above it.
+/// A limit in packets, and the first packet that exceeds it, from 0.
 #[derive(Clone, Copy)]
 struct LimitOn {
     limit: u64,
     first: Option<u64>,
 }
 
-/// The title of the picture over the whole run.
+/// Returns the title of the picture over the whole run.
 fn run_title(level: Level) -> &'static str
     ensures { result.now ≡ run_title level }
 {
@@ -49,7 +55,7 @@ fn run_title(level: Level) -> &'static str
     }
 }
 
-/// The title of the picture of all groups laid over each other.
+/// Returns the title of the picture of all frames or fields overlaid.
 fn eye_title(level: Level) -> &'static str
     ensures { result.now ≡ eye_title level }
 {
@@ -60,7 +66,7 @@ fn eye_title(level: Level) -> &'static str
     }
 }
 
-/// The title of a picture.
+/// Returns the title of a picture.
 fn level_title(view: View, level: Level) -> &'static str
     ensures { result.now ≡ level_title view level }
 {
@@ -70,7 +76,7 @@ fn level_title(view: View, level: Level) -> &'static str
     }
 }
 
-/// The summary of what is held.
+/// Returns the summary of a level.
 fn level_summary(numbers: &RunNumbers, level: Level) -> Summary
     ensures { result ≡ level_summary numbers.now level }
 {
@@ -81,7 +87,7 @@ fn level_summary(numbers: &RunNumbers, level: Level) -> Summary
     }
 }
 
-/// The columns over the whole run.
+/// Returns the columns of a level over the whole run.
 fn run_columns(curves: &Curves, level: Level) -> &[Extremes]
     ensures { result.now ≡ run_columns curves.now level }
 {
@@ -92,7 +98,7 @@ fn run_columns(curves: &Curves, level: Level) -> &[Extremes]
     }
 }
 
-/// The columns of all groups laid over each other.
+/// Returns the columns of a level with all frames or fields overlaid.
 fn eye_columns(curves: &Curves, level: Level) -> &[Extremes]
     ensures { result.now ≡ eye_columns curves.now level }
 {
@@ -103,7 +109,7 @@ fn eye_columns(curves: &Curves, level: Level) -> &[Extremes]
     }
 }
 
-/// The columns of a picture.
+/// Returns the columns of a picture.
 fn level_columns(curves: &Curves, view: View, level: Level) -> &[Extremes]
     ensures { result.now ≡ level_columns curves.now view level }
 {
@@ -113,7 +119,7 @@ fn level_columns(curves: &Curves, view: View, level: Level) -> &[Extremes]
     }
 }
 
-/// The limit of a type's bucket.
+/// Returns the limit of a type's bucket.
 fn bucket_limit(shown: &TypeShown) -> LimitOn
     ensures { result ≡ bucket_limit shown.now }
 {
@@ -123,7 +129,7 @@ fn bucket_limit(shown: &TypeShown) -> LimitOn
     }
 }
 
-/// The limit of a type's buffer.
+/// Returns the limit of a type's buffer.
 fn buffer_limit(shown: &TypeShown) -> LimitOn
     ensures { result ≡ buffer_limit shown.now }
 {
@@ -133,7 +139,7 @@ fn buffer_limit(shown: &TypeShown) -> LimitOn
     }
 }
 
-/// The limit of a type, where it is judged by this.
+/// Returns the limit of a type for a level, or `None` if the type isn't judged by that level.
 fn limit_on(level: Level, shown: &TypeShown) -> Option<LimitOn>
     ensures { result ≡ limit_on level shown.now }
 {
@@ -152,7 +158,8 @@ fn limit_on(level: Level, shown: &TypeShown) -> Option<LimitOn>
     }
 }
 
-/// Whether a limit is drawn: that of W's buffer only where a fourth of it is reached, since it would flatten the curve.
+/// Returns whether a limit is drawn. The limit of W's buffer is drawn only if a fourth of it is reached, since it would
+/// flatten the curve.
 fn is_near(level: Level, shown: &TypeShown) -> bool
     ensures { result ≡ is_near level shown.now }
 {
@@ -167,7 +174,7 @@ fn is_near(level: Level, shown: &TypeShown) -> bool
     }
 }
 
-/// The name of a type's line.
+/// Returns the name of a type's line.
 pub(crate) fn line_name(kind: Kind) -> LineName
     ensures { result ≡ line_name kind }
 {
@@ -178,7 +185,7 @@ pub(crate) fn line_name(kind: Kind) -> LineName
     }
 }
 
-/// Adds the line of a type, where it has one.
+/// Adds the line of a type, if it has one.
 fn add_type_line(lines: &mut Vec<Limit>, level: Level, shown: &TypeShown) -> Result<(), OutOfMemory>
     ensures { IfOk result (λ _. lines.new.items ≡ lines.old.items ++ type_line level shown.now) }
 {
@@ -197,7 +204,7 @@ fn add_type_line(lines: &mut Vec<Limit>, level: Level, shown: &TypeShown) -> Res
     }
 }
 
-/// One line alone.
+/// Returns a list of one line.
 pub(crate) fn one_line(alloc: Global, line: Limit) -> Result<Vec<Limit>, OutOfMemory>
     ensures { IfOk result (λ lines. lines.items ≡ line ∷ []) }
 {
@@ -206,7 +213,7 @@ pub(crate) fn one_line(alloc: Global, line: Limit) -> Result<Vec<Limit>, OutOfMe
     Ok(lines)
 }
 
-/// The line of a buffer that holds nothing.
+/// Returns the line of an empty buffer.
 fn base_lines(alloc: Global, level: Level) -> Result<Vec<Limit>, OutOfMemory>
     ensures { IfOk result (λ lines. lines.items ≡ base_lines level) }
 {
@@ -221,7 +228,7 @@ fn base_lines(alloc: Global, level: Level) -> Result<Vec<Limit>, OutOfMemory>
     }
 }
 
-/// The lines of the limits.
+/// Returns the lines of the limits.
 fn level_lines(alloc: Global, level: Level, types: &[TypeShown]) -> Result<Vec<Limit>, OutOfMemory>
     ensures { IfOk result (λ lines. lines.items ≡ level_lines level types.now) }
 {
@@ -232,7 +239,7 @@ fn level_lines(alloc: Global, level: Level, types: &[TypeShown]) -> Result<Vec<L
     Ok(lines)
 }
 
-/// The first packet above a limit, where one is.
+/// The text on the first packet above a limit; empty if there is none.
 #[derive(Clone, Copy)]
 struct FirstTold {
     first: Option<u64>,
@@ -252,7 +259,7 @@ impl fmt::Display for FirstTold {
     }
 }
 
-/// Adds the limit of a type in words, where it has one.
+/// Adds the limit of a type in words, if it has one.
 fn add_limit_words(text: &mut String, level: Level, shown: &TypeShown) -> Result<(), OutOfMemory>
     ensures { IfOk result (λ _. string_bytes text.new ≡ string_bytes text.old ++ limit_words level shown.now) }
 {
@@ -277,7 +284,7 @@ fn add_all_limits(text: &mut String, level: Level, types: &[TypeShown]) -> Resul
     Ok(())
 }
 
-/// The least and the most, and the packets or places of a mark.
+/// Returns the least and the greatest level in words, with the packets or places per column.
 fn level_words(alloc: Global, summary: Summary, each: u64) -> Result<String, OutOfMemory>
     ensures { IfOk result (λ s. string_bytes s ≡ level_words summary each) }
 {
@@ -288,7 +295,7 @@ fn level_words(alloc: Global, summary: Summary, each: u64) -> Result<String, Out
     format!(in alloc; "least {}, most {most}; {each} to a mark", summary.least)
 }
 
-/// What is told beside a picture.
+/// Returns the text beside a picture.
 fn level_detail(
     alloc: Global,
     level: Level,
@@ -303,20 +310,32 @@ fn level_detail(
     Ok(text)
 }
 
-/// So many places, in at most so many marks.
-pub(crate) fn across_of(count: u64, most: u64) -> Across
-    requires { 1 ≤ most }
-    ensures value { result ≡ across_of count most }
+/// Returns `count` packets, frames or fields side by side, in the columns of a curve.
+pub(crate) fn across_of(count: u64) -> Across
+    ensures value { result ≡ across_of count }
     ensures few { result.count ≤ 2 ^ 60 }
 {
     Across {
         start: 0,
         count: count.min(1 << 60),
-        each: count.div_ceil(most),
+        each: width_of(count, 1000),
     }
 }
 
-/// The scene of the whole run.
+/// Returns the places of a frame or field side by side, in the columns of an eye. `n` is the packets per frame or
+/// field.
+fn across_group(n: u32) -> Across
+    ensures value { result ≡ across_group n }
+    ensures few { result.count ≤ 2 ^ 60 }
+{
+    Across {
+        start: 0,
+        count: u64::from(n),
+        each: u64::from(n).div_ceil(500),
+    }
+}
+
+/// Returns the scene of the whole run.
 fn run_scene(judged: &Judged) -> Scene
     ensures value { result ≡ run_scene judged.now }
     ensures few { result.across.count ≤ 2 ^ 60 }
@@ -325,13 +344,13 @@ fn run_scene(judged: &Judged) -> Scene
         wide: true,
         unit: Unit::Packets,
         along: UnitAcross::Packet,
-        across: across_of(judged.packets, 1000),
+        across: across_of(judged.packets),
         every: u64::from(judged.n),
         shade: None,
     }
 }
 
-/// The scene of all groups laid over each other.
+/// Returns the scene of all frames or fields overlaid.
 fn eye_scene(judged: &Judged) -> Scene
     ensures value { result ≡ eye_scene judged.now }
     ensures few { result.across.count ≤ 2 ^ 60 }
@@ -340,13 +359,13 @@ fn eye_scene(judged: &Judged) -> Scene
         wide: false,
         unit: Unit::Packets,
         along: UnitAcross::Place,
-        across: across_of(u64::from(judged.n), 500),
+        across: across_group(judged.n),
         every: 0,
         shade: None,
     }
 }
 
-/// The scene of a picture.
+/// Returns the scene of a picture.
 fn level_scene(judged: &Judged, view: View) -> Scene
     ensures value { result ≡ level_scene judged.now view }
     ensures few { result.across.count ≤ 2 ^ 60 }
@@ -357,7 +376,7 @@ fn level_scene(judged: &Judged, view: View) -> Scene
     }
 }
 
-/// Adds a picture.
+/// Adds the picture of a level.
 fn add_level_figure(
     text: &mut String,
     alloc: Global,
@@ -385,7 +404,7 @@ fn add_level_figure(
     )
 }
 
-/// Adds the pictures of bucket and buffer that go over the same.
+/// Adds the pictures of bucket and buffer with the same range.
 pub(crate) fn add_level_figures(
     text: &mut String,
     alloc: Global,

@@ -1,11 +1,11 @@
-//! The report of a capture as one page with pictures: HTML that needs nothing else, no script and nothing that is fetched.
+//! The report of a capture as one HTML page with pictures. The page has no script and loads no other file.
 //!
-//! Its text is made whole, as a value, of numbers that were measured. Tables tell what a judge says and what was measured,
-//! and pictures show it; what a text holds of a name is escaped.
+//! The text of the page is made whole, as one string, from measurements. Tables show the verdicts and the measurements,
+//! and pictures show the measurements. Names in the text are escaped.
 //!
 //! - `chart`: pictures of numbers, as SVG.
-//! - `drawing`: what is drawn of a judged run, made while its packets go by.
-//! - `laws`: words and numbers worked by hand.
+//! - `drawing`: the data for the pictures of the judged runs of a flow, collected while the runs are judged.
+//! - `laws`: texts and numbers worked by hand.
 #![tactic(auto)]
 
 mod around;

@@ -4,7 +4,8 @@ ghost use Rattle.std.specs.Prelude.{◌≡◌, ◌<◌, ◌++◌, IfOk, codes, l
 ghost use Rattle.std.specs.List.{flat_map};
 ghost use Rattle.flow_page.specs.Shown.{types_shown};
 ghost use Rattle.flow_page.specs.chart.Figures.{told};
-ghost use Rattle.flow_page.specs.Media.{AreOfMedia, flow_media, media_open, media_row, media_table, row_open, run_cells, shown_cells, table_close, type_cells, verdict_open, verdict_told};
+ghost use Rattle.flow_page.specs.Media.{AreOfMedia, flow_media, media_open, media_row, media_table, row_open};
+ghost use Rattle.flow_page.specs.Media.{run_cells, shown_cells, table_close, type_cells, verdict_open, verdict_told};
 
 use crate::chart::add_told;
 use crate::shown::{FlowPage, ShownRun, TypeShown, types_shown};
@@ -14,7 +15,7 @@ use std::fmt;
 use timing_base::{FlowKey, Judged, Media, Session, Target, Verdict};
 use timing_report::{class_name, declared_name, first_passing, group_name, media_of, verdict_of};
 
-/// The begin of the table, in a box of its own.
+/// Returns the start of the table, in a box of its own.
 #[tactic(auto, unfolding(crate::specs::Media::media_open))]
 fn media_open() -> &'static str
     ensures { result.now ≡ media_open }
@@ -29,7 +30,7 @@ pub(crate) fn add_table_close(text: &mut String) -> Result<(), OutOfMemory>
     text.push_str("</tbody></table></div>\n")
 }
 
-/// Pass or fail of a type, and its peaks with their limits.
+/// The cells of a type: pass or fail, and its peaks with their limits.
 #[derive(Clone, Copy)]
 struct TypeCells {
     shown: TypeShown,
@@ -65,7 +66,7 @@ fn add_type_cells(text: &mut String, types: &[TypeShown]) -> Result<(), OutOfMem
     Ok(())
 }
 
-/// Adds the packets of a group, the groups, the class, and the type that is declared.
+/// Adds the packets per frame or field, the count of frames or fields, the class, and the declared type.
 fn add_run_cells(text: &mut String, media: &Media, judged: &Judged) -> Result<(), OutOfMemory>
     ensures { IfOk result (λ _. string_bytes text.new ≡ string_bytes text.old ++ run_cells media.now judged.now) }
 {
@@ -89,7 +90,7 @@ fn add_types_of(text: &mut String, alloc: Global, shown: &ShownRun) -> Result<()
     text.push_str("</tr>\n")
 }
 
-/// Adds the cells of the run that is shown, if any.
+/// Adds the cells of the run that is shown, if there is one.
 fn add_shown_cells(
     text: &mut String,
     alloc: Global,
@@ -107,14 +108,14 @@ fn add_shown_cells(
     }
 }
 
-/// Adds which flow a row is of.
+/// Adds the start of a row with the number and the target of its flow.
 fn add_row_open(text: &mut String, number: u64, target: Target) -> Result<(), OutOfMemory>
     ensures { IfOk result (λ _. string_bytes text.new ≡ string_bytes text.old ++ row_open number target) }
 {
     write!(text, "<tr><th>{number} {target}</th>")
 }
 
-/// A verdict in few words.
+/// Returns a verdict in few words.
 fn verdict_told(alloc: Global, media: &Media, verdict: &Verdict) -> Result<String, OutOfMemory>
     ensures { IfOk result (λ s. string_bytes s ≡ verdict_told media.now verdict.now) }
 {
@@ -125,7 +126,7 @@ fn verdict_told(alloc: Global, media: &Media, verdict: &Verdict) -> Result<Strin
     }
 }
 
-/// The begin of a verdict's cell: where nothing is judged it takes the whole row.
+/// Returns the start of the verdict's cell. If no run is judged, the cell takes the whole row.
 fn verdict_open(shown: &Option<ShownRun>) -> &'static str
     ensures { result.now ≡ verdict_open shown.now }
 {
@@ -135,7 +136,7 @@ fn verdict_open(shown: &Option<ShownRun>) -> &'static str
     }
 }
 
-/// Adds the verdict on a flow, in a cell that begins so.
+/// Adds the cell of a flow's verdict, which begins with `start`.
 fn add_verdict_cell(
     text: &mut String,
     alloc: Global,
@@ -170,7 +171,7 @@ fn add_media_row(
     add_shown_cells(text, alloc, media, &page.shown)
 }
 
-/// The media of a flow of the capture.
+/// Returns the media of a flow of the capture.
 pub(crate) fn flow_media<'a>(session: &'a Session, page: &FlowPage) -> &'a Media
     requires { page.now.flow.media < length session.now }
     ensures { result.now ≡ flow_media session.now page.now }

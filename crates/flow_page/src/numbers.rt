@@ -1,8 +1,10 @@
-//! The numbers of a run as tables.
+//! The measurements of a run as tables.
 
 ghost use Rattle.std.specs.Prelude.{◌≡◌, ◌++◌, IfOk, string_bytes};
 ghost use Rattle.std.specs.List.{flat_map};
-ghost use Rattle.flow_page.specs.Numbers.{level_rows, number_rows, numbers_open, numbers_table, run_open, run_packets, run_peaks, run_row, runs_open, runs_table, time_rows, type_row, types_open, types_table};
+ghost use Rattle.flow_page.specs.Numbers.{level_rows, number_rows, numbers_open, numbers_table, run_open, run_packets};
+ghost use Rattle.flow_page.specs.Numbers.{run_peaks, run_row, runs_open, runs_table, time_rows, type_row, types_open};
+ghost use Rattle.flow_page.specs.Numbers.{types_table};
 
 use crate::media::add_table_close;
 use crate::shown::TypeShown;
@@ -13,7 +15,7 @@ use std::fmt;
 use timing_base::Judged;
 use timing_report::{class_name, first_passing, kind_name};
 
-/// A cell that may be empty.
+/// A cell with a number, or an empty cell.
 #[derive(Clone, Copy)]
 struct CellIf {
     number: Option<u64>,
@@ -33,7 +35,7 @@ impl fmt::Display for CellIf {
     }
 }
 
-/// A row of a summary: least, greatest and sum alone.
+/// A row of the least, the greatest and the sum of a summary.
 #[derive(Clone, Copy)]
 struct LevelRow {
     name: &'static str,
@@ -56,7 +58,7 @@ impl fmt::Display for LevelRow {
     }
 }
 
-/// The least and the greatest number of a summary.
+/// The least and the greatest number of a summary, as cells.
 #[derive(Clone, Copy)]
 struct ExtremeCells {
     summary: Summary,
@@ -75,7 +77,7 @@ impl fmt::Display for ExtremeCells {
     }
 }
 
-/// The first and the last number of a summary.
+/// The first and the last number of a summary, as cells.
 #[derive(Clone, Copy)]
 struct EndCells {
     summary: Summary,
@@ -94,7 +96,7 @@ impl fmt::Display for EndCells {
     }
 }
 
-/// A row of all of a summary.
+/// A row of a whole summary.
 #[derive(Clone, Copy)]
 struct SummaryRow {
     name: &'static str,
@@ -119,7 +121,7 @@ impl fmt::Display for SummaryRow {
     }
 }
 
-/// The row of the steps of the timestamp, where there are two groups.
+/// The row of the steps of the RTP timestamp; empty if there is only one frame or field.
 #[derive(Clone, Copy)]
 struct StepRow {
     step: Option<Summary>,
@@ -143,7 +145,7 @@ impl fmt::Display for StepRow {
     }
 }
 
-/// The row of the times between packets, where there are two.
+/// The row of the times between packets; empty if there is only one packet.
 #[derive(Clone, Copy)]
 struct GapRow {
     gap: Option<Gaps>,
@@ -169,7 +171,7 @@ impl fmt::Display for GapRow {
     }
 }
 
-/// The begin of the table of summaries.
+/// Returns the start of the table of summaries.
 #[tactic(auto, unfolding(crate::specs::Numbers::numbers_open))]
 fn numbers_open() -> &'static str
     ensures { result.now ≡ numbers_open }
@@ -177,7 +179,7 @@ fn numbers_open() -> &'static str
     "<h3>Numbers</h3>\n<div class=\"scroll\"><table><thead><tr><th>of the run</th><th>least</th><th>greatest</th><th>first</th><th>last</th><th>sum</th></tr></thead><tbody>\n"
 }
 
-/// Adds the rows of what bucket and buffer hold.
+/// Adds the rows of the levels of bucket and buffer.
 fn add_level_rows(text: &mut String, numbers: &RunNumbers) -> Result<(), OutOfMemory>
     ensures { IfOk result (λ _. string_bytes text.new ≡ string_bytes text.old ++ level_rows numbers.now) }
 {
@@ -196,7 +198,7 @@ fn add_level_rows(text: &mut String, numbers: &RunNumbers) -> Result<(), OutOfMe
     write!(text, "{bucket}{gapped}{linear}")
 }
 
-/// Adds the rows of when packets come.
+/// Adds the rows of the times of packets and of the RTP timestamps.
 fn add_time_rows(text: &mut String, numbers: &RunNumbers) -> Result<(), OutOfMemory>
     ensures { IfOk result (λ _. string_bytes text.new ≡ string_bytes text.old ++ time_rows numbers.now) }
 {
@@ -239,7 +241,7 @@ pub(crate) fn add_numbers_table(text: &mut String, numbers: &RunNumbers) -> Resu
     add_table_close(text)
 }
 
-/// The begin of the table of types.
+/// Returns the start of the table of types.
 #[tactic(auto, unfolding(crate::specs::Numbers::types_open))]
 fn types_open() -> &'static str
     ensures { result.now ≡ types_open }
@@ -247,7 +249,7 @@ fn types_open() -> &'static str
     "<div class=\"scroll\"><table><thead><tr><th>of the type</th><th>outcome</th><th>frames that break it</th><th>bucket at most</th><th>peak</th><th>packets above</th><th>first</th><th>buffer at most</th><th>peak</th><th>packets above</th><th>first</th><th>below 0</th><th>packets late</th><th>first</th><th>slack, ns</th></tr></thead><tbody>\n"
 }
 
-/// What a type says of the bucket.
+/// The cells of a type for the bucket.
 #[derive(Clone, Copy)]
 struct BucketCells {
     shown: TypeShown,
@@ -272,7 +274,7 @@ impl fmt::Display for BucketCells {
     }
 }
 
-/// What a type says of the buffer.
+/// The cells of a type for the buffer.
 #[derive(Clone, Copy)]
 struct BufferCells {
     shown: TypeShown,
@@ -297,7 +299,7 @@ impl fmt::Display for BufferCells {
     }
 }
 
-/// What a type says of reads.
+/// The cells of a type for late packets.
 #[derive(Clone, Copy)]
 struct ReadCells {
     shown: TypeShown,
@@ -356,7 +358,7 @@ pub(crate) fn add_types_table(text: &mut String, types: &[TypeShown]) -> Result<
     add_table_close(text)
 }
 
-/// The begin of the table of runs.
+/// Returns the start of the table of runs.
 #[tactic(auto, unfolding(crate::specs::Numbers::runs_open))]
 fn runs_open() -> &'static str
     ensures { result.now ≡ runs_open }
@@ -364,8 +366,8 @@ fn runs_open() -> &'static str
     "<div class=\"scroll\"><table><thead><tr><th>judged run</th><th>record</th><th>number</th><th>packets</th><th>in a frame</th><th>frames</th><th>head</th><th>tail</th><th>class</th><th>bucket</th><th>buffer, gapped</th><th>buffer, linear</th></tr></thead><tbody>\n"
 }
 
-/// Adds which run a row is of.
-fn add_run_open(text: &mut String, run: u32, from: u64, number: u32) -> Result<(), OutOfMemory>
+/// Adds the start of a run's row: its number, its first packet record, and the 32-bit sequence number of that packet.
+fn add_run_open(text: &mut String, run: u64, from: u64, number: u32) -> Result<(), OutOfMemory>
     ensures { IfOk result (λ _. string_bytes text.new ≡ string_bytes text.old ++ run_open run from number) }
 {
     write!(text, "<tr><th>{run}</th><td>{from}</td><td>{number}</td>")

@@ -1,8 +1,10 @@
-//! Pictures of how often bucket and buffer hold so many packets, and so much time is between two.
+//! Histograms as pictures: of the packets in bucket and buffer, and of the times between packets.
 
 ghost use Rattle.std.specs.Prelude.{◌≡◌, ◌++◌, IfOk, string_bytes};
 ghost use Rattle.flow_page.specs.Shown.{kind_at};
-ghost use Rattle.flow_page.specs.Often.{below_bars, bins_bars, class_bars, gap_detail, gap_figure, gaps_figure, next_class, often_detail, often_figure, often_from, often_kind, often_title, width_bars};
+ghost use Rattle.flow_page.specs.Often.{below_bars, bins_bars, class_bars, gap_detail, gap_figure, gaps_figure};
+ghost use Rattle.flow_page.specs.Often.{next_class, often_detail, often_figure, often_from, often_kind, often_title};
+ghost use Rattle.flow_page.specs.Often.{width_bars};
 
 use crate::chart::{Bar, BarName, UnitAcross, add_bars_figure};
 use crate::shown::kind_at;
@@ -13,7 +15,7 @@ use std::fmt;
 use timing_base::Kind;
 use timing_report::kind_name;
 
-/// The bar of what is below 0, where that can be.
+/// Returns the bar of the numbers below 0, or no bar if there can't be any.
 fn below_bars(alloc: Global, signed: bool, below: u64) -> Result<Vec<Bar>, OutOfMemory>
     ensures { IfOk result (λ bars. bars.items ≡ below_bars signed below) }
 {
@@ -28,7 +30,7 @@ fn below_bars(alloc: Global, signed: bool, below: u64) -> Result<Vec<Bar>, OutOf
     Ok(bars)
 }
 
-/// Adds bars of bins that are so wide.
+/// Adds the bars of bins with this width.
 fn add_width_bars(bars: &mut Vec<Bar>, width: u64, counts: &[u64]) -> Result<(), OutOfMemory>
     ensures { IfOk result (λ _. bars.new.items ≡ bars.old.items ++ width_bars width 0 counts.now) }
 {
@@ -42,7 +44,7 @@ fn add_width_bars(bars: &mut Vec<Bar>, width: u64, counts: &[u64]) -> Result<(),
     Ok(())
 }
 
-/// All bars of bins.
+/// Returns all bars of bins.
 fn bins_bars(alloc: Global, bins: &Bins, signed: bool) -> Result<Vec<Bar>, OutOfMemory>
     ensures { IfOk result (λ bars. bars.items ≡ bins_bars bins.now signed) }
 {
@@ -55,7 +57,7 @@ fn bins_bars(alloc: Global, bins: &Bins, signed: bool) -> Result<Vec<Bar>, OutOf
     Ok(bars)
 }
 
-/// Where the next class begins.
+/// Returns the first number of the next class.
 fn next_class(first: u128) -> u128
     ensures { result ≡ next_class first }
 {
@@ -68,7 +70,7 @@ fn next_class(first: u128) -> u128
     }
 }
 
-/// The bars of classes.
+/// Returns the bars of classes.
 fn class_bars(alloc: Global, counts: &[u64]) -> Result<Vec<Bar>, OutOfMemory>
     ensures { IfOk result (λ bars. bars.items ≡ class_bars 0 counts.now) }
 {
@@ -84,7 +86,7 @@ fn class_bars(alloc: Global, counts: &[u64]) -> Result<Vec<Bar>, OutOfMemory>
     Ok(bars)
 }
 
-/// The title of a type's bucket or buffer.
+/// Returns the title of the histogram of a type's bucket or buffer.
 fn often_title(alloc: Global, what: &str, kind: Kind) -> Result<String, OutOfMemory>
     ensures { IfOk result (λ s. string_bytes s ≡ often_title what.now kind) }
 {
@@ -92,7 +94,7 @@ fn often_title(alloc: Global, what: &str, kind: Kind) -> Result<String, OutOfMem
     format!(in alloc; "How often: {what}, {name}")
 }
 
-/// How many packets of all are above a limit.
+/// The text on how many of all packets are above a limit.
 #[derive(Clone, Copy)]
 struct AboveOf {
     above: u64,
@@ -115,7 +117,7 @@ impl fmt::Display for AboveOf {
     }
 }
 
-/// What is told beside it.
+/// Returns the text beside a histogram.
 fn often_detail(alloc: Global, bins: &Bins) -> Result<String, OutOfMemory>
     ensures { IfOk result (λ s. string_bytes s ≡ often_detail bins.now) }
 {
@@ -126,7 +128,7 @@ fn often_detail(alloc: Global, bins: &Bins) -> Result<String, OutOfMemory>
     format!(in alloc; "limit {}; {above}, {} below 0", bins.limit, bins.below)
 }
 
-/// Adds the picture of a type's bucket or buffer.
+/// Adds the histogram of a type's bucket or buffer. `signed` is whether numbers below 0 are possible.
 fn add_often_figure(
     text: &mut String,
     alloc: Global,
@@ -153,7 +155,7 @@ fn add_often_figure(
     )
 }
 
-/// Adds the two pictures of a type.
+/// Adds the two histograms of a type.
 #[tactic(auto, unfolding(crate::specs::Often::often_kind))]
 fn add_often_kind(
     text: &mut String,
@@ -183,7 +185,7 @@ fn add_often_kind(
     )
 }
 
-/// Adds the two pictures of the type at this place.
+/// Adds the two histograms of the type at this place of N, NL and W.
 fn add_often_at(
     text: &mut String,
     alloc: Global,
@@ -195,7 +197,7 @@ fn add_often_at(
     add_often_kind(text, alloc, kind_at(place), k)
 }
 
-/// Adds the pictures of types.
+/// Adds the histograms of types.
 fn add_often(text: &mut String, alloc: Global, kinds: &[KindNumbers]) -> Result<(), OutOfMemory>
     ensures { IfOk result (λ _. string_bytes text.new ≡ string_bytes text.old ++ often_from 0 kinds.now) }
 {
@@ -205,7 +207,7 @@ fn add_often(text: &mut String, alloc: Global, kinds: &[KindNumbers]) -> Result<
     Ok(())
 }
 
-/// Adds the pictures of the types of a run.
+/// Adds the histograms of the types of a run.
 pub(crate) fn add_often_of(
     text: &mut String,
     alloc: Global,
@@ -216,7 +218,7 @@ pub(crate) fn add_often_of(
     add_often(text, alloc, numbers.kinds.as_slice())
 }
 
-/// What is told beside the times from packet to packet.
+/// Returns the text beside the histogram of the times between packets.
 fn gap_detail(alloc: Global, summary: Summary) -> Result<String, OutOfMemory>
     ensures { IfOk result (λ s. string_bytes s ≡ gap_detail summary) }
 {
@@ -226,7 +228,7 @@ fn gap_detail(alloc: Global, summary: Summary) -> Result<String, OutOfMemory>
     )
 }
 
-/// Adds the picture of the times from packet to packet.
+/// Adds the histogram of the times between packets.
 fn add_gaps(text: &mut String, alloc: Global, gaps: &Gaps) -> Result<(), OutOfMemory>
     ensures { IfOk result (λ _. string_bytes text.new ≡ string_bytes text.old ++ gaps_figure gaps.now) }
 {
@@ -243,7 +245,7 @@ fn add_gaps(text: &mut String, alloc: Global, gaps: &Gaps) -> Result<(), OutOfMe
     )
 }
 
-/// Adds the same, where there are two packets.
+/// Adds the histogram of the times between packets, if there are two packets.
 pub(crate) fn add_gap_figure(
     text: &mut String,
     alloc: Global,

@@ -5,7 +5,8 @@ ghost use Rattle.std.specs.List.{flat_map};
 ghost use Rattle.timing_base.specs.Targets.{target_of};
 ghost use Rattle.timing_report.specs.Words.{group_name};
 ghost use Rattle.flow_page.specs.Media.{AreOfMedia};
-ghost use Rattle.flow_page.specs.Page.{contents_part, contents_told, flow_heading, flow_part, flow_parts, page_of, part_if, run_grid, run_heading, run_tables, words_list};
+ghost use Rattle.flow_page.specs.Page.{contents_part, contents_told, flow_heading, flow_part, flow_parts, page_of};
+ghost use Rattle.flow_page.specs.Page.{part_if, run_grid, run_heading, run_tables, words_list};
 ghost use Rattle.flow_page.specs.Words.{utc};
 
 use crate::around::add_around_figures;
@@ -23,24 +24,24 @@ use std::alloc::{AllocError as OutOfMemory, Global};
 use timing_base::{FileNote, Media, Session, Target};
 use timing_report::group_name;
 
-/// Adds some markup.
+/// Adds markup as it is.
 fn add_markup(text: &mut String, markup: &str) -> Result<(), OutOfMemory>
     ensures { IfOk result (λ _. string_bytes text.new ≡ string_bytes text.old ++ markup.now) }
 {
     text.push_str(markup)
 }
 
-/// Adds which flow a part of the page is of.
+/// Adds the heading of a flow.
 fn add_flow_heading(text: &mut String, number: u64, target: Target) -> Result<(), OutOfMemory>
     ensures { IfOk result (λ _. string_bytes text.new ≡ string_bytes text.old ++ flow_heading number target) }
 {
     writeln!(text, "<h2>Flow {number}, {target}</h2>")
 }
 
-/// Adds which run it is, and when its first and its last judged packet come.
+/// Adds the line that names a run, with the times of its first and last judged packet, in nanoseconds of UTC.
 fn add_run_heading(
     text: &mut String,
-    run: u32,
+    run: u64,
     from: u64,
     first: u64,
     last: u64,
@@ -54,7 +55,8 @@ fn add_run_heading(
     )
 }
 
-/// Adds the types in words.
+/// Adds the list of the results of all types, in words. `group` is "frame" or "field", `tai` the seconds that were
+/// added to capture timestamps.
 fn add_words_list(
     text: &mut String,
     types: &[TypeShown],
@@ -90,7 +92,7 @@ fn add_run_grid(
     add_markup(text, "</div>\n")
 }
 
-/// Adds the numbers of a run, and those of all judged runs of its flow.
+/// Adds the tables of a run: its measurements, its types, and all judged runs of its flow.
 fn add_run_tables(
     text: &mut String,
     shown: &ShownRun,
@@ -105,7 +107,7 @@ fn add_run_tables(
     add_runs_table(text, runs)
 }
 
-/// Adds which flow a part of the page is of, by its media.
+/// Adds the heading of a flow of this media.
 fn add_flow_title(text: &mut String, media: &Media, flow: &MeasuredFlow) -> Result<(), OutOfMemory>
     ensures { IfOk result (λ _. string_bytes text.new
         ≡ string_bytes text.old ++ flow_heading (flow.now.media + 1) (target_of media.now)) }
@@ -114,17 +116,18 @@ fn add_flow_title(text: &mut String, media: &Media, flow: &MeasuredFlow) -> Resu
     add_flow_heading(text, number, media.target())
 }
 
-/// Adds which run is shown, and when its packets come.
+/// Adds the line that names the run that is shown, with the times of its packets.
 fn add_run_title(text: &mut String, tai: u32, shown: &ShownRun) -> Result<(), OutOfMemory>
     ensures { IfOk result (λ _. string_bytes text.new ≡ string_bytes text.old
-        ++ run_heading shown.now.run.run shown.now.run.«record» (utc tai shown.now.first_at) (utc tai shown.now.last_at)) }
+        ++ run_heading shown.now.run.run shown.now.run.«record»
+        (utc tai shown.now.first_at) (utc tai shown.now.last_at)) }
 {
     let first = utc(tai, shown.first_at);
     let last = utc(tai, shown.last_at);
     add_run_heading(text, shown.run.run, shown.run.record, first, last)
 }
 
-/// Adds the types in words, with the name of this media's groups.
+/// Adds the results of all types in words, with "frame" or "field" as this media has it.
 fn add_types_told(
     text: &mut String,
     media: &Media,
@@ -160,7 +163,7 @@ fn add_shown(
     add_run_tables(text, shown, types, flow.runs.as_slice())
 }
 
-/// Adds a flow of this media, where a run is shown.
+/// Adds the part of a flow of this media, if a run is shown.
 fn add_flow_part(
     text: &mut String,
     alloc: Global,
@@ -176,7 +179,7 @@ fn add_flow_part(
     }
 }
 
-/// Adds all flows.
+/// Adds the parts of all flows.
 fn add_flow_parts(
     text: &mut String,
     alloc: Global,
@@ -194,7 +197,7 @@ fn add_flow_parts(
     Ok(())
 }
 
-/// Adds these lines under their heading.
+/// Adds the start of the section on what the capture contains, with these lines.
 fn add_contents(text: &mut String, lines: &str) -> Result<(), OutOfMemory>
     ensures { IfOk result (λ _. string_bytes text.new ≡ string_bytes text.old ++ contents_told lines.now) }
 {
@@ -205,7 +208,7 @@ fn add_contents(text: &mut String, lines: &str) -> Result<(), OutOfMemory>
     )
 }
 
-/// Adds what the capture holds.
+/// Adds the section on what the capture contains.
 fn add_contents_part(text: &mut String, contents: &str) -> Result<(), OutOfMemory>
     ensures { IfOk result (λ _. string_bytes text.new ≡ string_bytes text.old ++ contents_part contents.now) }
 {
@@ -213,12 +216,12 @@ fn add_contents_part(text: &mut String, contents: &str) -> Result<(), OutOfMemor
     add_markup(text, "</pre></div>\n")
 }
 
-/// The page of a capture of this name. `note` says how the capture ends, `tai` how many seconds were added to its
-/// stamps, each flow is of a media of the session, and `contents` says what the capture holds, as `scan` prints it. `Err`
-/// is want of memory.
+/// Returns the page of a capture. `name` is the name of the capture, `note` how it ends, and `tai` the number of
+/// seconds that were added to its timestamps. Each flow belongs to a media of the session, and `contents` is what
+/// `scan` prints for the capture. Returns `Err` if memory runs out.
 ///
-/// It needs nothing else: no script, and nothing that is fetched. Numbers stand where their size puts them, rounded down
-/// to a tenth of a unit of their picture; what of names HTML would read as markup is escaped.
+/// The page has no script and loads no other file. Numbers are drawn at the place of their value, rounded down to a
+/// tenth of an SVG unit. Characters of names that HTML would read as markup are escaped.
 pub fn page_text(
     alloc: Global,
     name: &str,

@@ -1,4 +1,4 @@
-//! What a page shows.
+//! The contents of a page.
 
 ghost use Rattle.std.specs.Prelude.{◌≡◌, IfOk};
 ghost use Rattle.flow_page.specs.Shown.{kind_at, margins_of, type_shown, types_from, types_shown};
@@ -8,93 +8,115 @@ use std::alloc::{AllocError as OutOfMemory, Global};
 use timing_base::{FailProof, Items, Judged, Kind, KindVerdict};
 use timing_report::{buffer_peak, verdict_on};
 
-/// The columns of a run: at most 1,000 over all its packets or groups, and at most 500 of its groups laid over each
-/// other.
+/// The columns of a run: at most 1,000 over all its packets or all its frames or fields, and at most 500 with all
+/// frames or fields overlaid.
 #[derive(Drop)]
 pub struct Curves {
-    /// What the bucket holds just after each packet.
+    /// The count of the bucket just after each packet, in packets.
     pub bucket: Items<Extremes>,
-    /// What the buffer holds by gapped reads.
+    /// The occupancy of the buffer by gapped reads just after each packet, in packets.
     pub gapped: Items<Extremes>,
-    /// What it holds by linear reads.
+    /// The occupancy of the buffer by linear reads just after each packet, in packets.
     pub linear: Items<Extremes>,
-    /// The same three, of all groups laid over each other.
+    /// The count of the bucket, all frames or fields overlaid, in packets.
     pub bucket_eye: Items<Extremes>,
+    /// The occupancy of the buffer by gapped reads, all frames or fields overlaid, in packets.
     pub gapped_eye: Items<Extremes>,
+    /// The occupancy of the buffer by linear reads, all frames or fields overlaid, in packets.
     pub linear_eye: Items<Extremes>,
-    /// When the first packet of each group comes, in nanoseconds after the instant with which the group begins.
+    /// Nanoseconds from the instant at which each frame or field begins to its first packet.
     pub first: Items<Extremes>,
-    /// When the last one comes.
+    /// Nanoseconds from the instant at which each frame or field begins to its last packet.
     pub last: Items<Extremes>,
-    /// By how many ticks the timestamp of each group is after that instant.
+    /// Ticks of 90 kHz by which each RTP timestamp exceeds the media clock at the instant at which its frame or field
+    /// begins.
     pub offset: Items<Extremes>,
-    /// From the timestamp of each group to its first packet, in ticks.
+    /// Ticks of 90 kHz from each RTP timestamp to the first packet of its frame or field.
     pub latency: Items<Extremes>,
 }
 
-/// The packets around a fail: at most 400 columns of the model that breaks.
+/// The packets around a violation: at most 400 columns of the bucket or the buffer that breaks its limit.
 #[derive(Drop)]
 pub struct Region {
     /// The type that fails.
     pub kind: Kind,
+    /// The violation.
     pub proof: FailProof,
-    /// The first packet that is shown, counted from 0, and how many are.
+    /// The first packet in the picture, from 0.
     pub start: u64,
+    /// The count of packets in the picture.
     pub count: u64,
+    /// The columns of these packets, one per packet, in packets.
     pub columns: Items<Extremes>,
 }
 
-/// The run of a flow of which there are pictures.
+/// The run of a flow that has pictures.
 #[derive(Drop)]
 pub struct ShownRun {
+    /// The run with its measurements.
     pub run: MeasuredRun,
-    /// The stamps of its first and its last judged packet, in nanoseconds, with the seconds that are added.
+    /// The capture timestamp of its first judged packet, in nanoseconds, including the seconds that are added to get
+    /// TAI.
     pub first_at: u64,
+    /// The capture timestamp of its last judged packet, in nanoseconds, including the seconds that are added to get
+    /// TAI.
     pub last_at: u64,
+    /// The columns over the run.
     pub curves: Curves,
-    /// One for each type that fails.
+    /// The packets around the violation of each type that fails.
     pub regions: Items<Region>,
 }
 
-/// A flow and what is shown of it.
+/// A flow and its run in pictures.
 #[derive(Drop)]
 pub struct FlowPage {
+    /// The flow with all its judged runs.
     pub flow: MeasuredFlow,
-    /// Its run with the most judged packets, where one is judged.
+    /// Its run with the most judged packets; `None` if no run is judged.
     pub shown: Option<ShownRun>,
 }
 
-/// What a judged run shows of a sender type. Packets and groups count from 0.
+/// The values of a judged run for one sender type. Packets, frames and fields count from 0.
 #[derive(Clone, Copy)]
 pub(crate) struct TypeShown {
+    /// The sender type.
     pub(crate) kind: Kind,
+    /// The verdict on the type.
     pub(crate) verdict: KindVerdict,
-    /// The most packets that the bucket holds, and its limit.
+    /// The greatest count of the bucket, in packets.
     pub(crate) bucket_peak: u64,
+    /// C_MAX, the limit of the bucket, in packets.
     pub(crate) c_max: u64,
-    /// The most packets that the buffer holds, and its limit.
+    /// The greatest occupancy of the buffer by the type's reads, in packets.
     pub(crate) buffer_peak: u64,
+    /// VRX_FULL, the limit of the buffer, in packets.
     pub(crate) vrx_full: u64,
-    /// The groups, and those that break a model.
+    /// The count of frames or fields.
     pub(crate) groups: u64,
+    /// The count of frames or fields that have a packet that breaks a limit.
     pub(crate) groups_broken: u64,
-    /// The packets after which the bucket or the buffer is above its limit, or the buffer below 0.
+    /// The count of packets after which the bucket exceeds its limit.
     pub(crate) above_bucket: u64,
+    /// The count of packets after which the buffer exceeds its limit.
     pub(crate) above_buffer: u64,
+    /// The count of packets after which the buffer is below 0.
     pub(crate) below_buffer: u64,
-    /// The packets that come after their own reads.
+    /// The count of packets that arrive after their own reads.
     pub(crate) late: u64,
-    /// By how many nanoseconds all may come later before one is late; below 0 how late the worst is.
+    /// The nanoseconds by which all packets may be later before one is late; if a packet is late, minus the greatest
+    /// lateness.
     pub(crate) slack: i128,
-    /// The first packets that break each model.
+    /// The first packet after which the bucket exceeds its limit.
     pub(crate) first_bucket: Option<u64>,
+    /// The first packet after which the buffer exceeds its limit.
     pub(crate) first_over: Option<u64>,
+    /// The first packet that arrives after its own read.
     pub(crate) first_empty: Option<u64>,
-    /// Where the last packet of the fail stands that the verdict names.
+    /// The place in the capture of the last packet of the violation in the verdict.
     pub(crate) named: Option<Place>,
 }
 
-/// How the packets come to the reads of a type.
+/// Returns the margins of the packets by the reads of a type.
 fn margins_of(numbers: &RunNumbers, kind: Kind) -> Margins
     ensures { result ≡ margins_of numbers.now kind }
 {
@@ -105,7 +127,7 @@ fn margins_of(numbers: &RunNumbers, kind: Kind) -> Margins
     }
 }
 
-/// What a run shows of one type.
+/// Returns the values of a run for one type.
 fn type_shown(judged: &Judged, numbers: &RunNumbers, kind: Kind, k: &KindNumbers) -> TypeShown
     ensures { result ≡ type_shown judged.now numbers.now kind k.now }
 {
@@ -131,7 +153,7 @@ fn type_shown(judged: &Judged, numbers: &RunNumbers, kind: Kind, k: &KindNumbers
     }
 }
 
-/// The type at this place of N, NL and W.
+/// Returns the type at this place of N, NL and W, from 0.
 pub(crate) fn kind_at(place: usize) -> Kind
     ensures { result ≡ kind_at place }
 {
@@ -142,14 +164,14 @@ pub(crate) fn kind_at(place: usize) -> Kind
     }
 }
 
-/// What a run shows of the type at this place.
+/// Returns the values of a run for the type at this place.
 fn type_at(judged: &Judged, numbers: &RunNumbers, place: usize, k: &KindNumbers) -> TypeShown
     ensures { result ≡ type_shown judged.now numbers.now (kind_at place) k.now }
 {
     type_shown(judged, numbers, kind_at(place), k)
 }
 
-/// What a run shows of types, of which there are these numbers.
+/// Returns the values of a run for the types with these measurements, in the order N, NL, W.
 fn types_from(
     alloc: Global,
     judged: &Judged,
@@ -165,7 +187,7 @@ fn types_from(
     Ok(types)
 }
 
-/// What a run shows of the types N, NL and W.
+/// Returns the values of a run for the types N, NL and W.
 pub(crate) fn types_shown(
     alloc: Global,
     judged: &Judged,

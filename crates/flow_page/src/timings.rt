@@ -1,8 +1,11 @@
-//! Pictures of when packets come, and of the RTP timestamps.
+//! Pictures of the times of packets and of the RTP timestamps.
 
 ghost use Rattle.std.specs.Prelude.{◌≡◌, ◌<◌, ◌≤◌, ◌^◌, ◌++◌, IfOk, string_bytes};
 ghost use Rattle.sender_params.specs.Times.{groups_of};
-ghost use Rattle.flow_page.specs.Timings.{drift_of, least_step, misfits, most_step, period_of, span_of, steps_line, steps_seen, steps_wanted, steps_words, timing_columns, timing_detail, timing_figure, timing_figures, timing_lines, timing_scene, timing_summary, timing_title, timing_unit, wanted_text};
+ghost use Rattle.flow_page.specs.Timings.{drift_of, least_step, misfits, most_step, period_of, span_of, steps_line};
+ghost use Rattle.flow_page.specs.Timings.{steps_seen, steps_wanted, steps_words, timing_columns, timing_detail};
+ghost use Rattle.flow_page.specs.Timings.{timing_figure, timing_figures, timing_lines, timing_scene, timing_summary};
+ghost use Rattle.flow_page.specs.Timings.{timing_title, timing_unit, wanted_text};
 
 use crate::chart::{Limit, LineName, Scene, Tenths, Unit, UnitAcross, add_curve_figure};
 use crate::levels::{across_of, one_line};
@@ -14,20 +17,20 @@ use std::alloc::{AllocError as OutOfMemory, Global};
 use std::fmt;
 use timing_base::{Judged, Media};
 
-/// What a picture is of.
+/// The quantity that a picture shows.
 #[derive(Clone, Copy)]
 enum Timing {
-    /// The first packet of each group.
+    /// The first packet of each frame or field, in nanoseconds after its start.
     First,
-    /// The last one.
+    /// The last packet of each frame or field, in nanoseconds after its start.
     Last,
-    /// The RTP timestamp of each group.
+    /// The RTP timestamp of each frame or field, in ticks after the media clock at its start.
     Offset,
-    /// From that to the first packet.
+    /// The first packet of each frame or field, in ticks after its RTP timestamp.
     Latency,
 }
 
-/// The title of a picture.
+/// Returns the title of a picture.
 fn timing_title(timing: Timing) -> &'static str
     ensures { result.now ≡ timing_title timing }
 {
@@ -39,7 +42,7 @@ fn timing_title(timing: Timing) -> &'static str
     }
 }
 
-/// The summary of its numbers.
+/// Returns the summary of a quantity.
 fn timing_summary(numbers: &RunNumbers, timing: Timing) -> Summary
     ensures { result ≡ timing_summary numbers.now timing }
 {
@@ -51,7 +54,7 @@ fn timing_summary(numbers: &RunNumbers, timing: Timing) -> Summary
     }
 }
 
-/// Its columns.
+/// Returns the columns of a quantity.
 fn timing_columns(curves: &Curves, timing: Timing) -> &[Extremes]
     ensures { result.now ≡ timing_columns curves.now timing }
 {
@@ -63,7 +66,7 @@ fn timing_columns(curves: &Curves, timing: Timing) -> &[Extremes]
     }
 }
 
-/// What its numbers count.
+/// Returns the unit of a quantity.
 fn timing_unit(timing: Timing) -> Unit
     ensures { result ≡ timing_unit timing }
 {
@@ -75,7 +78,7 @@ fn timing_unit(timing: Timing) -> Unit
     }
 }
 
-/// So many of what its numbers count.
+/// The greatest number with its unit.
 #[derive(Clone, Copy)]
 struct Most {
     timing: Timing,
@@ -102,7 +105,7 @@ impl fmt::Display for Most {
     }
 }
 
-/// The time from one group to the next, in nanoseconds, rounded down.
+/// Returns the time from one frame or field to the next, in nanoseconds, rounded down.
 pub(crate) fn period_of(media: &Media, judged: &Judged) -> u128
     ensures value { result ≡ period_of media.now }
     ensures small { result < 2 ^ 40 }
@@ -111,7 +114,8 @@ pub(crate) fn period_of(media: &Media, judged: &Judged) -> u128
     num / den
 }
 
-/// The line of a picture.
+/// Returns the line of a picture. `target` is TR_OFFSET and `period` the time from one frame or field to the next, both
+/// in nanoseconds.
 fn timing_lines(
     alloc: Global,
     target: u64,
@@ -137,7 +141,8 @@ fn timing_lines(
     }
 }
 
-/// By how many tenths of a ppm the last one is later, over a time.
+/// Returns the drift in tenths of a ppm: the difference of two times over a time span, all in nanoseconds, rounded
+/// down. Its sign is lost. A difference above 2^64 ns counts as 2^64 ns, and a span of 0 as 1 ns.
 #[tactic(auto, unfolding(crate::specs::Timings::drift_of))]
 fn drift_of(first: i128, last: i128, span: u64) -> u128
     ensures { result ≡ drift_of first last span }
@@ -145,7 +150,7 @@ fn drift_of(first: i128, last: i128, span: u64) -> u128
     last.abs_diff(first).min(1 << 64) * 10_000_000 / u128::from(span.max(1))
 }
 
-/// A minus, where the last one is earlier.
+/// A minus sign if the last number is less than the first.
 #[derive(Clone, Copy)]
 struct MinusIf {
     summary: Summary,
@@ -166,7 +171,7 @@ impl fmt::Display for MinusIf {
     }
 }
 
-/// How packets drift, of two groups or more.
+/// The text on the drift of packets; empty if there are fewer than two frames or fields.
 #[derive(Clone, Copy)]
 struct DriftText {
     summary: Summary,
@@ -194,7 +199,7 @@ impl fmt::Display for DriftText {
     }
 }
 
-/// How packets drift, where a picture is of packets.
+/// The text on the drift; empty if the picture isn't of packets.
 #[derive(Clone, Copy)]
 struct Drift {
     timing: Timing,
@@ -225,7 +230,7 @@ impl fmt::Display for Drift {
     }
 }
 
-/// What is told beside a picture.
+/// Returns the text beside a picture.
 fn timing_detail(
     alloc: Global,
     timing: Timing,
@@ -248,7 +253,7 @@ fn timing_detail(
     format!(in alloc; "least {}, most {most}{drift}", summary.least)
 }
 
-/// The scene of a picture.
+/// Returns the scene of a picture.
 fn timing_scene(judged: &Judged, timing: Timing) -> Scene
     ensures value { result ≡ timing_scene judged.now timing }
     ensures few { result.across.count ≤ 2 ^ 60 }
@@ -257,13 +262,13 @@ fn timing_scene(judged: &Judged, timing: Timing) -> Scene
         wide: false,
         unit: timing_unit(timing),
         along: UnitAcross::Frame,
-        across: across_of(judged.frames, 1000),
+        across: across_of(judged.frames),
         every: 0,
         shade: None,
     }
 }
 
-/// The time from the first to the last judged packet of a run, in nanoseconds.
+/// Returns the time from the first to the last judged packet of a run, in nanoseconds.
 fn span_of(shown: &ShownRun) -> u64
     ensures { result ≡ span_of shown.now }
 {
@@ -299,7 +304,7 @@ fn add_timing_figure(
     )
 }
 
-/// Adds all of them; `period` is the time from one group to the next, in nanoseconds.
+/// Adds all pictures. `period` is the time from one frame or field to the next, in nanoseconds.
 pub(crate) fn add_timing_figures(
     text: &mut String,
     alloc: Global,
@@ -315,7 +320,7 @@ pub(crate) fn add_timing_figures(
     add_timing_figure(text, alloc, period, shown, Timing::Latency)
 }
 
-/// The groups of a frame.
+/// Returns the count of RTP timestamps per frame: 2 if interlaced, one for each field, else 1.
 fn groups_of(media: &Media) -> u64
     ensures value { result ≡ groups_of media.now }
     ensures some { 1 ≤ result }
@@ -324,28 +329,28 @@ fn groups_of(media: &Media) -> u64
     if media.interlaced { 2 } else { 1 }
 }
 
-/// The ticks from one group to the next, rounded down.
+/// Returns the ticks from one frame or field to the next, rounded down.
 fn least_step(media: &Media) -> u64
     ensures { result ≡ least_step media.now }
 {
     90_000 * u64::from(media.q) / (u64::from(media.p) * groups_of(media)).max(1)
 }
 
-/// The ticks from one group to the next, rounded up.
+/// Returns the ticks from one frame or field to the next, rounded up.
 fn most_step(media: &Media) -> u64
     ensures { result ≡ most_step media.now }
 {
     (90_000 * u64::from(media.q)).div_ceil((u64::from(media.p) * groups_of(media)).max(1))
 }
 
-/// Whether a step of the timestamp is another one.
+/// Returns whether a step of the RTP timestamp is outside `least` to `most`.
 fn misfits(least: u64, most: u64, step: Summary) -> bool
     ensures { result ≡ misfits least most step }
 {
     step.least < i128::from(least) || i128::from(most) < step.greatest
 }
 
-/// Adds how the timestamp goes on.
+/// Adds the steps of the RTP timestamp that were measured.
 fn add_steps_seen(text: &mut String, step: Summary) -> Result<(), OutOfMemory>
     ensures { IfOk result (λ _. string_bytes text.new ≡ string_bytes text.old ++ steps_seen step) }
 {
@@ -356,7 +361,7 @@ fn add_steps_seen(text: &mut String, step: Summary) -> Result<(), OutOfMemory>
     )
 }
 
-/// Adds how it goes on by a rate.
+/// Adds the steps that the rate `p` / `q` gives.
 #[tactic(auto, unfolding(crate::specs::Timings::wanted_text))]
 fn write_wanted(text: &mut String, p: u32, q: u32, least: u64, most: u64) -> Result<(), OutOfMemory>
     ensures { IfOk result (λ _. string_bytes text.new ≡ string_bytes text.old ++ wanted_text p q least most) }
@@ -367,7 +372,7 @@ fn write_wanted(text: &mut String, p: u32, q: u32, least: u64, most: u64) -> Res
     )
 }
 
-/// Adds how it goes on by the description.
+/// Adds the steps that the rate of the SDP gives.
 fn add_steps_wanted(text: &mut String, media: &Media) -> Result<(), OutOfMemory>
     ensures { IfOk result (λ _. string_bytes text.new ≡ string_bytes text.old ++ steps_wanted media.now) }
 {
@@ -376,7 +381,7 @@ fn add_steps_wanted(text: &mut String, media: &Media) -> Result<(), OutOfMemory>
     write_wanted(text, media.p, media.q, least, most)
 }
 
-/// Adds both.
+/// Adds the measured and the expected steps.
 fn add_steps_words(text: &mut String, media: &Media, step: Summary) -> Result<(), OutOfMemory>
     ensures { IfOk result (λ _. string_bytes text.new ≡ string_bytes text.old ++ steps_words media.now step) }
 {
@@ -384,7 +389,7 @@ fn add_steps_words(text: &mut String, media: &Media, step: Summary) -> Result<()
     add_steps_wanted(text, media)
 }
 
-/// Adds the same, where the steps aren't those of the rate.
+/// Adds the measured and the expected steps, if they differ.
 pub(crate) fn add_steps_line(
     text: &mut String,
     media: &Media,

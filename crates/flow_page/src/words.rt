@@ -1,4 +1,4 @@
-//! What is told of the sender types in words.
+//! The results of the sender types in words.
 
 ghost use Rattle.std.specs.Prelude.{◌≡◌, ◌++◌, IfOk, string_bytes, unsigned_abs};
 ghost use Rattle.std.specs.List.{flat_map};
@@ -52,7 +52,7 @@ impl fmt::Display for Three {
     }
 }
 
-/// The time of day of an instant, in nanoseconds since the begin of a day.
+/// A time of day with nine decimals of the second. `ns` is nanoseconds since any midnight.
 #[derive(Clone, Copy)]
 pub(crate) struct Clock {
     pub(crate) ns: u64,
@@ -86,14 +86,14 @@ impl fmt::Display for Clock {
     }
 }
 
-/// A stamp, from which the seconds are taken that were added.
+/// Returns a capture timestamp in nanoseconds of UTC, which is `stamp` less `tai` seconds, or 0 if it is below that.
 pub(crate) fn utc(tai: u32, stamp: u64) -> u64
     ensures { result ≡ utc tai stamp }
 {
     stamp.saturating_sub(u64::from(tai) * 1_000_000_000)
 }
 
-/// Pass or fail, by a word and a sign.
+/// Pass or fail, as a sign and a word.
 #[derive(Clone, Copy)]
 pub(crate) struct Sign {
     pub(crate) verdict: KindVerdict,
@@ -113,15 +113,15 @@ impl fmt::Display for Sign {
     }
 }
 
-/// So many of a thing.
+/// A count with its noun.
 #[derive(Clone, Copy)]
 pub(crate) struct Counted {
     pub(crate) count: i128,
-    /// What one of them is called.
+    /// The noun in the singular.
     pub(crate) noun: &'static str,
 }
 
-/// The end of the name of so many things.
+/// Returns the plural ending of a noun with this count.
 fn noun_end(count: i128) -> &'static str
     ensures { result.now ≡ noun_end count }
 {
@@ -141,7 +141,7 @@ impl fmt::Display for Counted {
     }
 }
 
-/// After how many packets something is above its limit, where it ever is.
+/// The text on how many packets exceed a limit and which is the first; empty if there is none.
 #[derive(Clone, Copy)]
 struct Above {
     what: &'static str,
@@ -173,7 +173,7 @@ impl fmt::Display for Above {
     }
 }
 
-/// By how much the worst packet is late.
+/// The text on the greatest lateness of a packet.
 #[derive(Clone, Copy)]
 struct Worst {
     late: Late,
@@ -191,14 +191,14 @@ impl fmt::Display for Worst {
     }
 }
 
-/// How late a packet is whose slack is below 0.
+/// Returns the lateness of a packet with a slack below 0, in nanoseconds.
 fn lateness(slack: i128) -> u128
     ensures { result ≡ unsigned_abs slack }
 {
     slack.unsigned_abs()
 }
 
-/// How many packets come late, where one does.
+/// The text on how many packets are late and which is the first; empty if there is none.
 #[derive(Clone, Copy)]
 struct Late {
     late: u64,
@@ -230,7 +230,7 @@ impl fmt::Display for Late {
     }
 }
 
-/// Where the last packet of a fail stands.
+/// The text on the place in the capture of the last packet of a violation.
 #[derive(Clone, Copy)]
 struct Named {
     to: u64,
@@ -261,11 +261,11 @@ impl fmt::Display for Named {
     }
 }
 
-/// By how much a type passes, or how it fails.
+/// The text on the slack of a type that passes, or on how it fails.
 #[derive(Clone, Copy)]
 struct Outcome {
     shown: TypeShown,
-    /// What a group is called.
+    /// "frame" or "field".
     group: &'static str,
     tai: u32,
 }
@@ -292,7 +292,7 @@ impl fmt::Display for Outcome {
     }
 }
 
-/// How many groups break a type.
+/// The text on how many frames or fields break a type.
 #[derive(Clone, Copy)]
 struct BrokenText {
     shown: TypeShown,
@@ -315,7 +315,7 @@ impl fmt::Display for BrokenText {
     }
 }
 
-/// What is above its limit.
+/// The text on the packets that exceed the limits of bucket and buffer.
 #[derive(Clone, Copy)]
 struct OverText {
     shown: TypeShown,
@@ -343,7 +343,7 @@ impl fmt::Display for OverText {
     }
 }
 
-/// How a type fails.
+/// The text on how a type fails.
 #[derive(Clone, Copy)]
 struct Breaks {
     shown: TypeShown,
@@ -401,7 +401,7 @@ impl fmt::Display for Peaks {
     }
 }
 
-/// Adds what is told of a type.
+/// Adds the result of a type in words.
 fn add_type_words(
     text: &mut String,
     shown: &TypeShown,
@@ -421,7 +421,7 @@ fn add_type_words(
     writeln!(text, "<li>{sign} <b>{name}{peaks}{outcome}.</li>")
 }
 
-/// Adds what is told of the types.
+/// Adds the results of types in words.
 pub(crate) fn add_words(
     text: &mut String,
     types: &[TypeShown],

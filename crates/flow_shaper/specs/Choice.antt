@@ -1,4 +1,4 @@
--- How the next departure follows from what is metered of those before it.
+-- The next departure, by the state of both models after those before it.
 use Rattle.std.specs.Prelude.{◌≡◌, ◌≢◌, ◌≤◌, ◌<◌, ◌+◌, ◌-◌, ℕ, ℤ}
 use Rattle.fraction128.specs.Clocks.{StandsAt, passed_by}
 use Rattle.timing_base.specs.declared.media.Kind.{Kind}
@@ -10,7 +10,7 @@ use Rattle.flow_shaper.specs.declared.departure.Bound.TheVariants.{Arrival, Buck
 use Rattle.flow_shaper.specs.declared.departure.Departure.{Departure}
 use Rattle.flow_shaper.specs.declared.meters.Meters.{Meters}
 
--- which of the instants that hold a packet back the departure d is
+-- the instant that sets the departure time d
 abbrev pub IsChosen : Meters → (c_max vrx_full packet at d : ℕ) → Bound → Type 0
 IsChosen meters c_max vrx_full packet at d Arrival = d ≡ at
 IsChosen meters c_max vrx_full packet at d (Bucket from) = (d ≢ at)
@@ -27,7 +27,7 @@ IsChosen meters c_max vrx_full packet at d Order = (d ≢ at)
     × (meters.read.number + vrx_full ≤ packet → d ≢ meters.read.at)
     × (d ≡ meters.last)
 
--- the departure of the packet that came at `at` is no earlier than any of them, and one of them
+-- the departure of the packet that came at `at` is no earlier than any of these instants, and is one of them
 pub record Chooses (meters : Meters) (c_max vrx_full packet at : ℕ) (d : Departure) : Type 0 where
   pub arrival : at ≤ d.at
   pub order : meters.last ≤ d.at
@@ -53,8 +53,8 @@ pub record HaveStarted (params : Params) (kind : Kind) (n0 : ℤ) (at : ℕ) (me
   pub read : IsNextAfter params.media params.n n0 (gapped_of kind) at meters.read
   pub reads : StandsBy params.media params.n n0 (gapped_of kind) meters.schedule at
 
--- the meters after a packet, which left at `at`, from those before it: the reads are looked for again where the packet
--- behind it may have to wait for one
+-- the meters after a packet, which left at `at`, from those before it; the reads are counted again if the next packet
+-- may have to wait for one
 pub record HavePassed (params : Params) (full : ℕ) (old new : Meters) (packet at : ℕ) : Type 0 where
   pub last : new.last ≡ at
   pub bucket : (origin before : ℕ) → before ≤ at → StandsAt params.drain old.tick origin before

@@ -1,8 +1,8 @@
--- what is promised
+-- definitions that the clauses of the public functions use
 pub mod Bounds
 pub mod Plan
 pub mod Stands
--- models and packets that are worked by hand
+-- models and packets for values worked by hand
 pub mod Worked
--- these only serve proofs
+-- definitions for proofs only
 pub mod Choice

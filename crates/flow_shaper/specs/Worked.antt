@@ -1,21 +1,21 @@
--- Models and packets on which the definitions are tried by hand. Stamps are in nanoseconds.
+-- Models and packets for values worked by hand. Instants are in nanoseconds.
 use Rattle.std.specs.Prelude.{◌+◌, ◌-◌, ◌/◌, ℕ, List, [], ◌∷◌, ◌++◌, false, Some, None}
 use Rattle.timing_base.specs.Media.{Media}
 use Rattle.timing_base.specs.declared.media.Kind.TheVariants.{N}
 use Rattle.sender_params.specs.Worked.{at_once, described, hd_50}
 use Rattle.flow_shaper.specs.Plan.{Models, models_of}
 
--- a tick each 10 ns and a read each 100 ns
+-- a tick every 10 ns and a read every 100 ns
 abbrev pub small : (c_max vrx_full : ℕ) → Models
 small c_max vrx_full =
     record { ticks = λ at. at / 10; held = λ i at. (i + 1) - at / 100; c_max = c_max; vrx_full = vrx_full }
 
--- a tick and a read each 10 ns
+-- a tick and a read every 10 ns
 abbrev pub even : (c_max vrx_full : ℕ) → Models
 even c_max vrx_full =
     record { ticks = λ at. at / 10; held = λ i at. (i + 1) - at / 10; c_max = c_max; vrx_full = vrx_full }
 
--- 1,600,000,000 s and 764,000 ns, where the packets of `at_once` come
+-- 1,600,000,000 s and 764,000 ns, the instant of the packets of `at_once`
 abbrev pub first : ℕ
 first = 1600000000000764000
 
@@ -24,10 +24,10 @@ first = 1600000000000764000
 abbrev pub narrow : Models
 narrow = models_of hd_50 20 N first
 
--- the same with CMAX=100
+-- 1080p at 50, declared narrow, with CMAX=100
 abbrev pub hd_50_wide_bucket : Media
 hd_50_wide_bucket = described 1080 false 50 1 (Some N) None (Some 100)
 
--- of five packets at once the last one leaves a tick later
+-- departures of five packets at once: the last leaves at the next tick
 abbrev pub burst_shaped : List ℕ
 burst_shaped = at_once 4 ++ (first + 909091) ∷ []

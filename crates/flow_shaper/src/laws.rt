@@ -1,5 +1,5 @@
-//! What holds of plans, for every list of arrivals, and the definitions on numbers worked by hand. Each
-//! function is a theorem: it does nothing, and its clauses are proved.
+//! Theorems about plans, for every list of arrivals, and the definitions on numbers worked by hand. Each function does
+//! nothing; its clauses are the theorem.
 
 ghost use Rattle.std.specs.Prelude.{◌≡◌, ◌≤◌, ◌<◌, ◌+◌, ℕ, List, Some, None, false, [], ◌∷◌, length, slice_index};
 ghost use Rattle.timing_base.specs.Media.{IsMedia, Media};
@@ -15,7 +15,7 @@ ghost use Rattle.flow_shaper.specs.Worked.{burst_shaped, even, first, hd_50_wide
 ghost use Rattle.flow_shaper.specs.declared.departure.Bound.{Bound};
 ghost use Rattle.flow_shaper.specs.declared.departure.Bound.TheVariants.{Arrival, Bucket, Buffer, Order};
 
-/// Every list of arrivals has a plan that is least at each packet, and only one.
+/// Every list of arrivals has exactly one plan in which each packet leaves as early as in any plan: the least plan.
 pub fn least_plan()
     ensures some { (m : Media) (n : ℕ) (kind : Kind) (arrivals : List ℕ) → IsMedia m → 1 ≤ n
         → (departures : List ℕ) × Shaped m n kind arrivals departures }
@@ -24,15 +24,15 @@ pub fn least_plan()
         → slice_index a i ≡ slice_index b i }
 {}
 
-/// In it the first packet leaves when it comes.
+/// In the least plan the first packet leaves when it comes.
 pub fn first_leaves_as_it_comes()
     ensures { (m : Media) (n : ℕ) (kind : Kind) (arrivals departures : List ℕ) → IsMedia m → 1 ≤ n
         → Shaped m n kind arrivals departures → 0 < length arrivals
         → slice_index departures 0 ≡ slice_index arrivals 0 }
 {}
 
-/// The departures of the least plan, taken as the stamps of a flow, keep the bucket within C_MAX of the type, and
-/// at none of its packets the buffer holds more than VRX_FULL.
+/// The departures of the least plan, taken as the capture timestamps of a flow, keep the bucket within C_MAX of the
+/// type, and the buffer holds no more than VRX_FULL just after any packet.
 pub fn shaped_keeps()
     ensures bucket { (m : Media) (n : ℕ) (kind : Kind) (arrivals departures : List ℕ) → IsMedia m → 1 ≤ n
         → Shaped m n kind arrivals departures → KeepsBucket m n departures kind }
@@ -41,16 +41,16 @@ pub fn shaped_keeps()
         → held_at m n departures (gapped_of kind) i ≤ vrx_full_of m n kind }
 {}
 
-/// In it each packet leaves when it comes, or the bucket, the buffer or the packet before it holds it
-/// back, in groups of at most 262,144 packets: there T_DRAIN is a nanosecond or more.
+/// In the least plan each packet leaves when it comes, or the bucket, the buffer or the packet before it delays it.
+/// This holds for frames or fields of at most 262,144 packets, where T_DRAIN is at least a nanosecond.
 pub fn some_bound()
     ensures { (m : Media) (n : ℕ) (kind : Kind) (arrivals departures : List ℕ) (i : ℕ) → IsMedia m
         → n ≤ 262144 → Shaped m n kind arrivals departures → i < length arrivals
         → (bound : Bound) × BoundAt m n kind arrivals departures i bound }
 {}
 
-/// Each condition of a plan alone, and at its limit: with a tick each 10 ns, a read each 100 ns, and
-/// C_MAX and VRX_FULL as given.
+/// Each condition of a plan alone, and at its limit, with a tick every 10 ns, a read every 100 ns, and C_MAX and
+/// VRX_FULL as given.
 pub fn plans_by_hand()
     ensures plan { IsPlan (small 9 9) (5 ∷ 7 ∷ []) (5 ∷ 7 ∷ []) }
     ensures too_few { IsPlan (small 9 9) (5 ∷ 7 ∷ []) (5 ∷ []) → ⊥ }
@@ -65,7 +65,7 @@ pub fn plans_by_hand()
     ensures not_least { IsLeast (small 1 9) (5 ∷ 5 ∷ []) (5 ∷ 11 ∷ []) → ⊥ }
 {}
 
-/// What holds a packet back: the first that does, and the latest start of a full interval.
+/// The cause of a departure time: the first that holds, and the latest start of a full interval.
 pub fn bounds_by_hand()
     ensures arrival { IsBound (small 1 9) (5 ∷ 12 ∷ []) (5 ∷ 12 ∷ []) 1 Arrival }
     ensures delayed { IsBound (small 1 9) (5 ∷ 5 ∷ []) (5 ∷ 10 ∷ []) 1 Arrival → ⊥ }
@@ -84,8 +84,8 @@ pub fn bounds_by_hand()
     ensures not_order { IsBound (small 1 9) (5 ∷ 5 ∷ []) (5 ∷ 10 ∷ []) 1 Order → ⊥ }
 {}
 
-/// 1080p at 50 with 20 packets per frame, as type N, where C_MAX is 4: of five packets at once the last
-/// leaves 909,091 ns later, at the first tick, and the bucket from packet 0 on holds it back.
+/// 1080p at 50 with 20 packets per frame, as type N; C_MAX is 4. The last of five packets at once leaves 909,091 ns
+/// later, at the first tick: the bucket from packet 0 on delays it.
 pub fn burst_by_hand()
     ensures c_max { narrow.c_max ≡ 4 }
     ensures over { load narrow burst_shaped 0 4 (first + 909090) ≡ 5 }
@@ -94,8 +94,8 @@ pub fn burst_by_hand()
     ensures bound { BoundAt hd_50 20 N (at_once 5) burst_shaped 4 (Bucket 0) }
 {}
 
-/// 1080p at 50 with 20 packets per frame and CMAX=100, where VRX_FULL is 8: of nine packets at once the
-/// last waits for read 0, at 444 4/9 ns, and of ten the last for read 1, 960,000 ns after it.
+/// 1080p at 50 with 20 packets per frame and CMAX=100; VRX_FULL is 8. The last of nine packets at once waits for read
+/// 0, which is 444 4/9 ns later, and the last of ten for read 1, 960,000 ns after read 0.
 pub fn buffer_by_hand()
     ensures c_max { (models_of hd_50_wide_bucket 20 N first).c_max ≡ 100 }
     ensures vrx_full { (models_of hd_50_wide_bucket 20 N first).vrx_full ≡ 8 }
@@ -105,9 +105,9 @@ pub fn buffer_by_hand()
     ensures next_full { (models_of hd_50_wide_bucket 20 N first).held 9 (first + 960445) ≡ 8 }
 {}
 
-/// 1080p at 50 with 20 packets per frame, of type NL with CMAX=100, where VRX_FULL is 8: of twelve packets at
-/// once packets 8, 9, 10 and 11 wait for linear reads 0 to 3, of which the first is at 444 4/9 ns and each other
-/// one 1,000,000 ns after the one before.
+/// 1080p at 50 with 20 packets per frame, as type NL with CMAX=100; VRX_FULL is 8. Of twelve packets at once, packets 8
+/// to 11 wait for linear reads 0 to 3. Read 0 is 444 4/9 ns later, and each other read 1,000,000 ns after the one
+/// before.
 pub fn linear_buffer_by_hand()
     ensures over { (models_of (described 1080 false 50 1 (Some NL) None (Some 100)) 20 NL first).held
         8 (first + 444) ≡ 9 }

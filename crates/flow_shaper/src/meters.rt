@@ -10,21 +10,21 @@ use read_schedule::{NextRead, Schedule};
 use sender_params::Params;
 use timing_base::Kind;
 
-/// Both models just after a packet left.
+/// State of both models just after a packet left.
 #[derive(Clone, Copy, Debug, PartialEq, Eq)]
 pub struct Meters {
-    /// When it left, in nanoseconds of TAI.
+    /// Departure time of the packet, in nanoseconds of TAI.
     pub last: u64,
-    /// The packets in the bucket.
+    /// Packets in the bucket.
     pub count: u64,
-    /// The latest packet from which on the packets up to the last one, less the ticks after it, are
-    /// the count.
+    /// Latest packet for which the packets from it up to the last one, less the drain ticks after it, are `count`.
     pub begin: u64,
-    /// The next tick of the drain.
+    /// Next drain tick.
     tick: Clock,
-    /// The reads.
+    /// Schedule of the reads.
     schedule: Schedule,
-    /// The next read after it left, or after a packet before it left, where no packet has to wait for one yet.
+    /// Next read after the packet left, or after an earlier packet left as long as no packet may have to wait for a
+    /// read.
     read: NextRead,
 }
 
@@ -32,7 +32,8 @@ impl Meters {
     ghost use Rattle.flow_shaper.specs.Choice.{Chooses, HasDrained, HavePassed, HaveStarted};
     ghost use Rattle.read_schedule.specs.Stands.{IsNextAfter, MovesTo, Tells};
 
-    /// After the first packet, which leaves when it comes, at `at`.
+    /// Returns the state after the first packet, which leaves when it comes, at `at`. It belongs to frame or field
+    /// `n0`.
     pub fn start(params: &Params, kind: Kind, n0: i128, at: u64) -> Meters
         requires low { negsuc 479 ≤ℤ n0 }
         requires high { n0 ≤ℤ pos (2 ^ 42) }
@@ -51,8 +52,7 @@ impl Meters {
         }
     }
 
-    /// When the packet of this number leaves, which came at `at` and is the next one, and what holds
-    /// it back.
+    /// Returns the departure time of the next packet, `packet`, which came at `at`, and its cause.
     #[inline(always)]
     pub fn next(&self, params: &Params, kind: Kind, packet: u64, at: u64) -> Departure
         ensures { Chooses self.now (c_max_of params.now.media params.now.n kind)
@@ -77,7 +77,7 @@ impl Meters {
         Departure { at: departs, bound }
     }
 
-    /// The tick for which the next packet has to wait, where the bucket is full.
+    /// Returns the instant of the tick for which the next packet has to wait, if the bucket is full.
     fn next_tick(&self, c_max: u64) -> Option<u64>
         ensures full { c_max ≤ self.now.count → result ≡ Some self.now.tick.due }
         ensures room { self.now.count < c_max → result ≡ None }
@@ -89,7 +89,7 @@ impl Meters {
         }
     }
 
-    /// The read for which the packet of this number has to wait, where the buffer is full.
+    /// Returns the instant of the read for which packet `packet` has to wait, if the buffer is full.
     fn next_read(&self, vrx_full: u64, packet: u64) -> Option<u64>
         ensures full { self.now.read.number + vrx_full ≤ packet → result ≡ Some self.now.read.at }
         ensures room { packet < self.now.read.number + vrx_full → result ≡ None }
@@ -101,7 +101,7 @@ impl Meters {
         }
     }
 
-    /// The packet of this number leaves at `at`.
+    /// Notes that packet `packet` leaves at `at`.
     #[inline(always)]
     pub fn pass(&mut self, params: &Params, kind: Kind, packet: u64, at: u64)
         requires in_time { at < 2 ^ 62 }
@@ -116,8 +116,8 @@ impl Meters {
         self.look(params.vrx_full(kind), packet + 1);
     }
 
-    /// The reads up to the last departure pass, where the packet of this number may have to wait for the next of them.
-    /// Else it finds room whatever reads passed since they were looked for.
+    /// Counts the reads up to the last departure if packet `packet` may have to wait for the next of them. Else it
+    /// finds room, however many reads have passed since they were counted.
     #[inline(always)]
     fn look(&mut self, full: u64, packet: u64)
         requires { self.old.last < 2 ^ 62 }
@@ -137,7 +137,7 @@ impl Meters {
         }
     }
 
-    /// The reads up to the last departure pass.
+    /// Counts the reads up to the last departure.
     #[cold]
     #[inline(never)]
     fn look_again(&mut self)
@@ -152,7 +152,7 @@ impl Meters {
         self.read = self.schedule.next_after(self.last);
     }
 
-    /// The bucket loses a packet for each tick up to `at`, and gets the packet of this number.
+    /// Takes a packet out of the bucket for each tick up to `at`, and puts packet `packet` in.
     #[inline(always)]
     fn drain(&mut self, params: &Params, packet: u64, at: u64)
         requires in_time { at < 2 ^ 62 }
@@ -172,8 +172,8 @@ impl Meters {
     }
 }
 
-/// From which packet on the bucket's count is counted after the packet of this number came, where
-/// `left` were in it just before.
+/// Returns the packet from which on the bucket's count is counted just after packet `packet` came. `left` packets were
+/// in the bucket just before.
 fn begin_of(left: u64, begin: u64, packet: u64) -> u64
     ensures fresh { left ≡ 0 → result ≡ packet }
     ensures kept { 0 < left → result ≡ begin }
@@ -181,7 +181,7 @@ fn begin_of(left: u64, begin: u64, packet: u64) -> u64
     if left == 0 { packet } else { begin }
 }
 
-/// Whether the reads of this sender type are gapped.
+/// Returns whether the reads of this sender type are gapped.
 fn is_gapped(kind: Kind) -> bool
     ensures { result ≡ gapped_of kind }
 {

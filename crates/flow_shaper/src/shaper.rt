@@ -1,4 +1,4 @@
-//! The shaper.
+//! The shaper of a flow.
 
 ghost use Rattle.std.specs.Prelude.{◌≡◌, ◌≢◌, ◌≤◌, ◌<◌, ◌+◌, ◌^◌, ◌++◌, ◌∷◌, [], ℕ, List, length};
 ghost use Rattle.std.specs.Prelude.{pos, negsuc, ◌≤ℤ◌, Some, None, Err, IfOk};
@@ -12,22 +12,22 @@ use crate::meters::Meters;
 use sender_params::Params;
 use timing_base::Kind;
 
-/// The departures of one flow, shaped for one sender type, between two packets.
+/// State of the shaping of one flow for one sender type, between two packets.
 #[derive(Clone, Copy, Debug, PartialEq, Eq)]
 pub struct Shaper {
-    /// The sender type.
+    /// Sender type, which sets C_MAX, VRX_FULL and the schedule of the reads.
     pub kind: Kind,
-    /// The group of the first packet.
+    /// Frame or field of the first packet, counted from the epoch.
     pub n0: i128,
-    /// The stamp of the first packet, in nanoseconds of TAI.
+    /// Capture timestamp of the first packet, in nanoseconds of TAI.
     pub origin: u64,
-    /// The instant before which each packet has to leave, in nanoseconds of TAI.
+    /// Instant before which each packet has to leave, in nanoseconds of TAI.
     pub end: u64,
-    /// The packets that left.
+    /// Number of packets that left.
     pub seen: u64,
-    /// Both models, from the first packet on.
+    /// State of both models; `None` before the first packet.
     meters: Option<Meters>,
-    /// The packet that couldn't leave in time.
+    /// Packet that couldn't leave in time.
     late: Option<Late>,
     ghost n0_low: { negsuc 479 ≤ℤ n0 },
     ghost n0_high: { n0 ≤ℤ pos (2 ^ 42) },
@@ -44,8 +44,8 @@ impl Shaper {
     ghost use Rattle.flow_shaper.specs.declared.departure.Late.{Late};
     ghost use Rattle.flow_shaper.specs.declared.meters.Meters.{Meters};
 
-    /// The shaper of a flow whose first packet came at `a0`, as one of group `n0`, and whose packets
-    /// have to leave before `end`. Stamps are in nanoseconds of TAI.
+    /// Returns the shaper of a flow. Its first packet came at `a0` and belongs to frame or field `n0`; all packets have
+    /// to leave before `end`. `a0` and `end` are in nanoseconds of TAI.
     pub fn new(kind: Kind, n0: i128, a0: u64, end: u64) -> Shaper
         requires low { negsuc 479 ≤ℤ n0 }
         requires high { n0 ≤ℤ pos (2 ^ 42) }
@@ -70,15 +70,15 @@ impl Shaper {
         }
     }
 
-    /// When the packet that came at `at` leaves, in nanoseconds of TAI, and what holds it back; or that
-    /// it can't leave before the end, where every later call answers the same. It leaves as early as
-    /// in any plan in which no packet leaves before it came nor before the one in front of it, the
-    /// bucket never holds more than C_MAX packets and the virtual receiver buffer never more than
-    /// VRX_FULL (SMPTE ST 2110-21; this project's profile). Ticks and reads stay those of the first
-    /// arrival.
+    /// Returns the departure time of the packet that came at `at`, both in nanoseconds of TAI, and its cause. Returns
+    /// `Err` if the packet can't leave before the end; every later call then returns the same error.
     ///
-    /// Feed one shaper stamps that never fall, the first of them its origin, with one `Params` alone:
-    /// the clauses say nothing of others.
+    /// The packet leaves as early as in any plan. In a plan no packet leaves before it came nor before the packet
+    /// before it, the bucket never holds more than C_MAX packets, and the virtual receiver buffer never more than
+    /// VRX_FULL (SMPTE ST 2110-21; this project's profile). The ticks and reads stay those of the first arrival.
+    ///
+    /// The caller must feed capture timestamps that never go back, the first of them `origin`, and the same `Params` at
+    /// each call: for others the result is not guaranteed.
     #[inline(always)]
     pub fn feed(&mut self, params: &Params, at: u64) -> Result<Departure, Late>
         requires in_time { at < self.old.end }
@@ -90,8 +90,8 @@ impl Shaper {
         ensures seen { self.new.seen ≤ self.old.seen + 1 }
         ensures in_time { IfOk result (λ d. d.at < self.old.end) }
 
-        // Whatever packets the shaper stood for, and however they left: this one leaves so in time, or
-        // it can't in any plan.
+        // For any packets before and their departures: this packet leaves at that instant, or it can't leave in time in
+        // any plan.
         ensures bound { (arrivals departures : List ℕ)
             → StandsFor params.now self.old arrivals departures → CanFollow self.old arrivals at
             → IfOk result (λ d. BoundAt params.now.media params.now.n self.old.kind
@@ -105,7 +105,7 @@ impl Shaper {
             → (late.packet ≡ length arrivals)
             × NoneInTime params.now self.old (arrivals ++ at ∷ []) (length arrivals) }
 
-        // It then stands for this one too, or it has stopped, and stays so.
+        // The shaper was then fed this packet too, or it has stopped for good.
         ensures stands { (arrivals departures : List ℕ)
             → StandsFor params.now self.old arrivals departures → CanFollow self.old arrivals at
             → IfOk result (λ d. StandsFor params.now self.new
@@ -127,7 +127,8 @@ impl Shaper {
         Ok(departure)
     }
 
-    /// When the next packet leaves, which came at `at`. The first leaves when it comes.
+    /// Returns the departure time of the next packet, which came at `at`, and its cause. The first packet leaves when
+    /// it comes.
     #[inline(always)]
     fn next(&self, params: &Params, at: u64) -> Departure
         ensures first { self.now.meters ≡ None → (result.at ≡ at) × (result.bound ≡ Arrival) }
@@ -144,7 +145,7 @@ impl Shaper {
         }
     }
 
-    /// The next packet leaves at `at`.
+    /// Notes that the next packet leaves at `at`.
     #[inline(always)]
     fn pass(&mut self, params: &Params, at: u64)
         requires in_time { at < self.old.end }
@@ -172,7 +173,7 @@ impl Shaper {
         self.begin(params, at);
     }
 
-    /// Both models begin with the first packet, which leaves at `at`.
+    /// Starts both models with the first packet, which leaves at `at`.
     #[cold]
     #[inline(never)]
     fn begin(&mut self, params: &Params, at: u64)

@@ -1,4 +1,4 @@
--- What the intake of a file has sent to one lane, so far and in all.
+-- The messages that the intake of a file has sent to one lane, so far and in all.
 use Rattle.std.specs.Prelude.{◌≡◌, ℕ, ⊤, List, [], ◌∷◌, ◌++◌}
 use Rattle.timing_base.specs.declared.capture.FileNote.{FileNote}
 use Rattle.ruled_intake.specs.Packets.{Packet}
@@ -21,7 +21,7 @@ pub record AreWhole (file : ℕ) (packets : List Packet) (note : FileNote) (reco
   pub are : AreBatches file batches
   pub have : packets_in batches ≡ packets
 
--- of these packets of a file the full batches for the lane were sent, and what fills none is left
+-- of these packets of a file, the full batches for the lane were sent, and those that fill none are left
 pub record HasCut (size file : ℕ) (lane : Packet → ℕ) (w : ℕ) (packets : List Packet) (sent : List Message)
     (left : List Packet) : Type 0 where
   pub full : sent ≡ for_lane w (full_batches size file lane [] packets)

@@ -1,4 +1,5 @@
--- What an intake expects of the media of a session, so that it needn't read each packet. Media count from 0.
+-- The packets that an intake expects of the media of a session, so that it needn't parse each packet. Media count from
+-- 0.
 use Rattle.std.specs.Prelude.{◌≡◌, List, Some, All}
 use Rattle.timing_base.specs.Media.{Media}
 use Rattle.timing_base.specs.declared.packet.Rtp.{Rtp}
@@ -13,6 +14,6 @@ abbrev pub IsExpected : List Media → Expected → Type 0
 IsExpected media e = (target : Target) (p : Rtp) → awaited e.awaited ≡ Some (target, p)
     → media_to target 0 media ≡ Some e.media
 
--- so of each
+-- what is awaited of each media goes to that media, and to none before it
 abbrev pub AreExpected : List Media → Upcoming → Type 0
 AreExpected media u = All (IsExpected media) u.each

@@ -1,4 +1,4 @@
--- what is promised
+-- definitions that the clauses of the public functions use
 pub mod Messages
 pub mod Opening
 pub mod Settings
@@ -8,15 +8,15 @@ pub mod Posting
 pub mod World
 pub mod Kept
 pub mod Works
--- runs that are worked by hand
+-- runs for values worked by hand
 pub mod TwoFiles
 pub mod SmallRun
--- these only serve proofs
+-- definitions for proofs only
 pub mod Targeted
 pub mod Expecting
 pub mod Sending
 pub mod Sorting
 pub mod Judging
 pub mod Standing
--- what is promised of this module
+-- definitions of the module crew
 pub mod crew

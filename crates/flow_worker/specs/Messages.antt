@@ -1,5 +1,5 @@
--- What the intake of a file sends to the workers: its packets in batches, and an end. Files and media count from 0,
--- records from 1.
+-- The messages that the intake of a file sends to the workers: its packets in batches, and an end. Files and media
+-- count from 0, packet records from 1.
 use Rattle.std.specs.Prelude.{◌≡◌, ℕ, Bool, false, ◌==◌, if◌then◌else◌, List, [], ◌∷◌, ◌++◌, filter, filter_map}
 use Rattle.std.specs.Prelude.{flat_map, Option, Some, None}
 use Rattle.std.specs.List.{list_any}
@@ -13,11 +13,11 @@ use Rattle.ruled_intake.specs.declared.message.Message.TheVariants.{Batch, End}
 abbrev pub batch : (file : ℕ) (packets : List Packet) → Message
 batch file packets = Batch record { file = file; packets = packets }
 
--- the message that a file has ended, with the number of its records
+-- the message that a file has ended, with the number of its packet records
 abbrev pub ending : (file : ℕ) (note : FileNote) (records : ℕ) → Message
 ending file note records = End record { file = file; note = note; records = records }
 
--- the file that a message is of
+-- the file of a message
 abbrev pub file_of : Message → ℕ
 file_of (Batch batch) = batch.file
 file_of (End end) = end.file
@@ -26,16 +26,16 @@ file_of (End end) = end.file
 abbrev pub of_file : ℕ → List Message → List Message
 of_file file messages = filter (λ m. file_of m == file) messages
 
--- the first list is the beginning of the second
+-- the first list is a prefix of the second
 abbrev pub IsPrefix : List Message → List Message → Type 0
 IsPrefix xs whole = (later : List Message) × (xs ++ later ≡ whole)
 
--- the packets of a message
+-- packets of a message
 abbrev pub packets_of : Message → List Packet
 packets_of (Batch batch) = batch.packets
 packets_of (End end) = []
 
--- the packets of messages: those of the batches, in order
+-- packets of messages: those of the batches, in order
 abbrev pub packets_in : List Message → List Packet
 packets_in messages = flat_map packets_of messages
 
@@ -53,11 +53,11 @@ abbrev pub before_end : ℕ → List Message → List Message
 before_end file [] = []
 before_end file (m ∷ ms) = if is_end_of file m then [] else m ∷ before_end file ms
 
--- the packets of a file that come before its first end
+-- packets of a file that come before its first end
 abbrev pub file_packets : ℕ → List Message → List Packet
 file_packets file messages = packets_in (of_file file (before_end file messages))
 
--- the number of records of a file that its first end tells
+-- number of packet records of a file, as its first end has it; 0 without an end
 abbrev pub records_told : ℕ → List Message → ℕ
 records_told file [] = 0
 records_told file (Batch batch ∷ ms) = records_told file ms

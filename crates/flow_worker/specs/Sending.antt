@@ -1,4 +1,4 @@
--- What an intake sends by, and what each part of its work leaves. Lanes count from 0.
+-- The state with which an intake sends, and the result of each part of its work. Lanes count from 0.
 use Rattle.std.specs.Prelude.{◌≡◌, ◌≤◌, ◌<◌, ◌+◌, ◌^◌, ℕ, List, [], ◌∷◌, ◌++◌, length, map, slice_index_or, None}
 use Rattle.timing_base.specs.Captures.{Record}
 use Rattle.timing_base.specs.Keys.{key_of}
@@ -16,16 +16,16 @@ use Rattle.flow_worker.specs.Opening.{for_lane, full_batches, sent_of, session_p
 use Rattle.flow_worker.specs.declared.outboxes.Outboxes.{Outboxes}
 use Rattle.flow_worker.specs.declared.routing.Routing.{Routing}
 
--- the lane of each of the first media of a file, by the media's number: of `count` of these media
+-- `dealt` has the lane of each of the first `count` media of a file, by the media's number
 abbrev pub AreDealt : (file media lanes count : ℕ) → List ℕ → Type 0
 AreDealt file media lanes count dealt =
     (length dealt ≡ 64) × ((m : ℕ) → m < count → slice_index_or dealt m 0 ≡ route (key_of file m) media lanes)
 
--- the lane of a packet
+-- lane of a packet
 abbrev pub route_of : Routing → Packet → ℕ
 route_of r p = route (key_of r.file p.media) (length r.media.now) r.lanes
 
--- the quantities of a routing are within their limits
+-- the values of a routing are within their limits
 pub record IsRouting (r : Routing) : Type 0 where
   pub file : r.file < 16
   pub some_media : 1 ≤ length r.media.now
@@ -34,11 +34,11 @@ pub record IsRouting (r : Routing) : Type 0 where
   pub few_lanes : r.lanes ≤ 16
   pub dealt : AreDealt r.file (length r.media.now) r.lanes (length r.media.now) r.dealt
 
--- what was sent to a lane
+-- messages sent to a lane
 abbrev pub sent_to : Outboxes → ℕ → List Message
 sent_to o w = sent_by o.passes.items w
 
--- the packets for a lane that fill no batch yet
+-- packets for a lane that don't fill a batch yet
 abbrev pub open_for : Outboxes → ℕ → List Packet
 open_for o w = slice_index_or o.batches.items w []
 
@@ -47,17 +47,18 @@ pub record AreOutboxes (o : Outboxes) : Type 0 where
   pub passes : HaveSent o.file o.lanes.now (sent_to o) o.passes.items
   pub batch_count : length o.batches.items ≡ length o.lanes.now
 
--- they are of the same file and for the same lanes
+-- both are of the same file and for the same lanes
 pub record AreSame (old new : Outboxes) : Type 0 where
   pub are : AreOutboxes new
   pub file : new.file ≡ old.file
   pub lanes : new.lanes.now ≡ old.lanes.now
 
--- to each lane at most so many messages were sent, and at most as many packets were sent or are left
+-- at most n messages were sent to lane w, and at most n packets were sent or are left
 pub record HaveFew (n : ℕ) (o : Outboxes) (w : ℕ) : Type 0 where
   pub messages : length (sent_to o w) ≤ n
   pub all_packets : packets (sent_to o w) + length (open_for o w) ≤ n
 
+-- to each lane at most n messages were sent, and for each at most n packets were sent or are left
 abbrev pub HaveAllFew : ℕ → Outboxes → Type 0
 HaveAllFew n o = (w : ℕ) → w < length o.lanes.now → HaveFew n o w
 
@@ -84,25 +85,25 @@ pub record Puts (old new : Outboxes) (lane : ℕ) (packet : Packet) : Type 0 whe
       × (open_for new lane ≡ [])
   pub others : (w : ℕ) → (lane ≡ w → ⊥) → (sent_to new w ≡ sent_to old w) × (open_for new w ≡ open_for old w)
 
--- what was sent to a lane, and then what fills no batch
+-- what was sent to a lane, and then the packets that don't fill a batch
 abbrev pub with_rest : Outboxes → ℕ → List Message
 with_rest o w = sent_to o w ++ map (batch o.file) (unless_empty (open_for o w))
 
--- and then the end of the file
+-- what was sent to a lane, then the packets that don't fill a batch, and then the end of the file
 abbrev pub with_end : Outboxes → FileNote → (records : ℕ) → ℕ → List Message
 with_end o note records w = with_rest o w ++ ending o.file note records ∷ []
 
--- what fills no batch was sent to a lane
+-- the packets that don't fill a batch were sent to a lane
 pub record SendsRest (old new : Outboxes) (lane : ℕ) : Type 0 where
   pub same : AreSame old new
   pub here : sent_to new lane ≡ with_rest old lane
   pub others : (w : ℕ) → (lane ≡ w → ⊥) → (sent_to new w ≡ sent_to old w) × (open_for new w ≡ open_for old w)
 
--- for each lane these packets were cut: the full batches were sent
+-- for each lane these packets were divided into batches, and the full ones were sent
 abbrev pub AreCut : (Packet → ℕ) → List Packet → Outboxes → Type 0
 AreCut lane ps o = (w : ℕ) → w < length o.lanes.now → HasCut 256 o.file lane w ps (sent_to o w) (open_for o w)
 
--- an intake before the first record of a file: the reader has answered none, and nothing was sent or put
+-- an intake before the first record of a file: the reader has returned none, and nothing was sent or put
 pub record BeginsFile {S : Type 0} (r : Routing) (reader : PcapReader S) (o : Outboxes) : Type 0 where
   pub routing : IsRouting r
   pub lanes : r.lanes ≡ length o.lanes.now
@@ -113,11 +114,12 @@ pub record BeginsFile {S : Type 0} (r : Routing) (reader : PcapReader S) (o : Ou
   pub few : HaveAllFew 0 o
   pub none : AreCut (route_of r) [] o
 
--- whatever packets were cut, now those and these are
+-- these packets were divided into batches, after those before
 abbrev pub Cuts : (Packet → ℕ) → (old new : Outboxes) → List Packet → Type 0
 Cuts lane old new more = (ps : List Packet) → AreCut lane ps old → AreCut lane (ps ++ more) new
 
--- of these records so many were read, and their packets cut, up to an end with this note: all, unless a read failed
+-- `count` of these records were read, and their packets divided into batches, up to an end with this note: all records,
+-- unless a read failed
 pub record HasCutAll (r : Routing) (o : Outboxes) (note : FileNote) (count : ℕ) (items : List Record) (end : FileNote) :
     Type 0 where
   pub before : List Record
@@ -127,7 +129,7 @@ pub record HasCutAll (r : Routing) (o : Outboxes) (note : FileNote) (count : ℕ
   pub count_is : length before ≡ count
   pub cut : AreCut (route_of r) (session_packets r.media.now before) o
 
--- the full batches of the first of these records were sent
+-- the full batches of a prefix of these records were sent
 pub record HasLeftOff (r : Routing) (o : Outboxes) (items : List Record) : Type 0 where
   pub before : List Record
   pub later : List Record
@@ -135,13 +137,13 @@ pub record HasLeftOff (r : Routing) (o : Outboxes) (items : List Record) : Type 
   pub full : (w : ℕ) → w < length o.lanes.now
       → sent_to o w ≡ for_lane w (full_batches 256 o.file (route_of r) [] (session_packets r.media.now before))
 
--- what a file with these records has to send to a lane
+-- the messages that a file with these records has to send to a lane
 abbrev pub sends_to : Routing → (file lane : ℕ) → List Record → FileNote → List Message
 sends_to r file lane items note =
     for_lane lane (sent_of 256 file (route_of r) (session_packets r.media.now items) r.lanes
     (ending file note (length items)))
 
--- all was sent of these records, up to an end with this note: of all of them, unless a read failed
+-- all messages for these records were sent, up to an end with this note: for all records, unless a read failed
 pub record HasSentFile (r : Routing) (o : Outboxes) (note : FileNote) (items : List Record) (end : FileNote) : Type 0
   where
     pub before : List Record
@@ -150,7 +152,7 @@ pub record HasSentFile (r : Routing) (o : Outboxes) (note : FileNote) (items : L
     pub ends : GivesNote note later end
     pub all : (w : ℕ) → w < length o.lanes.now → sent_to o w ≡ sends_to r o.file w before note
 
--- what was sent begins what is to be sent of these records: of all of them, unless a read failed
+-- what was sent is a prefix of what is to be sent of these records: of all of them, unless a read failed
 pub record HasBegunFile (r : Routing) (o : Outboxes) (items : List Record) (end : FileNote) : Type 0 where
   pub note : FileNote
   pub before : List Record

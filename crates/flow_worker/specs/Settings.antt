@@ -3,7 +3,7 @@ use Rattle.std.specs.Prelude.{◌≤◌, ◌<◌, ℕ, length}
 use Rattle.flow_worker.specs.Opening.{Setting}
 use Rattle.flow_worker.specs.declared.setting.RunSetting.{RunSetting}
 
--- what is asked of the run: there is a worker for each lane
+-- the setting of the run: there is a worker for each lane
 abbrev pub setting_of : RunSetting → Setting
 setting_of run = record {
   media = run.media.now;

@@ -1,6 +1,5 @@
 -- Steps of a small run, worked by hand: two files, each with flows of two media, and two workers. Files, lanes and
--- media
--- count from 0.
+-- media count from 0.
 use Rattle.std.specs.Prelude.{List, [], ◌∷◌}
 use Rattle.timing_base.specs.Keys.{key_of}
 use Rattle.flow_worker.specs.World.{Step}
@@ -12,12 +11,12 @@ early_steps =
     sends_next 1 ∷ sends_next 0 ∷ sends_next 0 ∷ takes_front 1 ∷ posts_row 1 (key_of 1 1) ∷ takes_front 1
     ∷ sends_next 1 ∷ sends_next 1 ∷ takes_front 1 ∷ []
 
--- then it may post the row of its flow in that file, once, and the first worker may not
+-- then it may post the result of its flow in that file, once, and the first worker may not
 abbrev pub later_steps : List Step
 later_steps = posts_row 0 (key_of 1 1) ∷ posts_row 1 (key_of 1 1) ∷ posts_row 1 (key_of 1 1) ∷ posts_row 1 (key_of 0 1)
     ∷ []
 
--- all is sent and taken, and all rows are posted
+-- all is sent and taken, and all results are posted
 abbrev pub all_steps : List Step
 all_steps =
     sends_next 1 ∷ sends_next 0 ∷ sends_next 1 ∷ sends_next 0 ∷ sends_next 0 ∷ sends_next 1 ∷ sends_next 0

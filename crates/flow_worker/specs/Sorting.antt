@@ -1,5 +1,5 @@
--- What an intake makes of the records of its file, as it takes them one after the other. Records count from 1, lanes
--- from 0.
+-- The work of an intake on the packet records of its file, one after the other. Packet records count from 1, lanes from
+-- 0.
 use Rattle.std.specs.Prelude.{◌≡◌, ◌≤◌, ◌<◌, ◌+◌, ◌^◌, ℕ, List, [], ◌++◌, length}
 use Rattle.std.proofs.Common.{refl, sym, ap, ◌∙◌, subst, append-nil, append_assoc, arith}
 use Rattle.std.proofs.lemmas.List.Elements.{filter_map-append}
@@ -12,14 +12,14 @@ use Rattle.flow_worker.specs.Sending.{AreCut, AreOutboxes, AreSame, Cuts, HaveAl
 use Rattle.flow_worker.specs.declared.intakes.Sorter.{Sorter}
 use Rattle.flow_worker.specs.declared.routing.Routing.{Routing}
 
--- the routing is within its limits, what is expected is of its media, and there are outboxes for its lanes
+-- the routing is within its limits, the expected packets are of its media, and there are outboxes for its lanes
 pub record IsSorter {R : Type 0} (s : Sorter R) : Type 0 where
   pub routing : IsRouting s.routing
   pub expected : AreExpected s.routing.media.now s.upcoming
   pub lanes : s.routing.lanes ≡ length s.outboxes.lanes.now
   pub are : AreOutboxes s.outboxes
 
--- it has room for so many records more, of which the first has this number
+-- the intake has room for `count` more records, the first of which has this number
 pub record HasRoom {R : Type 0} (number count : ℕ) (s : Sorter R) : Type 0 where
   pub is : IsSorter s
   pub before : ℕ
@@ -27,6 +27,7 @@ pub record HasRoom {R : Type 0} (number count : ℕ) (s : Sorter R) : Type 0 whe
   pub limit : before + count ≤ 2 ^ 36
   pub few : HaveAllFew before s.outboxes
 
+-- room for many records is room for fewer
 pub room_less : {R : Type 0} (number few many : ℕ) (s : Sorter R) → few ≤ many → HasRoom number many s
     → HasRoom number few s
 room_less number few many s less room = record {
@@ -43,7 +44,7 @@ pub record Sorts {R : Type 0} (old new : Sorter R) (items : List Record) : Type 
   pub same : AreOutboxes old.outboxes → AreSame old.outboxes new.outboxes
   pub cuts : Cuts (route_of old.routing) old.outboxes new.outboxes (session_packets old.routing.media.now items)
 
--- memory ran out at one of these records: of those before it the full batches were sent
+-- memory ran out at one of these records: the full batches of those before it were sent
 pub record LeavesOff {R : Type 0} (old new : Sorter R) (items : List Record) : Type 0 where
   pub same : AreOutboxes old.outboxes → AreSame old.outboxes new.outboxes
   pub before : List Record
@@ -55,14 +56,14 @@ pub record LeavesOff {R : Type 0} (old new : Sorter R) (items : List Record) : T
       (full_batches 256 new.outboxes.file (route_of old.routing) []
       (ps ++ session_packets old.routing.media.now before))
 
--- packets, and then those of some records and of others
+-- packets, then those of some records, and then those of others
 packets-append : (media : List Media) (ps : List Packet) (xs ys : List Record)
     → (ps ++ session_packets media xs) ++ session_packets media ys ≡ ps ++ session_packets media (xs ++ ys)
 packets-append media ps xs ys =
     append_assoc ps (session_packets media xs) (session_packets media ys)
     ∙ ap (λ (l : List Packet). ps ++ l) (sym (filter_map-append (packet_from 0 media) xs ys))
 
--- no record
+-- an empty list of records changes nothing
 pub sorts_none : {R : Type 0} (s : Sorter R) → Sorts s s []
 sorts_none s = record {
   routing = refl;
@@ -70,7 +71,7 @@ sorts_none s = record {
   cuts = λ ps cut. subst (λ (l : List Packet). AreCut (route_of s.routing) l s.outboxes) (sym (append-nil ps)) cut;
 }
 
--- some records and then others
+-- records that are taken in two parts are taken as all of them are
 pub sorts_more : {R : Type 0} (old mid new : Sorter R) (xs ys : List Record) → Sorts old mid xs → Sorts mid new ys
     → Sorts old new (xs ++ ys)
 sorts_more old mid new xs ys first second =
@@ -89,7 +90,7 @@ sorts_more old mid new xs ys first second =
           (cuts (ps ++ session_packets old.routing.media.now xs) (first.cuts ps cut));
     }
 
--- some records, and then others at one of which memory ran out
+-- some records are taken, and memory runs out at one of the others
 pub leaves_later : {R : Type 0} (old mid new : Sorter R) (xs ys : List Record) → Sorts old mid xs → LeavesOff mid new ys
     → LeavesOff old new (xs ++ ys)
 leaves_later old mid new xs ys first second =
@@ -113,7 +114,7 @@ leaves_later old mid new xs ys first second =
           (packets-append old.routing.media.now ps xs second.before);
     }
 
--- what comes behind counts for nothing
+-- records after the one at which memory ran out don't matter
 pub leaves_before : {R : Type 0} (old new : Sorter R) (xs ys : List Record) → LeavesOff old new xs
     → LeavesOff old new (xs ++ ys)
 leaves_before old new xs ys h = record {

@@ -1,5 +1,5 @@
--- What the judges of a worker stand for: for what it took, where files are judged each for itself, and where they are
--- joined. Files and workers count from 0.
+-- The state of a worker's judges after what it took, if files are judged each by itself, and if they are joined. Files
+-- and workers count from 0.
 use Rattle.std.specs.Prelude.{◌≡◌, ◌≤◌, ◌<◌, ◌+◌, ◌*◌, ◌^◌, ℕ, Bool, true, false, List, ◌++◌, ◌∷◌, [], IsTrue, length}
 use Rattle.std.specs.Prelude.{map, min, Option, Some, None}
 use Rattle.timing_base.specs.declared.key.FlowKey.{FlowKey}
@@ -20,12 +20,12 @@ use Rattle.flow_worker.specs.declared.joined_files.Waiting.{Waiting}
 use Rattle.flow_worker.specs.declared.judging.Judging.{Judging}
 use Rattle.flow_worker.specs.declared.judging.Judging.TheVariants as judging
 
--- a file that is judged for itself: whether its end was taken, and judges that were fed what was taken of it
+-- a file that is judged by itself: whether its end was taken, and judges that were fed what was taken of it
 pub record IsFile (s : Setting) (files worker : ℕ) (taken : List Message) (file : ℕ) (one : OneFile) : Type 0 where
   pub ended : one.ended ≡ has_end file taken
   pub fed : AreFed s worker file (taken_packets s files taken) one.judges
 
--- the files are judged each for itself, and their judges were fed what was taken
+-- the files are judged each by itself, and their judges were fed what was taken
 pub record ApartStandsFor (s : Setting) (files worker : ℕ) (taken : List Message) (apart : Apart) : Type 0 where
   pub alone : s.joined ≡ false
   pub count : length apart.files.items ≡ files
@@ -36,12 +36,12 @@ abbrev pub IsFirstEnd : List Message → (file : ℕ) → Option FileEnd → Typ
 IsFirstEnd taken file None = has_end file taken ≡ false
 IsFirstEnd taken file (Some end) = (has_end file taken ≡ true) × (end.records ≡ records_told file taken)
 
--- a file of those that are joined: its end, and behind the file whose packets are fed all packets of it that were taken
+-- a file of joined files: its end, and if it comes after the next file, all packets of it that were taken
 pub record IsWaiting (next : ℕ) (taken : List Message) (file : ℕ) (waiting : Waiting) : Type 0 where
   pub end : IsFirstEnd taken file waiting.end
   pub waits : next < file → batched waiting.batches.items ≡ file_packets file taken
 
--- what a flow of joined files has of the first of them
+-- the packets of a flow in the first of joined files
 abbrev pub of_first : (files : ℕ) → List Message → FlowKey → List FlowPacket
 of_first files taken key = joined_packets key.media 0 0 files taken
 
@@ -58,19 +58,19 @@ pub record JoinedIsAt (s : Setting) (files worker : ℕ) (taken : List Message) 
   pub each : EachFrom (IsWaiting joined.next taken) 0 joined.files.items
   pub fed : AreFed s worker 0 (of_first (min (joined.next + 1) files) taken) joined.judges
 
--- and the next file has not
+-- the files are judged as one, and the next file hasn't ended
 pub record JoinedStandsFor (s : Setting) (files worker : ℕ) (taken : List Message) (joined : Joined) : Type 0 where
   pub at : JoinedIsAt s files worker taken joined
   pub going : joined.next < files → has_end joined.next taken ≡ false
 
--- the file is there, and the first end of it that was taken tells so many records
+-- the file exists, and the first end of it that was taken has this number of packet records
 pub record HasEnded (files : ℕ) (taken : List Message) (file records : ℕ) : Type 0 where
   pub there : file < files
   pub ended : has_end file taken ≡ true
   pub told : records ≡ records_told file taken
   pub few : records < 2 ^ 37
 
--- the judges of a worker were fed what was taken, and no more
+-- the judges of a worker were fed exactly what was taken
 abbrev pub StandsFor : Setting → (files worker : ℕ) → List Message → Judging → Type 0
 StandsFor s files worker taken (judging.Apart apart) = ApartStandsFor s files worker taken apart
 StandsFor s files worker taken (judging.Joined joined) = JoinedStandsFor s files worker taken joined
@@ -79,22 +79,22 @@ StandsFor s files worker taken (judging.Joined joined) = JoinedStandsFor s files
 abbrev pub IsFew : List Message → Message → Type 0
 IsFew taken message = IsWithin (2 ^ 41) (taken ++ message ∷ [])
 
--- whatever was taken by what stands so, this message is taken besides
+-- this message was taken, after those before
 abbrev pub Takes : {X : Type 0} → (Setting → ℕ → ℕ → List Message → X → Type 0) → Message → (old new : X) → Type 0
 Takes Stands message old new = (s : Setting) (files worker : ℕ) (taken : List Message)
     → Stands s files worker taken old → Stands s files worker (taken ++ message ∷ []) new
 
--- it stands for something that was taken, and with this message that is within the limits of a lane
+-- the state is that after some messages, and with this one they are within the limits of a lane
 abbrev pub MayTake : {X : Type 0} → (Setting → ℕ → ℕ → List Message → X → Type 0) → Message → X → Type 0
 MayTake Stands message x = (s : Setting) × (files : ℕ) × (worker : ℕ) × (taken : List Message)
     × Stands s files worker taken x × IsFew taken message
 
--- whether an end of each file is among what it stands for
+-- `ended` is whether an end of each file is among the messages taken
 abbrev pub TellsEnds : {X : Type 0} → (Setting → ℕ → ℕ → List Message → X → Type 0) → X → Bool → Type 0
 TellsEnds Stands x ended = (s : Setting) (files worker : ℕ) (taken : List Message)
     → Stands s files worker taken x → ended ≡ has_ends files taken
 
--- the receipts have the rows of the worker's flows, by rising file and then media, where an end of each file was taken
+-- the receipts have the results of the worker's flows, by file and then by media, if an end of each file was taken
 abbrev pub HasRows : {X : Type 0} → (Setting → ℕ → ℕ → List Message → X → Type 0) → X → List Receipt → Type 0
 HasRows Stands x receipts = (s : Setting) (files worker : ℕ) (taken : List Message)
     → Stands s files worker taken x → IsTrue (has_ends files taken)

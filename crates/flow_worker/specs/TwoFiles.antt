@@ -1,6 +1,5 @@
--- What two files have to send to two workers, worked by hand: each file has flows of two media. Files, lanes and media
--- count
--- from 0, records from 1.
+-- The messages that two files have to send to two workers, worked by hand: each file has flows of two media. Files,
+-- lanes and media count from 0, packet records from 1.
 use Rattle.std.specs.Prelude.{ℕ, Bool, false, List, [], ◌∷◌}
 use Rattle.timing_base.specs.Media.{Media}
 use Rattle.timing_base.specs.declared.capture.FileNote.TheVariants.{End}
@@ -13,7 +12,7 @@ use Rattle.ruled_intake.specs.declared.message.Message.{Message}
 use Rattle.flow_worker.specs.Messages.{batch, ending}
 use Rattle.flow_worker.specs.Opening.{Addressed, Capture, Setting}
 
--- a packet of this media, by its record
+-- a packet of this media with this packet record
 abbrev pub packet_in : (media rec : ℕ) → Packet
 packet_in media rec = packet_of media (packet_at rec 0)
 
@@ -46,14 +45,15 @@ media_at target = record {
 abbrev pub two_workers : Bool → Setting
 two_workers joined = record { media = media_at group ∷ media_at next_port ∷ []; workers = 2; joined = joined; tai = 0 }
 
--- five records, of which the first goes to the second media, and the last two to the first; and one that goes to the
--- second
+-- five records, the first for the second media and the last two for the first media; and one record for the second
+-- media
 abbrev pub two_files : List Capture
 two_files = record { records = first_capture; note = End } ∷ record { records = second_capture; note = End } ∷ []
 
--- what each file has to send to the second worker
+-- the messages of the first file for the second worker
 abbrev pub second_of_first : List Message
 second_of_first = batch 0 (packet_of 1 (packet_at 1 100) ∷ []) ∷ ending 0 End 5 ∷ []
 
+-- the messages of the second file for the second worker
 abbrev pub second_of_second : List Message
 second_of_second = batch 1 (packet_of 1 (packet_at 1 200) ∷ []) ∷ ending 1 End 1 ∷ []

@@ -1,6 +1,6 @@
--- what is promised
+-- definitions that the clauses of the public functions use
 pub mod Judging
--- these only serve proofs
+-- definitions for proofs only
 pub mod Jobs
 pub mod Reading
 pub mod Closing

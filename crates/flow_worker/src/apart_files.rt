@@ -1,4 +1,4 @@
-//! Files that are judged each for itself.
+//! Files that are judged each by itself.
 
 ghost use Rattle.std.specs.Prelude.{◌≡◌, ◌<◌, [], ℕ, List, All, false, IfOk, length, map};
 ghost use Rattle.std.specs.List.{list_all};
@@ -16,7 +16,7 @@ use std::alloc::{AllocError as OutOfMemory, Global};
 use std::sync::Wait;
 use verdict_book::{Book, Receipt};
 
-/// A file that is judged for itself.
+/// File that is judged by itself.
 #[derive(Drop)]
 struct OneFile {
     judges: Judges,
@@ -24,7 +24,7 @@ struct OneFile {
     ended: bool,
 }
 
-/// The files of a run, in order.
+/// Files of a run, in order.
 #[derive(Drop)]
 pub struct Apart {
     alloc: Global,
@@ -34,7 +34,7 @@ pub struct Apart {
 impl Apart {
     ghost use Rattle.flow_worker.specs.Standing.{ApartStandsFor, MayTake, Takes, TellsEnds};
 
-    /// So many files, of which nothing was taken yet. `Err` is want of memory.
+    /// Returns the files of the run, of which nothing was taken yet. Returns `Err` if memory runs out.
     pub fn new(alloc: Global, run: &RunSetting<'_>, worker: u32) -> Result<Apart, OutOfMemory>
         requires limits { IsWorker run.now worker }
         ensures stands { IfOk result (λ apart. ApartStandsFor (record { media = run.now.media.now; workers = length run.now.lanes.now; joined = false; tai = run.now.tai })
@@ -51,8 +51,8 @@ impl Apart {
         Ok(Apart { alloc, files: all })
     }
 
-    /// Takes a message. What is of a file that isn't there, or comes behind its file's first end, is
-    /// passed over. `Err` is want of memory; what the judges were fed isn't known from then on.
+    /// Takes a message. One of a file that doesn't exist, or after its file's first end, is ignored. Returns `Err` if
+    /// memory runs out; what the judges were fed is then unspecified.
     pub fn take(&mut self, message: Message) -> Result<(), OutOfMemory>
         requires few { MayTake ApartStandsFor message self.old }
         ensures stands { IfOk result (λ _. Takes ApartStandsFor message self.old self.new) }
@@ -66,7 +66,7 @@ impl Apart {
         }
     }
 
-    /// Feeds a batch to the judges of its file.
+    /// Feeds a batch to the judges of its file. Returns `Err` if memory runs out.
     fn feed(&mut self, batch: &Batch) -> Result<(), OutOfMemory>
         requires few { MayTake ApartStandsFor (batch_of batch.now.file batch.now.packets) self.old }
         ensures stands { IfOk result (λ _. Takes ApartStandsFor (batch_of batch.now.file batch.now.packets) self.old self.new) }
@@ -88,14 +88,14 @@ impl Apart {
         }
     }
 
-    /// Whether an end of each file was taken.
+    /// Returns whether an end of each file was taken.
     pub fn has_ended(&self) -> bool
         ensures { TellsEnds ApartStandsFor self.now result }
     {
         all_ended(&self.files)
     }
 
-    /// Posts the rows of the worker's flows, by rising file and then media. `Err` is want of memory.
+    /// Posts the results of the worker's flows, by file and then by media. Returns `Err` if memory runs out.
     pub fn post<R: Wait>(self, rt: &R, book: &Book) -> Result<Vec<Receipt>, OutOfMemory>
         ensures posted { IfOk result (λ receipts. All (IsOf book.now) receipts.items) }
         ensures rows { IfOk result (λ receipts.
@@ -113,6 +113,7 @@ impl Apart {
     }
 }
 
+/// Returns whether an end of each file was taken.
 fn all_ended(files: &[OneFile]) -> bool
     ensures { result ≡ list_all (λ file. file.ended) files.now }
 {

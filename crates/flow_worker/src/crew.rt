@@ -1,4 +1,4 @@
-//! All files of a job, read and judged beside each other.
+//! All files of a run, read and judged in parallel.
 
 mod close;
 mod columns;

@@ -1,5 +1,5 @@
-//! The intake of one file: it reads the file's records, and hands the packets of the session's media
-//! to the workers.
+//! The intake of one file, which reads the file's packet records and sends the packets of the session's media to the
+//! workers.
 
 ghost use Rattle.std.specs.Prelude.{◌≡◌, ◌≤◌, ◌<◌, ◌+◌, ◌*◌, ◌^◌, ◌∷◌, [], ℕ, List, None, Some, Bool, IfErr, IfOk, MatchResult, if◌then◌else◌, length};
 ghost use Rattle.timing_base.specs.Captures.{IsStamp, Record};
@@ -24,18 +24,19 @@ use std::sync::Wait;
 use timing_base::FileNote;
 use timing_outside::{Gate, Source};
 
-/// What an intake leaves.
+/// Result of an intake.
 #[derive(Drop)]
 pub struct IntakeDone<S: Source> {
+    /// Source of the file.
     pub source: S,
-    /// The passes of the lanes, in order.
+    /// Passes of the lanes, in order.
     pub passes: Vec<SendPass>,
-    /// How the records of the file end. `None` where memory ran out; the halt was raised then.
+    /// How the packet records of the file end; `None` if memory ran out, in which case the halt was raised.
     pub note: Option<FileNote>,
 }
 
-/// Sorts the records of a file: it puts the packet of each, if that is one of a media of the session,
-/// into the batch for its lane.
+/// Sorter of the packet records of a file. If the packet of a record belongs to a media of the session, it goes into
+/// the batch for its lane.
 struct Sorter<'a, R: Wait> {
     rt: &'a R,
     alloc: Global,
@@ -47,7 +48,7 @@ struct Sorter<'a, R: Wait> {
 impl<R: Wait> Taker for Sorter<'_, R> {
     ghost use Rattle.flow_worker.specs.Sorting.{HasRoom, LeavesOff, Sorts, leaves_before, leaves_later, room_less, sorts_more, sorts_none};
 
-    /// Want of memory.
+    /// Memory ran out.
     type Stop = OutOfMemory;
 
     ghost takes = { λ old new items. Sorts old new items };
@@ -68,7 +69,7 @@ impl<R: Wait> Taker for Sorter<'_, R> {
 
     #[inline(always)]
     fn take(&mut self, number: u64, at: u64, frame: &[u8]) -> Result<(), OutOfMemory> {
-        // Most frames carry the packet that goes on in the flow whose turn it is: these aren't read.
+        // Most frames carry the packet that is expected in the flow with the next turn: these aren't parsed.
         if let Some(packet) = self.upcoming.take(number, at, frame) {
             let lane = self.routing.lane(&packet);
             return self.outboxes.put(self.rt, self.alloc, lane, packet);
@@ -81,8 +82,8 @@ impl<R: Wait> Sorter<'_, R> {
     ghost use Rattle.flow_worker.specs.Expecting.{AreExpected};
     ghost use Rattle.flow_worker.specs.Sorting.{HasRoom, LeavesOff, Sorts};
 
-    /// Takes a record, whatever its frame: it is read, and what goes on after its packet is then expected. `Err` is
-    /// want of memory.
+    /// Takes a packet record, whatever its frame: parses it, and then expects the packet that follows. Returns `Err` if
+    /// memory runs out.
     #[cold]
     #[inline(never)]
     fn take_other(&mut self, number: u64, at: u64, frame: &[u8]) -> Result<(), OutOfMemory>
@@ -102,8 +103,8 @@ impl<R: Wait> Sorter<'_, R> {
         self.outboxes.put(self.rt, self.alloc, lane, packet)
     }
 
-    /// Sends all of a reader that has answered no record: its packets, and the ends. Answers how the
-    /// records end. `Err` is want of memory.
+    /// Sends everything of a reader that hasn't returned a record: its packets, and the ends. Returns how the packet
+    /// records end. Returns `Err` if memory runs out.
     fn send_file<S: Source>(&mut self, reader: &mut PcapReader<S>) -> Result<FileNote, OutOfMemory>
         requires begins { BeginsFile self.old.routing reader.old self.old.outboxes }
         requires expected { AreExpected self.old.routing.media.now self.old.upcoming }
@@ -124,8 +125,8 @@ impl<R: Wait> Sorter<'_, R> {
     }
 }
 
-/// Raises the halt for want of memory, wakes the workers of these lanes, so that they see it, and leaves
-/// what there is.
+/// Raises the halt since memory ran out, wakes the workers of these lanes, so that they see it, and returns the result
+/// of the intake.
 fn stop<'h, R: Wait, S: Source>(
     rt: &R,
     source: S,
@@ -149,7 +150,7 @@ fn stop<'h, R: Wait, S: Source>(
 
 ghost use Rattle.flow_worker.specs.Expecting.{AreExpected};
 
-/// Sends all of a reader that has answered no record, and leaves what an intake leaves.
+/// Sends everything of a reader that hasn't returned a record, and returns the result of the intake.
 fn take_file<'h, R: Wait, S: Source>(
     reader: PcapReader<S>,
     sorter: Sorter<'h, R>,
@@ -197,21 +198,19 @@ fn take_file<'h, R: Wait, S: Source>(
     }
 }
 
-/// Reads a file, and sends each packet of a media of the session to the worker that `route` names for
-/// the media and the file, or for the first file where the files are joined. It meets the gate as
-/// number `file` before its first read.
+/// Reads a file, and sends each packet of a media of the session to the worker that `route` gives for the media and the
+/// file, or for file 0 if the files are joined. It meets the gate as number `file` before its first read.
 ///
-/// A batch goes out when it has 256 packets. At the end of the file what is left goes out, by rising
-/// lane, and then an end for each lane, by rising lane. Where a read failed, the note is
-/// `Refused(ReadFault)`, and what was sent is all of the records before. Where memory ran out, there is
-/// no note, and what was sent begins what was to be sent; the halt is raised, of which the second value
-/// is the witness, and the workers of all lanes were woken for it.
+/// A batch is sent when it has 256 packets. At the end of the file the remaining packets are sent, in the order of the
+/// lanes, and then an end to each lane, in the same order. If a read fails, the note is `Refused(ReadFault)`, and the
+/// packets of all records before that were sent. If memory runs out, there is no note, and a first part was sent; the
+/// halt is raised and the workers of all lanes were woken for it, which the second value shows.
 ///
-/// An intake that is far ahead of a lane whose worker has begun sleeps until that has taken some. Where the
-/// files are joined, one that is far ahead of its turn sleeps while the file before is being read. The turn
-/// of its own file is the caller's to begin and to end.
+/// An intake that is far ahead of a lane sleeps until the lane's worker, if it has begun, has taken some messages. If
+/// the files are joined, an intake that is far ahead of its turn sleeps while the file before is being read. The caller
+/// begins and ends the turn of the intake's own file.
 ///
-/// The passes are those of the lanes, in order. The call may wait, and promises if it returns.
+/// The passes are those of the lanes, in order. The call may wait; its contract holds if it returns.
 pub fn intake<'h, R: Wait, S: Source, G: Gate>(
     rt: &'h R,
     alloc: Global,

@@ -1,4 +1,4 @@
-//! Files that are joined: they are judged as one, in their order.
+//! Joined files, which are judged as one, in their order.
 
 ghost use Rattle.std.specs.Prelude.{◌≡◌, ◌<◌, ◌+◌, ◌^◌, ◌++◌, ◌∷◌, [], ℕ, List, All, None, false, true, IfNone, IfOk, IfSome, get_or, length};
 ghost use Rattle.ruled_intake.specs.declared.message.Message.{Message as MessageValue};
@@ -16,23 +16,23 @@ use std::mem;
 use std::sync::Wait;
 use verdict_book::{Book, Receipt};
 
-/// What came of one of the files.
+/// Messages that came of one of the files.
 #[derive(Drop)]
 struct Waiting {
-    /// Its packets that came before the files before it had ended.
+    /// Batches that came before the files before it had ended.
     batches: Vec<Batch>,
     end: Option<FileEnd>,
 }
 
-/// The files of a run, in order, and one judge for each media.
+/// Files of a run, in order, and one judge for each media.
 #[derive(Drop)]
 pub struct Joined {
     alloc: Global,
     judges: Judges,
     files: Vec<Waiting>,
-    /// The file whose packets are fed as they come: all files before it have ended.
+    /// File with packets that are fed as they come: all files before it have ended.
     next: usize,
-    /// The records of the files before it.
+    /// Number of packet records of the files before it.
     before: u64,
 }
 
@@ -40,7 +40,7 @@ impl Joined {
     ghost use Rattle.flow_worker.specs.declared.joined_files.Waiting.{Waiting};
     ghost use Rattle.flow_worker.specs.Standing.{HasEnded, HasRows, JoinedIsAt, JoinedStandsFor, MayTake, Takes, TellsEnds};
 
-    /// So many files, of which nothing was taken yet. `Err` is want of memory.
+    /// Returns the files of the run, of which nothing was taken yet. Returns `Err` if memory runs out.
     pub fn new(alloc: Global, run: &RunSetting<'_>, worker: u32) -> Result<Joined, OutOfMemory>
         requires limits { IsWorker run.now worker }
         ensures stands { IfOk result (λ joined. JoinedStandsFor (record { media = run.now.media.now; workers = length run.now.lanes.now; joined = true; tai = run.now.tai })
@@ -63,8 +63,8 @@ impl Joined {
         })
     }
 
-    /// Takes a message. What is of a file that isn't there, or comes behind its file's first end, is
-    /// passed over. `Err` is want of memory; what the judges were fed isn't known from then on.
+    /// Takes a message. One of a file that doesn't exist, or after its file's first end, is ignored. Returns `Err` if
+    /// memory runs out; what the judges were fed is then unspecified.
     pub fn take(&mut self, message: Message) -> Result<(), OutOfMemory>
         requires few { MayTake JoinedStandsFor message self.old }
         ensures stands { IfOk result (λ _. Takes JoinedStandsFor message self.old self.new) }
@@ -75,7 +75,7 @@ impl Joined {
         }
     }
 
-    /// Feeds a batch of the next file, and keeps one of a file behind it.
+    /// Feeds a batch of the next file, and keeps a batch of a later file. Returns `Err` if memory runs out.
     fn feed(&mut self, batch: Batch) -> Result<(), OutOfMemory>
         requires few { MayTake JoinedStandsFor (batch_of batch.file batch.packets) self.old }
         ensures stands { IfOk result (λ _. Takes JoinedStandsFor (batch_of batch.file batch.packets) self.old self.new) }
@@ -91,7 +91,7 @@ impl Joined {
         Ok(())
     }
 
-    /// Notes the end of a file, and goes on behind each file that has ended.
+    /// Notes the end of a file, and goes on to the first file that hasn't ended. Returns `Err` if memory runs out.
     fn end(&mut self, end: FileEnd) -> Result<(), OutOfMemory>
         requires few { MayTake JoinedStandsFor (ending end.file end.note end.records) self.old }
         ensures stands { IfOk result (λ _. Takes JoinedStandsFor (ending end.file end.note end.records) self.old self.new) }
@@ -104,7 +104,7 @@ impl Joined {
         self.advance()
     }
 
-    /// Notes the end of a file that has none.
+    /// Notes the end of a file that has none yet.
     fn note_end(&mut self, file: usize, end: FileEnd)
         requires file { file ≡ end.file }
         requires there { file < length self.old.files.items }
@@ -116,7 +116,7 @@ impl Joined {
         self.files[file].end = Some(end);
     }
 
-    /// Goes on behind each file that has ended.
+    /// Goes on to the first file that hasn't ended. Returns `Err` if memory runs out.
     fn advance(&mut self) -> Result<(), OutOfMemory>
         requires few { (s : Setting) × (files : ℕ) × (worker : ℕ) × (taken : List MessageValue)
             × JoinedIsAt s files worker taken self.old × IsWithin (2 ^ 41) taken }
@@ -130,7 +130,7 @@ impl Joined {
         Ok(())
     }
 
-    /// The records of the next file, if it is there and has ended.
+    /// Returns the number of packet records of the next file, if it exists and has ended.
     fn ended(&self) -> Option<u64>
         ensures some { IfSome result (λ records. (s : Setting) (files worker : ℕ)
             (taken : List MessageValue) → JoinedIsAt s files worker taken self.now
@@ -148,8 +148,8 @@ impl Joined {
         }
     }
 
-    /// Goes on to the file behind the next one, which has ended with so many records, and feeds what
-    /// waited of it.
+    /// Goes on to the file after the next one, which has ended with `records` packet records, and feeds the batches
+    /// kept of it. Returns `Err` if memory runs out.
     fn go_on(&mut self, records: u64) -> Result<(), OutOfMemory>
         requires few { (s : Setting) × (files : ℕ) × (worker : ℕ) × (taken : List MessageValue)
             × JoinedIsAt s files worker taken self.old × IsWithin (2 ^ 41) taken
@@ -170,15 +170,14 @@ impl Joined {
         self.judges.take_batches(batches, self.before)
     }
 
-    /// Whether an end of each file was taken.
+    /// Returns whether an end of each file was taken.
     pub fn has_ended(&self) -> bool
         ensures { TellsEnds JoinedStandsFor self.now result }
     {
         self.next >= self.files.len()
     }
 
-    /// Posts the rows of the worker's flows, by rising media, where all files have ended. `Err` is
-    /// want of memory.
+    /// Posts the results of the worker's flows, by media, after all files have ended. Returns `Err` if memory runs out.
     pub fn post<R: Wait>(self, rt: &R, book: &Book) -> Result<Vec<Receipt>, OutOfMemory>
         ensures posted { IfOk result (λ receipts. All (IsOf book.now) receipts.items) }
         ensures rows { IfOk result (λ receipts. HasRows JoinedStandsFor self receipts.items) }

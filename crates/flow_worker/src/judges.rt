@@ -1,12 +1,11 @@
-//! The judges of a worker for one file, or for files that are joined.
+//! The judges of a worker for one file, or for joined files.
 
-ghost use Rattle.std.specs.Prelude.{◌≡◌, ◌≤◌, ◌<◌, ◌+◌, ◌^◌, ◌++◌, ◌∷◌, [], ℕ, Bool, List, All, IfOk, IfNone, IfSome, IsTrue, OnOk, filter, length, map, true};
+ghost use Rattle.std.specs.Prelude.{◌≡◌, ◌≤◌, ◌<◌, ◌+◌, ◌^◌, ◌++◌, ◌∷◌, [], ℕ, Bool, List, All, IfOk, IfNone, IfSome, IsTrue, filter, length, map, true};
 ghost use Rattle.timing_base.specs.declared.key.FlowKey.{FlowKey as KeyValue};
 ghost use Rattle.timing_base.specs.declared.packet.FlowPacket.{FlowPacket as PacketValue};
 ghost use Rattle.timing_base.specs.Keys.{keys_of_file};
-ghost use Rattle.timing_base.specs.Media.{Media as MediaValue};
 ghost use Rattle.timing_base.specs.Routes.{route};
-ghost use Rattle.fail_interval.specs.Stands.{StandsFor, count_fed};
+ghost use Rattle.fail_interval.specs.Stands.{StandsFor, Takes, count_fed};
 ghost use Rattle.fail_interval.specs.States.{IsReading};
 ghost use Rattle.timing_base.specs.Captures.{IsStamp};
 ghost use Rattle.flow_worker.specs.Judging.{Expects};
@@ -23,8 +22,7 @@ use std::sync::Wait;
 use timing_base::{FlowKey, FlowPacket, Media, PacketFault, Row, Rtp, route};
 use verdict_book::{Book, Receipt};
 
-/// A place for each media of the session, in order. It has a judge where the flow of the media is
-/// the worker's own.
+/// Judges by media of the session, in order. A media has a judge if its flow is the worker's own.
 #[derive(Drop)]
 pub struct Judges {
     places: Vec<Option<FlowJudge<()>>>,
@@ -33,8 +31,8 @@ pub struct Judges {
 impl Judges {
     ghost use Rattle.flow_worker.specs.Judging.{AreFed, Feeds, HaveRoom, IsDealt, batched, is_own};
 
-    /// The judges of a file, or of the first of files that are joined, for this worker. `Err` is
-    /// want of memory.
+    /// Returns the judges of this worker for a file, or for file 0 if files are joined. Returns `Err` if memory runs
+    /// out.
     pub fn new(
         alloc: Global,
         run: &RunSetting<'_>,
@@ -60,9 +58,9 @@ impl Judges {
         Ok(Judges { places })
     }
 
-    /// Feeds the packets of a file to the judges of their media, with their record numbers raised.
-    /// Those of a media without a judge are passed over. `Err` is want of memory; what the judges
-    /// were fed isn't known from then on.
+    /// Feeds the packets of a file to the judges of their media, with `before` added to their packet records. Packets
+    /// of a media without a judge are ignored. Returns `Err` if memory runs out; what the judges were fed is then
+    /// unspecified.
     pub fn take(&mut self, packets: &[Packet], before: u64) -> Result<(), OutOfMemory>
         requires before { before ≤ 2 ^ 41 }
         requires room { HaveRoom (length packets.now) self.old }
@@ -107,8 +105,8 @@ impl Judges {
         }
     }
 
-    /// Posts the rows of the flows that have a judge, by rising media, and puts the receipts at the
-    /// end of a list. `Err` is want of memory.
+    /// Posts the results of the flows that have a judge, by media, and appends the receipts to a list. Returns `Err` if
+    /// memory runs out.
     pub fn post<R: Wait>(
         self,
         rt: &R,
@@ -134,7 +132,7 @@ impl Judges {
     }
 }
 
-/// The judge of a flow that is the worker's own.
+/// Returns the judge of a flow if it is the worker's own.
 fn own_judge(
     alloc: Global,
     media: &Media,
@@ -153,7 +151,7 @@ fn own_judge(
     }
 }
 
-/// Whether this is the packet that goes on in the judge's flow as most do.
+/// Returns whether this is the packet that the judge expects next.
 #[inline(always)]
 fn is_expected(judge: &FlowJudge<()>, rtp: Result<Rtp, PacketFault>) -> bool
     ensures { result ≡ true → Expects judge.now rtp }
@@ -167,8 +165,8 @@ fn is_expected(judge: &FlowJudge<()>, rtp: Result<Rtp, PacketFault>) -> bool
     }
 }
 
-/// Feeds a judge the next packet of its flow. In a judged run most go on as is expected: these are compared once, and
-/// then only their stamps are fed. `Err` is want of memory.
+/// Feeds a judge the next packet of its flow. In a judged run most packets are the expected ones: these are compared
+/// once, and then only their packet records and capture timestamps are fed. Returns `Err` if memory runs out.
 #[inline(always)]
 fn feed_next(
     judge: &mut FlowJudge<()>,
@@ -179,10 +177,7 @@ fn feed_next(
     requires stamp { IsStamp at }
     requires reading { IsReading rtp }
     requires few { count_fed judge.old < 2 ^ 41 }
-    ensures fed { count_fed judge.new ≤ count_fed judge.old + 1 }
-    ensures stands { (media : MediaValue) (key : KeyValue) (tai : ℕ) (packets : List PacketValue)
-        → StandsFor media key tai judge.old packets → OnOk result (StandsFor media key tai judge.new
-        (packets ++ record { rec = rec; at = at; rtp = rtp } ∷ [])) }
+    ensures { Takes judge.old judge.new (record { rec = rec; at = at; rtp = rtp }) result }
 {
     if is_expected(judge, rtp) && judge.feed_judged(rec, at)? {
         return Ok(());
@@ -190,7 +185,7 @@ fn feed_next(
     judge.feed(rec, at, rtp, &mut ())
 }
 
-/// Posts a row, and puts its receipt at the end of a list.
+/// Posts a result, and appends its receipt to a list. Returns `Err` if memory runs out.
 fn post_row<R: Wait>(
     rt: &R,
     book: &Book,

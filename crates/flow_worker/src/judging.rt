@@ -1,4 +1,4 @@
-//! All flows of a worker.
+//! The judging of all flows of a worker.
 
 ghost use Rattle.std.specs.Prelude.{◌<◌, [], All, IfOk};
 ghost use Rattle.verdict_book.specs.Receipts.{IsOf};
@@ -12,17 +12,19 @@ use std::alloc::{AllocError as OutOfMemory, Global};
 use std::sync::Wait;
 use verdict_book::{Book, Receipt};
 
-/// The judges of a worker's flows.
+/// Judges of a worker's flows.
 #[derive(Drop)]
 pub enum Judging {
+    /// Each file is judged by itself.
     Apart(Apart),
+    /// The files are judged as one.
     Joined(Joined),
 }
 
 impl Judging {
     ghost use Rattle.flow_worker.specs.Standing.{HasRows, MayTake, StandsFor, Takes, TellsEnds};
 
-    /// The judges of a worker that has taken nothing yet. `Err` is want of memory.
+    /// Returns the judges of a worker that has taken nothing yet. Returns `Err` if memory runs out.
     pub fn new(alloc: Global, run: &RunSetting<'_>, worker: u32) -> Result<Judging, OutOfMemory>
         requires limits { IsWorker run.now worker }
         ensures stands { IfOk result (λ judging. StandsFor (setting_of run.now) run.now.files worker [] judging) }
@@ -36,7 +38,7 @@ impl Judging {
         }
     }
 
-    /// Takes a message. `Err` is want of memory; what the judges were fed isn't known from then on.
+    /// Takes a message. Returns `Err` if memory runs out; what the judges were fed is then unspecified.
     pub fn take(&mut self, message: Message) -> Result<(), OutOfMemory>
         requires few { MayTake StandsFor message self.old }
         ensures stands { IfOk result (λ _. Takes StandsFor message self.old self.new) }
@@ -47,7 +49,7 @@ impl Judging {
         }
     }
 
-    /// Whether an end of each file was taken.
+    /// Returns whether an end of each file was taken.
     pub fn has_ended(&self) -> bool
         ensures { TellsEnds StandsFor self.now result }
     {
@@ -57,8 +59,8 @@ impl Judging {
         }
     }
 
-    /// Posts the rows of the worker's flows, by rising file and then media, where all files have
-    /// ended. `Err` is want of memory.
+    /// Posts the results of the worker's flows, by file and then by media, after all files have ended. Returns `Err` if
+    /// memory runs out.
     pub fn post<R: Wait>(self, rt: &R, book: &Book) -> Result<Vec<Receipt>, OutOfMemory>
         ensures posted { IfOk result (λ receipts. All (IsOf book.now) receipts.items) }
         ensures rows { IfOk result (λ receipts. HasRows StandsFor self receipts.items) }

@@ -1,5 +1,4 @@
-//! What holds of the definitions themselves. Each function is a theorem: it does nothing, and its
-//! clauses are proved.
+//! Theorems about the definitions. Each function does nothing; its clauses are the theorem.
 
 ghost use Rattle.std.specs.Prelude.{◌≡◌, ◌<◌, ◌∷◌, [], ℕ, List, length, slice_get, Some, true, false, ◌++◌, IsTrue, map};
 ghost use Rattle.timing_base.specs.Captures.{Record};
@@ -19,9 +18,8 @@ ghost use Rattle.flow_worker.specs.Posting.{is_key, is_whole, judged_files, key_
 ghost use Rattle.flow_worker.specs.World.{HasEnded, State, Step, after, after_steps, opening, times};
 ghost use Rattle.flow_worker.specs.Kept.{HasPosted, HasTakenAll, IsInOrder};
 
-/// What a file has to send to the lane of a worker is batches with the packets of the lane, in
-/// order, and then its end. Among the packets of a lane are all of a media that is dealt to it:
-/// they are the media's flow.
+/// What a file has to send to the lane of a worker is batches with the packets of the lane, in order, and then its end.
+/// If a media is dealt to a lane, its packets among those of the lane are the media's flow.
 pub fn lanes_in_order()
     ensures whole { (s : Setting) (captures : List Capture) (file lane : ℕ) (c : Capture)
         → slice_get captures file ≡ Some c → lane < s.workers
@@ -33,8 +31,8 @@ pub fn lanes_in_order()
         (session_packets s.media items)) ≡ flow items m }
 {}
 
-/// Worked by hand: batches of two packets. The fourth packet fills the batch of the second lane
-/// after the third has filled that of the first; the fifth is left.
+/// Worked by hand: batches of two packets. The third packet fills the batch of the first lane, and the fourth that of
+/// the second; the fifth is left.
 pub fn batches_by_hand()
     ensures sent { (end : Message) → sent_of 2 7 (λ p. p.media) five_packets 3 end
         ≡ to_lane 0 (batch 7 (packet_in 0 2 ∷ packet_in 0 3 ∷ []))
@@ -46,20 +44,19 @@ pub fn batches_by_hand()
     ensures none { messages (two_workers false) two_files 2 1 ≡ [] }
     ensures joined { messages (two_workers true) two_files 1 1 ≡ second_of_second }
 
-    // With three workers the flows of the second file are the third and the fourth; joined, they
-    // are those of the first.
+    // With three workers, the flows of the second file belong to the third and the first worker. Joined, they are those
+    // of the first file.
     ensures third { media_lane (record (two_workers false) { workers = 3 }) 1 0 ≡ 2 }
     ensures fourth { media_lane (record (two_workers false) { workers = 3 }) 1 1 ≡ 0 }
     ensures as_first { media_lane (record (two_workers true) { workers = 3 }) 1 1 ≡ 1 }
 {}
 
-/// Each step keeps the messages of each file for each lane in order, whatever the state that it
-/// begins with. So in every run, at every moment, each row that was posted is its flow's row, and
-/// no flow's row was posted twice; and a run that has ended has posted the row of each flow once.
+/// Each step keeps the messages of each file for each lane in order, whatever the state before it. So in every run, at
+/// every moment, each posted result is that of its flow, and no flow's result was posted twice. A run that has ended
+/// has posted the result of each flow once.
 ///
-/// The same holds of lists alone. The row that a worker makes for a flow of its own is the flow's
-/// row, whatever else it took and in whatever order: it is enough that of each file that the flow
-/// is in, what it took begins the file's messages for its lane, and that an end is among it.
+/// A worker makes the right result for a flow of its own, whatever else it took and in whatever order, if for each file
+/// of the flow it took a prefix of the file's messages for its lane, with an end among them.
 pub fn world_rows()
     ensures opens { (s : Setting) (captures : List Capture)
         → IsInOrder s captures (opening s captures) }
@@ -77,29 +74,28 @@ pub fn world_rows()
         → taken_row s (length captures) taken key ≡ key_row s captures key }
 {}
 
-/// From each state of a run some steps lead to one that has ended: no run gets stuck on its way.
-/// That threads take these steps is no part of it.
+/// From each state of a run some steps lead to one that has ended: no run gets stuck. That threads take these steps
+/// isn't part of the theorem.
 pub fn runs_can_end()
     ensures { (s : Setting) (captures : List Capture) (steps : List Step)
         → (later : List Step) × HasEnded s (length captures) (after_steps s captures (steps ++ later)) }
 {}
 
-/// The rows of the keys of a run, by rising file and then media, are the rows of its files: of each
-/// for itself, or where they are joined of all as one.
+/// The results of the keys of a run, by file and then by media, are the results of its files: of each by itself, or if
+/// they are joined, of all as one.
 pub fn keys_in_order()
     ensures { (s : Setting) (captures : List Capture)
         → map (key_row s captures) (keys s (length captures))
         ≡ rows_of_files s.tai 0 s.media (judged_files s captures) }
 {}
 
-/// Worked by hand: a row is posted only where the end of its file was taken, by its own worker, and
-/// once.
+/// Worked by hand: a result is posted only if the end of its file was taken, by its own worker, and once.
 pub fn run_by_hand()
     ensures early { (after_steps (two_workers false) two_files early_steps).posted ≡ [] }
     ensures later { (after_steps (two_workers false) two_files (early_steps ++ later_steps)).posted
         ≡ row_over (two_workers false) (key_of 1 1) (packet_at 1 200 ∷ []) ∷ [] }
 
-    // All that there is, with the messages of both files mixed in both lanes.
+    // All steps, with the messages of both files interleaved in both lanes.
     ensures whole { (after_steps (two_workers false) two_files all_steps).posted
         ≡ row_over (two_workers false) (key_of 1 1) (packet_at 1 200 ∷ [])
         ∷ row_over (two_workers false) (key_of 0 1) (packet_at 1 100 ∷ [])
@@ -107,8 +103,8 @@ pub fn run_by_hand()
         ∷ row_over (two_workers false) (key_of 1 0) [] ∷ [] }
 {}
 
-/// Worked by hand: of files that are joined, all ends are needed, and the packets come by rising
-/// file whatever came first. The record of the second file is the sixth.
+/// Worked by hand: if files are joined, the ends of all files are needed, and the packets come by file, whatever came
+/// first. The packet record of the second file is the sixth.
 pub fn joined_by_hand()
     ensures half { is_whole (two_workers true) 2 second_of_second (key_of 0 1) ≡ false }
     ensures whole { is_whole (two_workers true) 2 (second_of_second ++ second_of_first) (key_of 0 1)

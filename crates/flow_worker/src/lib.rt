@@ -1,12 +1,12 @@
-//! The threads of a run: the intake of a file, a worker, both as a machine, and all files of a job beside each other.
+//! The threads of a run: the intake of a file, a worker, both as a state machine, and all files of a run in parallel.
 //!
-//! An intake reads one file and sends the packets of the session's media over lanes, by [`intake`]; there
-//! is a lane for each worker. A worker takes from its lane, by [`work`], and posts the row of each
-//! flow that is dealt to it. `specs/Opening.antt` says what a file has to send, and `specs/World.antt` has
-//! both as a machine, with what is proved of it. Files, media, lanes and workers count from 0, records from 1.
+//! An intake reads one file and sends the packets of the session's media over lanes, by [`intake`]; there is a lane for
+//! each worker. A worker takes messages from its lane, by [`work`], and posts the result of each flow that is dealt to
+//! it. `specs/Opening.antt` defines what a file has to send, and `specs/World.antt` has both as a state machine, with
+//! what is proved of it. Files, media, lanes and workers count from 0, packet records from 1.
 //!
-//! - `crew`: all files of a job, read and judged by an intake for each file and a worker for each share of the flows.
-//! - `laws`: what is proved of the machine, and runs worked by hand.
+//! - `crew`: all files of a run, read and judged by an intake for each file and a worker for each share of the flows.
+//! - `laws`: theorems about the state machine, and runs worked by hand.
 #![tactic(auto)]
 
 mod apart_files;

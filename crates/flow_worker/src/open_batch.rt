@@ -8,11 +8,11 @@ use std::marker::Model;
 use std::mem;
 use timing_base::Items;
 
-/// A batch has so many packets, where it isn't the last one of its file for a lane.
+/// Number of packets in a batch, unless it is the last of its file for a lane.
 const FULL: usize = 256;
 
-/// The packets for one lane that fill no batch yet. There is room for a whole batch from the first
-/// packet on, so only a batch that begins takes memory.
+/// Packets for one lane that don't fill a batch yet. There is room for a whole batch from the first packet on, so only
+/// beginning a batch allocates memory.
 #[derive(Drop)]
 pub struct OpenBatch {
     packets: Vec<Packet>,
@@ -30,7 +30,7 @@ impl Model for OpenBatch {
 }
 
 impl OpenBatch {
-    /// A batch without a packet. `Err` is want of memory.
+    /// Returns a batch without packets. Returns `Err` if memory runs out.
     pub fn new(alloc: Global) -> Result<OpenBatch, OutOfMemory>
         ensures { IfOk result (λ batch. batch ≡ []) }
     {
@@ -38,8 +38,8 @@ impl OpenBatch {
         Ok(OpenBatch { packets })
     }
 
-    /// Puts a packet at the end. Where that fills the batch, its packets are the answer, and the next
-    /// batch begins. `Err` is want of memory, and changes nothing.
+    /// Appends a packet. If that fills the batch, returns its packets, and the next batch begins. Returns `Err` if
+    /// memory runs out; nothing changes then.
     #[inline(always)]
     pub fn put(
         &mut self,
@@ -61,7 +61,7 @@ impl OpenBatch {
         Ok(Some(Items::from_vec(mem::replace(&mut self.packets, next))))
     }
 
-    /// Takes the packets out, if there are any: the last batch of a file. It takes no memory.
+    /// Takes the packets out, if there are any, for the last batch of a file. Allocates no memory.
     pub fn take(&mut self, alloc: Global) -> Option<Items<Packet>>
         ensures packets { MatchOption result (self.old ≡ [])
             (λ packets. (packets ≡ self.old) × (1 ≤ length packets) × (length packets ≤ 256)) }

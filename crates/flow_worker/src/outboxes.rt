@@ -11,24 +11,24 @@ use std::alloc::{AllocError as OutOfMemory, Global};
 use std::sync::Wait;
 use timing_base::{FileNote, Items};
 
-/// So many batches are sent before the turn of a file: workers hold them until the files before have ended.
+/// Number of batches that are sent before the turn of a file. Workers hold them until the files before have ended.
 const AHEAD_OF_TURN: u64 = 64;
 
-/// For each lane the pass of a file, and the batch that is being filled.
+/// Passes of a file for the lanes, and the batch that is being filled for each lane.
 #[derive(Drop)]
 pub struct Outboxes<'a> {
-    /// The file, counted from 0.
+    /// File, counted from 0.
     file: u32,
     lanes: &'a [Lane],
     passes: Vec<SendPass>,
     batches: Vec<OpenBatch>,
-    /// The file that is judged before, where files are joined.
+    /// Turn of the file that is judged before, if files are joined.
     before: Option<&'a Turn>,
-    /// How many batches were sent to all lanes.
+    /// Number of batches sent to all lanes.
     batches_sent: u64,
 }
 
-/// So many batches without a packet.
+/// Returns `count` batches without packets. Returns `Err` if memory runs out.
 fn open_batches(alloc: Global, count: usize) -> Result<Vec<OpenBatch>, OutOfMemory>
     ensures { IfOk result (λ batches. (length batches.items ≡ count)
         × ((w : ℕ) → slice_index_or batches.items w [] ≡ [])) }
@@ -43,8 +43,7 @@ fn open_batches(alloc: Global, count: usize) -> Result<Vec<OpenBatch>, OutOfMemo
 impl<'a> Outboxes<'a> {
     ghost use Rattle.flow_worker.specs.Sending.{AreOutboxes, AreSame, HaveAllFew, HaveFew, Puts, Sends, SendsRest, Stays, open_for, sent_to, with_end, with_rest};
 
-    /// Outboxes with a batch without a packet for each lane. `Err` is want of memory, and hands the
-    /// passes back.
+    /// Returns outboxes with a batch without packets for each lane. Returns `Err` with the passes if memory runs out.
     pub fn new(
         alloc: Global,
         file: u32,
@@ -74,14 +73,14 @@ impl<'a> Outboxes<'a> {
         }
     }
 
-    /// The lanes.
+    /// Returns the lanes.
     pub fn lanes(&self) -> &'a [Lane]
         ensures { result.now ≡ self.now.lanes.now }
     {
         self.lanes
     }
 
-    /// The passes, in the order of the lanes.
+    /// Returns the passes, in the order of the lanes.
     pub fn into_passes(self) -> Vec<SendPass>
         ensures { result ≡ self.entry.passes }
     {
@@ -96,7 +95,7 @@ impl<'a> Outboxes<'a> {
         passes
     }
 
-    /// Sends a message to a lane. `Err` is want of memory; then nothing was sent.
+    /// Sends a message to a lane. Returns `Err` if memory runs out; nothing was sent then.
     fn send<R: Wait>(&mut self, rt: &R, lane: usize, message: Message) -> Result<(), OutOfMemory>
         requires are { AreOutboxes self.old }
         requires lane { lane < length self.old.lanes.now }
@@ -110,7 +109,7 @@ impl<'a> Outboxes<'a> {
         }
     }
 
-    /// Waits for the end of the file before, where this one is far ahead of its turn.
+    /// Waits for the end of the file before, if this file is far ahead of its turn.
     fn wait_for_turn<R: Wait>(&self, rt: &R) {
         if self.batches_sent < AHEAD_OF_TURN {
             return;
@@ -120,8 +119,8 @@ impl<'a> Outboxes<'a> {
         }
     }
 
-    /// Sends a batch to a lane. Then it waits where the lane's worker is far behind, or the file is far
-    /// ahead of its turn.
+    /// Sends a batch to a lane. Then it waits if the lane's worker is far behind, or the file is far ahead of its turn.
+    /// Returns `Err` if memory runs out; nothing was sent then.
     fn send_batch<R: Wait>(
         &mut self,
         rt: &R,
@@ -145,8 +144,8 @@ impl<'a> Outboxes<'a> {
         Ok(())
     }
 
-    /// Puts a packet into the batch for a lane, and sends the batch where that fills it. `Err` is want
-    /// of memory; then nothing was sent.
+    /// Puts a packet into the batch for a lane, and sends the batch if that fills it. Returns `Err` if memory runs out;
+    /// nothing was sent then.
     #[inline(always)]
     pub fn put<R: Wait>(
         &mut self,
@@ -167,8 +166,8 @@ impl<'a> Outboxes<'a> {
         }
     }
 
-    /// Sends what fills no batch to a lane, if there is any. `Err` is want of memory; then nothing was
-    /// sent.
+    /// Sends the packets that don't fill a batch to a lane, if there are any. Returns `Err` if memory runs out; nothing
+    /// was sent then.
     fn send_rest<R: Wait>(&mut self, rt: &R, alloc: Global, lane: usize) -> Result<(), OutOfMemory>
         requires are { AreOutboxes self.old }
         requires lane { lane < length self.old.lanes.now }
@@ -182,7 +181,7 @@ impl<'a> Outboxes<'a> {
         }
     }
 
-    /// Sends what fills no batch to each lane, rising.
+    /// Sends the packets that don't fill a batch to each lane, in order. Returns `Err` if memory runs out.
     fn send_rests<R: Wait>(&mut self, rt: &R, alloc: Global) -> Result<(), OutOfMemory>
         requires are { AreOutboxes self.old }
         requires few { HaveAllFew (2 ^ 36) self.old }
@@ -197,7 +196,7 @@ impl<'a> Outboxes<'a> {
         Ok(())
     }
 
-    /// Sends the end of the file to each lane, rising.
+    /// Sends the end of the file to each lane, in order. Returns `Err` if memory runs out.
     fn send_ends<R: Wait>(
         &mut self,
         rt: &R,
@@ -229,8 +228,8 @@ impl<'a> Outboxes<'a> {
         Ok(())
     }
 
-    /// Sends what fills no batch and then the end of the file, each by rising lane. `Err` is want of
-    /// memory; then a part of it was sent.
+    /// Sends the packets that don't fill a batch, and then the end of the file, each in the order of the lanes. Returns
+    /// `Err` if memory runs out; a part was sent then.
     pub fn finish<R: Wait>(
         &mut self,
         rt: &R,

@@ -1,4 +1,4 @@
-//! Which packets a file has for the media of a session, and their lanes.
+//! The packets of a file for the media of a session, and their lanes.
 
 ghost use Rattle.std.specs.Prelude.{◌≡◌, ◌≤◌, ◌<◌, ◌^◌, IfSome, if◌then◌else◌, length};
 ghost use Rattle.timing_base.specs.Captures.{IsStamp};
@@ -11,26 +11,27 @@ use ruled_intake::Packet;
 use timing_base::{FlowKey, FlowPacket, Media, Target, route};
 use udp_rtp::{datagram, read_rtp};
 
-/// The media of a session, and how their packets in one file are dealt out among lanes.
+/// Media of a session, and the distribution of their packets in one file among lanes.
 #[derive(Clone, Copy)]
 pub struct Routing<'a> {
+    /// Media of the session.
     pub media: &'a [Media],
-    /// The file, or the first one where the files are joined.
+    /// File, counted from 0; 0 if the files are joined.
     pub file: u32,
-    /// The number of lanes.
+    /// Number of lanes.
     pub lanes: u32,
-    /// The lane of each media, by its number.
+    /// Lane of each media, by the media's number.
     pub dealt: [u32; 64],
 }
 
-/// The file whose flows a packet counts to: its own, or the first where the files are joined.
+/// Returns the file by which a packet's flow is dealt out: the packet's own, or 0 if the files are joined.
 pub fn dealt_file(file: u32, joined: bool) -> u32
     ensures { result ≡ (if joined then 0 else file) }
 {
     if joined { 0 } else { file }
 }
 
-/// The lane of each media of a file, by the media's number.
+/// Returns the lane of each media of a file, by the media's number.
 pub fn deal(file: u32, media: u32, lanes: u32) -> [u32; 64]
     requires file { file < 16 }
     requires few_media { media ≤ 64 }
@@ -49,7 +50,7 @@ pub fn deal(file: u32, media: u32, lanes: u32) -> [u32; 64]
     dealt
 }
 
-/// The number of the first of these media that has the target.
+/// Returns the number of the first of these media with the target.
 #[inline(always)]
 fn find_media(media: &[Media], target: Target) -> Option<u32>
     requires { length media.now ≤ 64 }
@@ -67,8 +68,9 @@ impl Routing<'_> {
     ghost use Rattle.flow_worker.specs.Expecting.{AreExpected};
     ghost use Rattle.flow_worker.specs.Sending.{IsRouting, route_of};
 
-    /// The packet that a record is of the first media that it goes to, if there is one: the record's
-    /// number from 1, its stamp in nanoseconds, and its frame. It is learnt what is expected next of the media.
+    /// Returns the packet of a record for the first media to which it goes, if there is one, and notes which packet is
+    /// expected next of the media. `number` is the packet record, counted from 1, `at` its capture timestamp in
+    /// nanoseconds, and `frame` its Ethernet frame.
     pub fn packet(
         &self,
         number: u64,
@@ -97,7 +99,7 @@ impl Routing<'_> {
         Some(Packet::new(media, packet))
     }
 
-    /// The lane of a packet, counted from 0.
+    /// Returns the lane of a packet, counted from 0.
     #[inline(always)]
     pub fn lane(&self, packet: &Packet) -> usize
         requires routing { IsRouting self.now }

@@ -13,21 +13,21 @@ use ruled_intake::Packet;
 use timing_base::{FlowPacket, PacketFault, Rtp, Target};
 use udp_rtp::Awaited;
 
-/// What is expected of one media.
+/// Packet that is expected next of one media.
 #[derive(Clone, Copy)]
 pub struct Expected {
-    /// Its next packet, if that goes on as most do.
+    /// Next packet of the media, if it continues its frame or field, as most do.
     awaited: Awaited,
-    /// The number of the media.
+    /// Number of the media, counted from 0.
     media: u32,
-    /// The place of the media whose packet came after the last one of this media.
+    /// Position of the media with the packet that came after the last one of this media.
     after: u32,
 }
 
 impl Expected {
     ghost use Rattle.flow_worker.specs.Expecting.{IsExpected};
 
-    /// Nothing is expected, and the packet after it is tried at this place.
+    /// Returns a value that expects nothing. After it the media at position `place` is tried.
     fn nothing(place: u32) -> Expected
         ensures expected { (media : List MediaValue) → IsExpected media result }
         ensures after { result.after ≡ place }
@@ -40,8 +40,8 @@ impl Expected {
     }
 }
 
-/// What is awaited after a packet of this target that was read: nothing after the marker, nor after one that couldn't
-/// be read.
+/// Returns what is awaited after a packet with this target: nothing after the marker, nor after a packet that couldn't
+/// be parsed.
 fn after(target: Target, rtp: Result<Rtp, PacketFault>) -> Awaited
     ensures { (t : TargetValue) (p : RtpValue) → awaited result ≡ Some (t, p) → t ≡ target }
 {
@@ -51,10 +51,11 @@ fn after(target: Target, rtp: Result<Rtp, PacketFault>) -> Awaited
     }
 }
 
-/// What is expected of each media of a session, each in the place of its number, and whose turn it is.
+/// Packets that are expected of the media of a session, each at the position of its media, and the media with the next
+/// turn.
 #[derive(Drop)]
 pub struct Upcoming {
-    /// The place of the media whose packet came last.
+    /// Position of the media of the last packet.
     last: u32,
     each: [Expected; 64],
     ghost here: { last < 64 },
@@ -65,7 +66,7 @@ pub struct Upcoming {
 impl Upcoming {
     ghost use Rattle.flow_worker.specs.Expecting.{AreExpected};
 
-    /// Before the first packet of a file.
+    /// Returns the state before the first packet of a file.
     pub fn new() -> Upcoming
         ensures { (media : List MediaValue) → AreExpected media result }
     {
@@ -75,8 +76,8 @@ impl Upcoming {
         }
     }
 
-    /// The packet of a record whose frame carries what is expected of the media whose turn it is, which isn't read
-    /// anew. `None` where it doesn't.
+    /// Returns the packet of a record if its frame carries what is expected of the media with the next turn, else
+    /// `None`. The frame is only compared and not parsed. `number` counts from 1, and `at` is in nanoseconds.
     #[inline(always)]
     pub fn take(&mut self, number: u64, at: u64, frame: &[u8]) -> Option<Packet>
         requires number { number < 2 ^ 37 }
@@ -103,7 +104,7 @@ impl Upcoming {
         Some(Packet::new(expected.media, packet))
     }
 
-    /// The media with this number comes after the one whose packet came last.
+    /// Notes that the media with this number came after the media of the last packet.
     fn follow(&mut self, media: u32)
         requires { media < 64 }
         ensures expected { (all : List MediaValue) → AreExpected all self.old → AreExpected all self.new }
@@ -112,7 +113,7 @@ impl Upcoming {
         self.last = media;
     }
 
-    /// A packet of the media with this number came, which is the first one with the target.
+    /// Notes that a packet of the media with this number came. It must be the first media with the target.
     pub fn learn(&mut self, media: u32, target: Target, rtp: Result<Rtp, PacketFault>)
         requires { media < 64 }
         ensures expected { (all : List MediaValue) → media_to target 0 all ≡ Some media → AreExpected all self.old

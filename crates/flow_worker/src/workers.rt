@@ -1,4 +1,4 @@
-//! A worker: it takes the messages of one lane, and judges the flows that are dealt to it.
+//! A worker, which takes the messages of one lane and judges the flows that are dealt to it.
 
 ghost use Rattle.std.specs.Prelude.{◌≡◌, ◌^◌, ℕ, IfOk, IfSome, IsErr, IsTrue, slice_index_or};
 ghost use Rattle.ruled_intake.specs.Lanes.{HasTaken, IsWithin, LaneId, messages};
@@ -17,25 +17,26 @@ use std::sync::Wait;
 use timing_outside::Gate;
 use verdict_book::{Book, Receipt};
 
-/// What a worker leaves.
+/// Result of a worker.
 #[derive(Drop)]
 pub struct WorkDone {
+    /// Pass of the worker's lane.
     pub pass: TakePass,
-    /// One for each flow of its own, by rising file and then media. `None` is want of memory, its own
-    /// or an intake's.
+    /// Receipts for the flows of the worker, by file and then by media; `None` if memory ran out in the worker or in an
+    /// intake.
     pub receipts: Option<Vec<Receipt>>,
 }
 
-/// Takes messages until an end of each file came, judges the flows that `route` deals to this worker,
-/// and posts their rows. It meets the gate as number `16 + worker` before it takes, and as number
-/// `32 + worker` directly after its first message.
+/// Takes messages until an end of each file came, judges the flows that `route` deals to this worker, and posts their
+/// results. It meets the gate as number `16 + worker` before it takes a message, and as number `32 + worker` directly
+/// after its first message.
 ///
-/// Where the files are joined, what came of a file waits until the files before have ended; the
-/// record numbers are raised by those of the files before.
+/// If the files are joined, the packets of a file wait until the files before have ended, and their packet records are
+/// raised by the number of those of the files before.
 ///
-/// A message of a file that isn't there, of a flow that isn't its own, or behind its file's first end
-/// is passed over. Where a take found nothing and the halt is raised, it stops without receipts. The
-/// call may wait, and promises if it returns.
+/// A message of a file that doesn't exist, of a flow that isn't the worker's own, or after its file's first end is
+/// ignored. If a take found nothing and the halt is raised, the worker stops without receipts. The call may wait; its
+/// contract holds if it returns.
 pub fn work<R: Wait, G: Gate>(
     rt: &R,
     alloc: Global,
@@ -64,8 +65,8 @@ pub fn work<R: Wait, G: Gate>(
     }
 }
 
-/// Takes messages until an end of each file came, and posts the rows. `Err` is want of memory, the
-/// worker's own or an intake's.
+/// Takes messages until an end of each file came, and posts the results. Returns `Err` if memory runs out, in the
+/// worker or in an intake.
 fn judged<R: Wait, G: Gate>(
     rt: &R,
     alloc: Global,
@@ -93,7 +94,8 @@ fn judged<R: Wait, G: Gate>(
     judging.post(rt, book)
 }
 
-/// Takes the messages that are left, until an end of each file came.
+/// Takes the messages that are left, until an end of each file came. Returns `Err` if memory runs out, in the worker or
+/// in an intake.
 fn take_all<R: Wait>(
     rt: &R,
     lane: &Lane,
@@ -121,8 +123,7 @@ fn take_all<R: Wait>(
     Ok(())
 }
 
-/// Takes the next message, and waits for it. `Err` says that the lane held nothing and the halt was
-/// raised.
+/// Takes the next message, and waits for it. Returns `Err` if the lane was empty and the halt was raised.
 fn next_message<R: Wait>(
     rt: &R,
     lane: &Lane,

@@ -1,5 +1,5 @@
--- Exact fractions of whole numbers. A fraction is `num / den`, and its denominator is above 0
--- wherever one is used; a fraction that isn't below 0 is also written as the pair of the two.
+-- Exact fractions, with a whole numerator and a denominator above 0 wherever one is used. A fraction that isn't
+-- negative is also written as the pair of its numerator and denominator.
 use Rattle.std.specs.Prelude.{ℕ, ℤ, pos, negsuc, ◌*◌, ◌/◌, ◌+ℤ◌, ◌-ℤ◌, ◌*ℤ◌, ◌≤ℤ◌, ◌<ℤ◌, Bool, not, int_le}
 
 -- num / den
@@ -7,7 +7,7 @@ pub record Fraction : Type 0 where
   pub num : ℤ
   pub den : ℕ
 
--- a / d, rounded towards minus infinity; `negsuc n` is less than 0 by n + 1
+-- a / d, rounded towards minus infinity; `negsuc n` is -(n + 1)
 abbrev pub floor_of_signed : ℤ → ℕ → ℤ
 floor_of_signed (pos n) d = pos (n / d)
 floor_of_signed (negsuc n) d = negsuc (n / d)

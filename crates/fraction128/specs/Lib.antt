@@ -1,4 +1,4 @@
--- what is promised
+-- definitions that the crate's clauses cite
 pub mod Clocks
 pub mod Fractions
 pub mod Instants

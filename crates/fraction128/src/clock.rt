@@ -1,8 +1,9 @@
-//! The clock: counting the instants of a rising line, with no division in the usual case.
+//! A clock that counts the instants of a line, without a division in the usual case.
 
 ghost use Rattle.std.specs.Prelude.{◌≡◌, ◌≤◌, ◌<◌, ◌+◌, ◌*◌, ◌^◌, ℕ};
 
-/// A rising line: from one instant to the next it is `num / den`, such as nanoseconds.
+/// A line of instants, each `num / den` after the one before, for example in nanoseconds. The step
+/// is at least 1.
 #[derive(Clone, Copy, Debug, PartialEq, Eq)]
 pub struct Line {
     /// The numerator.
@@ -11,7 +12,7 @@ pub struct Line {
     pub den: u64,
     /// `num / den`, rounded down.
     pub whole: u64,
-    /// What is left of it, in parts of `1 / den`.
+    /// The remainder of `num / den`, in parts of `1 / den`.
     pub part: u64,
     ghost some: { 1 ≤ den },
     ghost slow: { den ≤ num },
@@ -24,7 +25,7 @@ pub struct Line {
 }
 
 impl Line {
-    /// The line of `num / den`.
+    /// Returns the line with the step `num / den`.
     pub fn of(num: u64, den: u64) -> Line
         requires some { 1 ≤ den }
         requires slow { den ≤ num }
@@ -45,9 +46,9 @@ impl Line {
 /// The next instant of a line. Contracts name the line and its origin.
 #[derive(Clone, Copy, Debug, PartialEq, Eq)]
 pub struct Clock {
-    /// The next instant, rounded up.
+    /// The next instant, rounded up to a whole number.
     pub due: u64,
-    /// By how much it was rounded, in parts of `1 / den`.
+    /// The amount by which it was rounded up, in parts of `1 / den`.
     pub slack: u64,
     ghost due_small: { due < 2 ^ 63 },
     ghost slack_small: { slack < 2 ^ 48 },
@@ -56,7 +57,7 @@ pub struct Clock {
 impl Clock {
     ghost use Rattle.fraction128.specs.Clocks.{HasPassed, StandsAfter, StandsAt, passed_by};
 
-    /// The clock at the origin of its line.
+    /// Returns the clock before the first instant of a line that begins at `origin`.
     pub fn start(line: &Line, origin: u64) -> Clock
         requires { origin < 2 ^ 62 }
         ensures { StandsAt line.now result origin origin }
@@ -68,14 +69,14 @@ impl Clock {
         }
     }
 
-    /// Goes on to `t`, and answers how many instants come after the stamp before and up to `t`, where
-    /// one at `t` itself counts. Nothing is said of another line than that of the start, nor of
-    /// stamps that fall.
+    /// Advances the clock to `t`, and returns the number of instants after the previous `t` and up
+    /// to this one, inclusive. Not guaranteed if `line` isn't the line of the start, or if `t` is
+    /// below the previous one.
     #[inline(always)]
     pub fn advance(&mut self, line: &Line, t: u64) -> u64
         requires { t < 2 ^ 62 }
 
-        // Where the clock stood at some stamp before, the answer is exact, and it now stands at `t`.
+        // If the clock was at a time up to `t`, the count is exact, and the clock is now at `t`.
         ensures passed { (origin before : ℕ) → before ≤ t → StandsAt line.now self.old origin before
             → HasPassed line.now self.new origin before t result }
         ensures small { result < 2 ^ 63 }
@@ -91,14 +92,14 @@ impl Clock {
         if t < self.due {
             return 2;
         }
-        // A copy of its own, so that the usual clock stays out of memory.
+        // A copy, so that the clock itself can stay in registers.
         let mut far = *self;
         let more = far.leap(line, t);
         *self = far;
         2 + more
     }
 
-    /// The next instant passes; `t` is at it or after.
+    /// Passes the next instant, which is at `t` or before.
     fn pass(&mut self, line: &Line, t: u64)
         requires due { self.old.due ≤ t }
         requires in_time { t < 2 ^ 62 }
@@ -110,7 +111,7 @@ impl Clock {
         self.slack = slack;
     }
 
-    /// All instants up to `t` pass, the next one among them: how many.
+    /// Passes all instants up to `t`, at least one, and returns their number.
     #[cold]
     #[inline(never)]
     fn leap(&mut self, line: &Line, t: u64) -> u64
@@ -132,8 +133,8 @@ impl Clock {
     }
 }
 
-/// Takes `part` from `slack`, with one `den` more where it isn't there: how many, and what is left. No
-/// branch is taken on it.
+/// Subtracts `part` from `slack`, and adds `den` first if `slack` is smaller. Returns the number of
+/// times that `den` was added, 0 or 1, and the difference. Written so that it needs no branch.
 fn lessen(slack: u64, part: u64, den: u64) -> (u64, u64)
     requires part { part < den }
     requires slack { slack < 2 ^ 48 }
@@ -148,7 +149,7 @@ fn lessen(slack: u64, part: u64, den: u64) -> (u64, u64)
     (u64::from(carry), slack + more - part)
 }
 
-/// `parts / den`, rounded up, and by how many parts.
+/// Returns `parts / den`, rounded up, and the amount that was added for it, in parts of `1 / den`.
 fn round_up(parts: u64, den: u64) -> (u64, u64)
     requires some { 1 ≤ den }
     requires some_parts { 1 ≤ parts }
@@ -162,7 +163,7 @@ fn round_up(parts: u64, den: u64) -> (u64, u64)
     (whole, whole * den - parts)
 }
 
-/// `x / num` and `x % num`; where `x` fits 64 bits no 128-bit division is made.
+/// Returns `x / num` and `x % num`. If `x` fits 64 bits, there is no 128-bit division.
 fn divide(x: u128, num: u64) -> (u64, u64)
     requires some { 1 ≤ num }
     requires fits { x < 2 ^ 64 * num }

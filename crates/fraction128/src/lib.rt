@@ -1,5 +1,5 @@
-//! Exact fractions within 128 bits: their floors, without a rounding on the way, and the instants of a
-//! rising line, counted with no division in the usual case.
+//! Exact fractions within 128 bits, which are rounded once, at the end, and clocks that count the
+//! instants of a line without a division in the usual case.
 #![tactic(auto)]
 
 mod clock;

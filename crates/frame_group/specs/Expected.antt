@@ -1,26 +1,26 @@
--- The packet that is expected after those of a flow: one that goes on in the frame or field of the last, as most do.
+-- The packet that is expected after those of a flow: the one that continues the frame or field of the last packet.
 use Rattle.std.specs.Prelude.{ℕ, ◌-◌, false, Bool, ◌==◌, ◌||◌, if◌then◌else◌}
 use Rattle.std.specs.Prelude.{List, length, Option, Some, None, Ok, is_some}
 use Rattle.timing_base.specs.Flows.{first_fault, has_marker, next_number, rtp}
 use Rattle.timing_base.specs.declared.packet.FlowPacket.{FlowPacket}
 use Rattle.timing_base.specs.declared.packet.Rtp.{Rtp}
 
--- this packet with another number
+-- the packet with another packet number
 abbrev pub with_number : ℕ → Rtp → Rtp
 with_number number p =
     record { number = number; timestamp = p.timestamp; marker = p.marker; pt = p.pt; ssrc = p.ssrc }
 
--- the packet that goes on after this one: only its number is another
+-- the packet that follows this one: only its packet number differs
 abbrev pub next_of : Rtp → Rtp
 next_of p = with_number (next_number p.number) p
 
--- what is expected after what was expected
+-- the expected packet after the expected one came
 abbrev pub after : Option Rtp → Option Rtp
 after None = None
 after (Some p) = Some (next_of p)
 
--- packet i of a flow with this payload type, where it goes on with the timestamp of the packet before, of the flow's
--- source, with no packet missing before it and without the marker
+-- packet i of a flow with this payload type, if it continues the frame or field: with the RTP timestamp of the packet
+-- before, the flow's source, the next packet number, and no marker
 abbrev pub going_on : List FlowPacket → ℕ → ℕ → Rtp
 going_on packets pt i = next_of record {
   number = (rtp packets (i - 1)).number;
@@ -30,7 +30,7 @@ going_on packets pt i = next_of record {
   ssrc = (rtp packets 0).ssrc;
 }
 
--- whether nothing is expected: there is no packet yet, the last one has the marker, or one of them has a fault
+-- whether no packet is expected: there is no packet yet, the last one has the marker, or one of them has a fault
 abbrev pub is_nothing_expected : List FlowPacket → ℕ → Bool
 is_nothing_expected packets pt =
     (length packets == 0) || has_marker packets (length packets - 1) || is_some (first_fault packets pt)
@@ -40,6 +40,6 @@ abbrev pub expected_after : List FlowPacket → ℕ → Option Rtp
 expected_after packets pt =
     if is_nothing_expected packets pt then None else Some (going_on packets pt (length packets))
 
--- the packet that goes on after these, of this record and captured at this instant
+-- the packet that follows these, with this packet record and captured at this instant
 abbrev pub next_packet : List FlowPacket → (pt rec at : ℕ) → FlowPacket
 next_packet packets pt rec at = record { rec = rec; at = at; rtp = Ok (going_on packets pt (length packets)) }

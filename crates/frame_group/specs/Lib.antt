@@ -1,8 +1,8 @@
--- what is promised
+-- definitions that the clauses of the public functions use
 pub mod Cuts
 pub mod Expected
 pub mod Sizes
 pub mod Stands
--- what a grouper keeps, of which `Stands` is made
+-- the private state of a grouper, by which `Stands` is defined
 pub mod Marks
 pub mod Reads

@@ -1,4 +1,4 @@
-//! The packet before, and the faults that it shows.
+//! The packet before, and the faults that a packet has by comparison with it.
 
 ghost use Rattle.std.specs.Prelude.{◌≡◌, ◌≤◌, ◌<◌, ◌+◌, ◌^◌, ℕ, List, false, length};
 ghost use Rattle.timing_base.specs.declared.packet.FlowPacket.{FlowPacket};
@@ -8,24 +8,29 @@ ghost use Rattle.frame_group.specs.Cuts.{cut_at};
 
 use timing_base::{PacketFault, Rtp};
 
-/// The most cuts that a flow may have.
+/// Maximum number of gaps in a flow.
 const MOST_CUTS: u64 = 1024;
 
-/// What a packet is compared with: the packet before it, and the source of the flow's first.
+/// Data that the next packet is compared with: the packet before it, and the source of the flow's first packet.
 #[derive(Clone, Copy, Debug, PartialEq, Eq)]
 pub struct Before {
+    /// Capture timestamp of the packet before, in nanoseconds.
     pub at: u64,
+    /// Packet number of the packet before.
     pub number: u32,
-    // Source and timestamp stand side by side in this order, so that they are read as one number.
+    /// SSRC of the flow's first packet.
+    // It stands right before `timestamp`, so that both are read from memory as one number.
     pub source: u32,
+    /// RTP timestamp of the packet before, in ticks of 90 kHz.
     pub timestamp: u32,
+    /// RTP marker of the packet before.
     pub marker: bool,
 }
 
 impl Before {
     ghost use Rattle.frame_group.specs.Reads.{IsRead, IsAfter, ComesAfter, GoesAfter, after_number, expected_by};
 
-    /// Goes on to the next packet, which goes on after the one before.
+    /// Replaces the packet before by the next one, which continues its frame or field.
     #[inline(always)]
     pub fn go_on(before: &mut Option<Before>, at: u64, rtp: Rtp)
         requires { GoesAfter before.old rtp }
@@ -39,7 +44,7 @@ impl Before {
         }
     }
 
-    /// The number that would have gone on, where a cut stands at the next packet.
+    /// Returns the packet number that was expected if there is a gap before the next packet, else `None`.
     #[inline(always)]
     pub fn cut(&self, rtp: Rtp) -> Option<u32>
         ensures { (packets : List FlowPacket) (i at : ℕ) → IsAfter packets i self.now
@@ -53,7 +58,7 @@ impl Before {
         }
     }
 
-    /// Whether the next packet has another source than the flow's first.
+    /// Returns whether the SSRC of the next packet isn't that of the flow's first.
     #[inline(always)]
     fn is_second_source(&self, rtp: Rtp) -> bool
         ensures { (packets : List FlowPacket) (i at : ℕ) → IsAfter packets i self.now
@@ -62,7 +67,7 @@ impl Before {
         rtp.ssrc != self.source
     }
 
-    /// The fault of the next packet by its RTP timestamp, where no cut stands at it.
+    /// Returns the fault of the next packet by its RTP timestamp. There must be no gap before the packet.
     #[inline(always)]
     fn timestamp_fault(&self, rtp: Rtp) -> Option<PacketFault>
         ensures { (packets : List FlowPacket) (i at : ℕ) → IsAfter packets i self.now
@@ -81,8 +86,9 @@ impl Before {
         })
     }
 
-    /// The fault of the next packet by the packet before: a gap too many, a stamp that goes back, or a
-    /// frame or field that ends without the marker or goes on after it.
+    /// Returns the fault of the next packet by comparison with the packet before: one gap too many, a capture timestamp
+    /// that goes back, or a frame or field that ends without the marker or goes on after it. `cut` is the result of
+    /// [`Before::cut`], and `so_far` the number of gaps before.
     #[inline(always)]
     fn order_fault(&self, at: u64, rtp: Rtp, cut: Option<u32>, so_far: u64) -> Option<PacketFault>
         ensures { (packets : List FlowPacket) (i : ℕ) → IsAfter packets i self.now
@@ -103,7 +109,8 @@ impl Before {
         }
     }
 
-    /// The fault of the next packet by the packets before it.
+    /// Returns the fault of the next packet by the packets before it: a second source, or a fault by comparison with
+    /// the packet before. `cut` is the result of [`Before::cut`], and `so_far` the number of gaps before.
     #[inline(always)]
     pub fn fault(&self, at: u64, rtp: Rtp, cut: Option<u32>, so_far: u64) -> Option<PacketFault>
         ensures { (packets : List FlowPacket) (i : ℕ) → IsAfter packets i self.now

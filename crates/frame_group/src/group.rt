@@ -1,4 +1,4 @@
-//! The group that the next packet of a run stands in, if a marker stands before it.
+//! The frame or field to which the next packet of a run belongs, if a marker came before it.
 
 ghost use Rattle.std.specs.Prelude.{◌≡◌, ◌≤◌, ◌<◌, ◌+◌, ◌^◌, ◌++◌, ◌∷◌, [], ℕ, List, None, true, false};
 ghost use Rattle.std.specs.Option.{ForSome};
@@ -7,17 +7,17 @@ ghost use Rattle.timing_base.specs.Flows.{has_marker, markers_before, size_fault
 
 use timing_base::PacketFault;
 
-/// The most packets that a group may have.
+/// Maximum number of packets in a frame or field.
 const MOST_IN_GROUP: u32 = 262_144;
 
-/// A group before one of its packets.
+/// State of a frame or field before one of its packets.
 #[derive(Clone, Copy, Debug, PartialEq, Eq)]
 pub struct Group {
-    /// The groups before it in its run.
+    /// Frames or fields before it in its run, without the head.
     pub frame: u64,
-    /// The packets that it has so far.
+    /// Packets that it has so far.
     pub place: u32,
-    /// The most packets that it may have: those of the first group, which itself has only a limit.
+    /// Maximum number of its packets: that of the first frame or field of the run; for the first itself, 262,144.
     pub most: u32,
     ghost within: { place ≤ most },
     ghost few: { most ≤ 262144 },
@@ -26,7 +26,7 @@ pub struct Group {
 impl Group {
     ghost use Rattle.frame_group.specs.Marks.{IsGroup, IsIn};
 
-    /// The first group of a run, after the marker that begins it.
+    /// Returns the first frame or field of a run, after the marker that ends the head.
     fn first() -> Group
         ensures is { (i : ℕ) → IsGroup (i ∷ []) (i + 1) result }
         ensures frame { result.frame ≡ 0 }
@@ -38,8 +38,8 @@ impl Group {
         }
     }
 
-    /// The fault of the next packet: its group has another size than the first one, or is the first
-    /// and gets too large.
+    /// Returns the fault of the next packet by the size of its frame or field: it isn't that of the first one, or the
+    /// first one gets too large. `last` is the marker of the packet.
     #[inline(always)]
     fn fault(&self, last: bool) -> Option<PacketFault>
         ensures is { (packets : List FlowPacket) (i : ℕ)
@@ -64,7 +64,7 @@ impl Group {
         None
     }
 
-    /// After the next packet, which may be the last of the group.
+    /// Returns the state after the next packet. `last` is the marker of the packet.
     fn after(self, last: bool) -> Group
         requires fits { self.place < self.most }
         requires few { self.frame < 2 ^ 62 }
@@ -89,7 +89,7 @@ impl Group {
         }
     }
 
-    /// Goes on with the next packet, which isn't the last of the group.
+    /// Counts the next packet, which isn't the last of its frame or field.
     #[inline(always)]
     pub fn go_on_in(group: &mut Option<Group>)
         requires fits { ForSome group.old (λ g. g.place < g.most) }
@@ -102,7 +102,7 @@ impl Group {
         }
     }
 
-    /// The fault of the next packet by its group, if it stands in one.
+    /// Returns the fault of the next packet by the size of its frame or field; `None` before the first marker of a run.
     #[inline(always)]
     pub fn fault_in(group: Option<Group>, last: bool) -> Option<PacketFault>
         ensures is { (packets : List FlowPacket) (i : ℕ)
@@ -116,7 +116,7 @@ impl Group {
         }
     }
 
-    /// The group of the packet after the next one.
+    /// Returns the state after the next packet. It is `None` before the first marker of a run.
     pub fn after_in(group: Option<Group>, last: bool) -> Option<Group>
         requires fits { ForSome group (λ g. g.place < g.most) }
         requires few { ForSome group (λ g. g.frame < 2 ^ 62) }

@@ -1,4 +1,4 @@
-//! The grouper.
+//! The check of a flow's packets, one by one.
 
 ghost use Rattle.std.specs.Prelude.{◌≡◌, ◌≤◌, ◌<◌, ◌+◌, ◌^◌, ◌++◌, ◌∷◌, [], ℕ, List, Ok, None, Some, true, false, length, IfOk, IfSome};
 ghost use Rattle.std.specs.Option.{ForSome};
@@ -12,7 +12,7 @@ use crate::before::Before;
 use crate::group::Group;
 use timing_base::{PacketFault, Rtp};
 
-/// What is kept of the packets of one flow between two of them.
+/// State of the check between two packets of a flow.
 #[derive(Clone, Copy, Debug, PartialEq, Eq)]
 pub struct Grouper {
     pt: u8,
@@ -20,7 +20,7 @@ pub struct Grouper {
     before: Option<Before>,
     cuts: u64,
     group: Option<Group>,
-    /// The first fault of the flow: the other fields are then of no use, and no packet stands before.
+    /// First fault of the flow. If there is one, the other fields are unused, and `before` is `None`.
     fault: Option<PacketFault>,
     ghost sound: { ForSome before (λ _. fault ≡ None) },
     ghost few_cuts: { cuts ≤ fed },
@@ -32,7 +32,7 @@ impl Grouper {
     ghost use Rattle.frame_group.specs.Reads.{GoesAfter, IsAfter, IsRead, after_number};
     ghost use Rattle.frame_group.specs.Stands.{count_fed, expected_of, Keeps, StandsFor};
 
-    /// Before the first packet of a flow whose media has the payload type `pt`.
+    /// Returns the state before the first packet of a flow. `pt` is the payload type of its media.
     pub fn new(pt: u8) -> Grouper
         ensures fed { count_fed result ≡ 0 }
         ensures stands { StandsFor pt result [] }
@@ -47,7 +47,7 @@ impl Grouper {
         }
     }
 
-    /// The number that would have gone on, where a cut stands at the next packet.
+    /// Returns the packet number that was expected if there is a gap before the next packet, else `None`.
     #[inline(always)]
     fn cut(&self, rtp: Rtp) -> Option<u32>
         ensures { (packets : List FlowPacket) (i at : ℕ) → Keeps packets i self.now
@@ -59,7 +59,7 @@ impl Grouper {
         }
     }
 
-    /// The fault of the next packet by the packets before it, if there are any.
+    /// Returns the fault of the next packet by the packets before it, if there are any.
     #[inline(always)]
     fn earlier_fault(&self, at: u64, rtp: Rtp, cut: Option<u32>) -> Option<PacketFault>
         ensures { (packets : List FlowPacket) (i : ℕ) → Keeps packets i self.now
@@ -73,7 +73,7 @@ impl Grouper {
         }
     }
 
-    /// The fault of the next packet, which has this cut and stands in this group.
+    /// Returns the fault of the next packet. `cut` is the result of `cut`, and `group` that of `group_at`.
     #[inline(always)]
     fn fault_at(
         &self,
@@ -97,7 +97,7 @@ impl Grouper {
         Group::fault_in(group, rtp.marker)
     }
 
-    /// The group that the next packet stands in: at a cut a run begins.
+    /// Returns the frame or field to which the next packet belongs; `None` at a gap, where a run begins.
     fn group_at(&self, cut: Option<u32>) -> Option<Group>
         ensures is { (packets : List FlowPacket) (i : ℕ) → Keeps packets i self.now
             → cut ≡ cut_at packets i → IsIn (markers_before packets i) i result }
@@ -109,7 +109,7 @@ impl Grouper {
         }
     }
 
-    /// What the packet after the next one is compared with.
+    /// Returns the data that the packet after the next one is compared with.
     fn before_later(&self, at: u64, rtp: Rtp) -> Before
         ensures { (packets : List FlowPacket) (i : ℕ) → Keeps packets i self.now
             → IsRead packets i at rtp → IsAfter packets (i + 1) result }
@@ -127,7 +127,7 @@ impl Grouper {
         }
     }
 
-    /// The cuts of the flow, with that of the next packet.
+    /// Returns the number of gaps of the flow, with that of the next packet.
     fn cuts_with(&self, cut: Option<u32>) -> u64
         requires { self.now.fed < 2 ^ 41 }
         ensures are { (packets : List FlowPacket) (i : ℕ) → Keeps packets i self.now
@@ -140,7 +140,7 @@ impl Grouper {
         }
     }
 
-    /// Goes past the next packet, which has this cut, stands in this group and has no fault.
+    /// Takes the next packet, which has no fault. `cut` is the result of `cut`, and `group` that of `group_at`.
     fn pass(&mut self, at: u64, rtp: Rtp, cut: Option<u32>, group: Option<Group>)
         requires few { self.old.fed < 2 ^ 41 }
         requires fits { ForSome group (λ g. g.place < g.most) }
@@ -161,8 +161,8 @@ impl Grouper {
         self.group = Group::after_in(group, rtp.marker);
     }
 
-    /// Whether the next packet goes on in a group after the packet before, with its timestamp and no marker, and
-    /// has no fault, as most do.
+    /// Returns whether the next packet continues a frame or field, with the RTP timestamp of the packet before and no
+    /// marker, and has no fault, as most do.
     #[inline(always)]
     fn goes_on(&self, at: u64, rtp: Rtp) -> bool
         ensures cut { result ≡ true → (packets : List FlowPacket) (i stamp : ℕ)
@@ -189,7 +189,7 @@ impl Grouper {
         self.fault_at(at, rtp, None, self.group).is_none()
     }
 
-    /// Goes past the next packet, which goes on so and has no fault.
+    /// Takes the next packet, for which `goes_on` returned `true`.
     #[inline(always)]
     fn go_on(&mut self, at: u64, rtp: Rtp)
         requires few { self.old.fed < 2 ^ 41 }
@@ -207,8 +207,9 @@ impl Grouper {
         self.fed += 1;
     }
 
-    /// The next packet, if it goes on as most do: with the number after the last one's, its timestamp and no
-    /// marker. `None` before the first packet, after one with the marker, and after a fault.
+    /// Returns the next packet if it continues its frame or field, as most do: with the next packet number, the same
+    /// RTP timestamp and no marker. Returns `None` before the first packet, after one with the marker, and after a
+    /// fault.
     #[inline(always)]
     pub fn expected(&self) -> Option<Rtp>
         ensures follows { (pt : ℕ) (packets : List FlowPacket) → StandsFor pt self.now packets
@@ -230,9 +231,9 @@ impl Grouper {
         })
     }
 
-    /// Takes the next packet as [`Grouper::feed`] does, and answers that it did, if it goes on in a group after
-    /// the packet before it, with the same timestamp and no marker, and has no fault, as most packets do. Else
-    /// nothing changes: for callers that then go on with `feed`.
+    /// Takes the next packet as [`Grouper::feed`] does if it continues a frame or field, with the RTP timestamp of the
+    /// packet before and no marker, and has no fault, as most do. Returns whether it was taken; if not, nothing
+    /// changes, and the caller passes the packet to `feed`. `at` is in nanoseconds.
     #[inline(always)]
     pub fn feed_on(&mut self, at: u64, rtp: Rtp) -> bool
         requires few { count_fed self.old < 2 ^ 41 }
@@ -242,13 +243,12 @@ impl Grouper {
         ensures unmarked { result ≡ true → rtp.marker ≡ false }
         ensures next { result ≡ true → expected_of self.new ≡ after_number rtp.number (expected_of self.old) }
 
-        // No gap stands before the packet in any flow that begins with the packets before it and goes on
-        // so, and it has no fault.
+        // The packet has no gap before it and no fault, in every flow that begins with the packets fed and this one.
         ensures answer { result ≡ true → (pt : ℕ) (packets rest : List FlowPacket) (rec : ℕ)
             → StandsFor pt self.old packets → Ok None ≡ answer_at
             (packets ++ record { rec = rec; at = at; rtp = Ok rtp } ∷ rest) pt (length packets) }
 
-        // Whatever packets the grouper stood for, it now stands for those and this one.
+        // The grouper was then fed the packets before and this one.
         ensures stands { result ≡ true → (pt : ℕ) (packets : List FlowPacket) (rec : ℕ)
             → StandsFor pt self.old packets
             → StandsFor pt self.new (packets ++ record { rec = rec; at = at; rtp = Ok rtp } ∷ []) }
@@ -260,9 +260,9 @@ impl Grouper {
         true
     }
 
-    /// Takes the packet that [`Grouper::expected`] answers, captured at `at` in nanoseconds, as [`Grouper::feed`] does,
-    /// and answers that it did, if that packet stands in a group and has no fault. Else nothing changes: where none is
-    /// expected, too.
+    /// Takes the packet that [`Grouper::expected`] returns, captured at `at` in nanoseconds, as [`Grouper::feed`] does,
+    /// if it continues a frame or field and has no fault. Returns whether it was taken; if not, nothing changes.
+    /// Returns `false` if no packet is expected.
     #[inline(always)]
     pub fn feed_expected(&mut self, at: u64) -> bool
         requires few { count_fed self.old < 2 ^ 41 }
@@ -273,13 +273,12 @@ impl Grouper {
             → expected_after packets pt ≡ Some (going_on packets pt (length packets)) }
         ensures next { result ≡ true → expected_of self.new ≡ after (expected_of self.old) }
 
-        // No gap stands before the packet in any flow that begins with the packets before it and goes on
-        // so, and it has no fault.
+        // The packet has no gap before it and no fault, in every flow that begins with the packets fed and this one.
         ensures answer { result ≡ true → (pt : ℕ) (packets rest : List FlowPacket) (rec : ℕ)
             → StandsFor pt self.old packets → Ok None ≡ answer_at
             (packets ++ next_packet packets pt rec at ∷ rest) pt (length packets) }
 
-        // Whatever packets the grouper stood for, it now stands for those and the one expected.
+        // The grouper was then fed the packets before and the expected one.
         ensures stands { result ≡ true → (pt : ℕ) (packets : List FlowPacket) (rec : ℕ)
             → StandsFor pt self.old packets
             → StandsFor pt self.new (packets ++ next_packet packets pt rec at ∷ []) }
@@ -290,25 +289,23 @@ impl Grouper {
         self.feed_on(at, expected)
     }
 
-    /// Takes the next packet of the flow, captured at `at` in nanoseconds. Where a gap in the packet
-    /// numbers stands before it, the number that would have gone on is answered. `Err` is the packet's
-    /// fault: the first that holds, in the order of [`PacketFault`]. After a fault each later packet is
-    /// answered with that same fault.
+    /// Takes the next packet of the flow, captured at `at` in nanoseconds. If there is a gap before it, returns the
+    /// packet number that was expected. Returns `Err` with the packet's fault if it has one: the first in the order of
+    /// [`PacketFault`]. After a fault, every later call returns the same fault.
     ///
-    /// A packet that could not be read (`Short` or `Version`) is not fed, nor is any after it.
+    /// A packet that couldn't be parsed (`Short` or `Version`) must not be fed, nor any packet after it.
     pub fn feed(&mut self, at: u64, rtp: Rtp) -> Result<Option<u32>, PacketFault>
         requires few { count_fed self.old < 2 ^ 41 }
 
         ensures fed { count_fed self.new ≡ count_fed self.old + 1 }
 
-        // The packet's cut, or its fault, in every flow that begins with the packets before it and goes
-        // on so.
+        // The gap before the packet, or its fault, in every flow that begins with the packets fed and this one.
         ensures answer { (pt : ℕ) (packets rest : List FlowPacket) (rec : ℕ)
             → StandsFor pt self.old packets
             → result ≡ answer_at
             (packets ++ record { rec = rec; at = at; rtp = Ok rtp } ∷ rest) pt (length packets) }
 
-        // Whatever packets the grouper stood for, it now stands for those and this one.
+        // The grouper was then fed the packets before and this one.
         ensures stands { (pt : ℕ) (packets : List FlowPacket) (rec : ℕ)
             → StandsFor pt self.old packets
             → StandsFor pt self.new (packets ++ record { rec = rec; at = at; rtp = Ok rtp } ∷ []) }

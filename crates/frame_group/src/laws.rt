@@ -1,5 +1,5 @@
-//! What holds of the definitions themselves, and the definitions on flows worked by hand. Each
-//! function is a theorem: it does nothing, and its clauses are proved.
+//! Theorems about the definitions, and the definitions on flows worked by hand. Each function does nothing; its clauses
+//! are the theorem.
 
 ghost use Rattle.std.specs.Prelude.{◌≡◌, ◌++◌, ◌∷◌, [], None, Some, Ok, Err, true, false};
 ghost use Rattle.timing_base.specs.Examples.{sent, sent_by, two_groups, equal_low_halves};
@@ -10,13 +10,13 @@ ghost use Rattle.frame_group.specs.Sizes.{GroupsAreSized};
 
 use timing_base::PacketFault;
 
-/// While no packet of a flow has a fault, a group has at most 262,144 packets, and all groups of a run
-/// have the size of its first.
+/// While no packet of a flow has a fault, a frame or field has at most 262,144 packets, and all frames or fields of a
+/// run have the size of its first.
 pub fn groups_are_sized()
     ensures { GroupsAreSized }
 {}
 
-/// Worked by hand: a head of one packet, two groups of two, and a tail of one, with no gap and no fault.
+/// Worked by hand: a head of one packet, two frames of two, and a tail of one, with no gap and no fault.
 pub fn groups_by_hand()
     ensures head { answer_at two_groups 96 0 ≡ Ok None }
     ensures first { answer_at two_groups 96 1 ≡ Ok None }
@@ -25,11 +25,11 @@ pub fn groups_by_hand()
     ensures next_last { answer_at two_groups 96 4 ≡ Ok None }
     ensures tail { answer_at two_groups 96 5 ≡ Ok None }
 
-    // A head is as long as no marker has come, and its last packet has the marker.
+    // A head goes on until a marker comes, and its last packet has the marker.
     ensures long_head { answer_at (sent 1 5 6 0 false ∷ sent 2 6 7 0 true ∷ []) 96 1 ≡ Ok None }
 {}
 
-/// Worked by hand: a gap, and the number that would have gone on.
+/// Worked by hand: a gap, and the packet number that was expected.
 pub fn cuts_by_hand()
     ensures before { answer_at equal_low_halves 96 1 ≡ Ok None }
     ensures at { answer_at equal_low_halves 96 2 ≡ Ok (Some 8) }
@@ -37,13 +37,12 @@ pub fn cuts_by_hand()
     ensures wraps_not { answer_at (sent 1 0 4294967295 0 true ∷ sent 2 0 1 1 true ∷ []) 96 1
         ≡ Ok (Some 0) }
 
-    // Groups count anew after a gap, from its own first marker on.
+    // After a gap frames count anew, from the first marker after it.
     ensures anew { answer_at (two_groups ++ (sent 7 70 13 104 true ∷ sent 8 80 14 105 false
         ∷ sent 9 90 15 105 true ∷ [])) 96 8 ≡ Ok None }
 {}
 
-/// Worked by hand: the first fault is told at its packet, and at each later one, though that has
-/// none or another.
+/// Worked by hand: the first fault is returned at its packet and at each later one, even if that has none or another.
 pub fn faults_by_hand()
     ensures before { answer_at (sent 1 100 6 0 true ∷ sent 2 99 7 1 true ∷ []) 96 0
         ≡ Ok None }
@@ -57,20 +56,20 @@ pub fn faults_by_hand()
         ∷ sent_by 8 3 100 8 2 true ∷ []) 96 2 ≡ Err (PacketFault.StampBack 100 99) }
     ensures payload { answer_at two_groups 97 5 ≡ Err PacketFault.PayloadType }
 
-    // The second group is too short, and the third would have the size of the second.
+    // The second frame is too short, and the third would have the size of the second.
     ensures short { answer_at (sent 1 0 6 0 true ∷ sent 2 0 7 1 false ∷ sent 3 0 8 1 true
         ∷ sent 4 0 9 2 true ∷ sent 5 0 10 3 true ∷ []) 96 4 ≡ Err (PacketFault.FrameSize 2 1) }
 {}
 
-/// Worked by hand: after number 11, the tail of two groups, number 12 with its timestamp is expected; none is
-/// before the first packet, after a marker and after a fault.
+/// Worked by hand: after packet number 11, the tail of two frames, number 12 with the same RTP timestamp is expected.
+/// No packet is expected before the first, after a marker and after a fault.
 pub fn expected_by_hand()
     ensures tail { expected_after two_groups 96
         ≡ Some (record { number = 12; timestamp = 103; marker = false; pt = 96; ssrc = 7 }) }
     ensures wraps { expected_after (sent 1 0 4294967295 5 false ∷ []) 96
         ≡ Some (record { number = 0; timestamp = 5; marker = false; pt = 96; ssrc = 7 }) }
 
-    // After a gap the next number counts from the packet behind it.
+    // After a gap, the expected number follows that of the packet after the gap.
     ensures gap { expected_after (sent 1 0 6 5 false ∷ sent 2 0 9 5 false ∷ []) 96
         ≡ Some (record { number = 10; timestamp = 5; marker = false; pt = 96; ssrc = 7 }) }
 

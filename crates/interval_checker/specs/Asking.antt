@@ -1,6 +1,5 @@
--- What is asked of the runs of a flow, and what is kept for it. Runs count from 0, packets from 0 behind the first
--- marker
--- of their run; stamps are in nanoseconds, as the capture has them.
+-- The data that is asked for of the runs of a flow, and what is kept of it. Runs count from 0, packets from 0 after the
+-- first marker of their run. Capture timestamps are in nanoseconds, as the capture has them.
 use Rattle.std.specs.Prelude.{◌≡◌, ◌<◌, ◌-◌, ℕ, nat_eq, ◌&&◌, Bool, if◌then◌else◌, List, [], ◌∷◌, length, zero, suc, ⊤}
 use Rattle.std.specs.Prelude.{slice_index, ◌+◌, ◌*◌, ◌^◌, Option, Some, None, IsSome, option_map}
 use Rattle.std.specs.HashMap as hash
@@ -11,30 +10,30 @@ use Rattle.interval_checker.specs.declared.ending.Ending.TheVariants as ending
 use Rattle.timing_base.specs.Judged.{RunOutcome, no_whole_frame, whole_frames}
 use Rattle.sender_params.specs.Ticks.{NeverFall}
 
--- whole frames of so many packets each, and of so many in all
+-- complete frames or fields of `size` packets each, and of `count` packets in all
 abbrev pub IsWhole : Ending → (size count : ℕ) → Type 0
 IsWhole (ending.NoWholeFrame head) size count = ⊥
 IsWhole (ending.WholeFrames f) size count = (f.size ≡ size) × (f.count ≡ count)
 
--- the stamp that is kept of a packet, where it is asked for
+-- the capture timestamp kept for a packet, if it is asked for
 abbrev pub stamp_of : Asked → (run place : ℕ) → Option ℕ
 stamp_of a run place = option_map (λ s. s.at) (hash.get (λ x y. nat_eq x.0 y.0 && nat_eq x.1 y.1) a.stamps (run, place))
 
--- how a run ends, where it is asked for
+-- the end kept for a run, if it is asked for
 abbrev pub ending_of : Asked → (run : ℕ) → Option Ending
 ending_of a run = hash.get nat_eq a.endings run
 
--- what is kept where this is asked and comes now, or was kept before
+-- what is kept afterwards, if it is asked for: `now` if it comes here, else what was kept before
 abbrev pub if_asked : {A : Type 0} → Bool → A → Option A → Option A
 if_asked here now None = None
 if_asked here now (Some before) = if here then Some now else Some before
 
--- all is asked that the second is asked
+-- `new` asks for everything that `old` asks for
 pub record AsksNoLess (old new : Asked) : Type 0 where
   pub stamps : (r p : ℕ) → IsSome (stamp_of old r p) → IsSome (stamp_of new r p)
   pub endings : (r : ℕ) → IsSome (ending_of old r) → IsSome (ending_of new r)
 
--- what a fail that is claimed of a run needs is asked
+-- everything that a claimed violation by a run needs is asked for
 pub record IsAsked (a : Asked) (run : ℕ) (f : FailProof) : Type 0 where
   pub ending : IsSome (ending_of a run)
   pub first : IsSome (stamp_of a run 0)
@@ -43,32 +42,31 @@ pub record IsAsked (a : Asked) (run : ℕ) (f : FailProof) : Type 0 where
   pub last_counted : IsSome (stamp_of a run (f.count - 1))
   pub behind : IsSome (stamp_of a run f.count)
 
--- of the first `count` packets of the run, those that are asked for have these stamps
+-- of the first `count` packets of the run, those that are asked for have these capture timestamps
 abbrev pub AreKept : Asked → (run : ℕ) → (stamps : ℕ → ℕ) → (count : ℕ) → Type 0
 AreKept a run stamps count = (place : ℕ) → place < count → IsSome (stamp_of a run place)
     → stamp_of a run place ≡ Some (stamps place)
 
--- of judged packets with these stamps, in nanoseconds of TAI, which never fall, so many seconds were added to: those
--- that
--- are asked for are kept
+-- of judged packets with these capture timestamps, in nanoseconds of TAI, which never go back and include `tai`
+-- seconds, those that are asked for are kept
 pub record IsRunKept (a : Asked) (run tai : ℕ) (stamps : List ℕ) : Type 0 where
   pub raw : ℕ → ℕ
   pub added : (k : ℕ) → k < length stamps → slice_index stamps k ≡ raw k + tai * 10 ^ 9
   pub rising : NeverFall stamps
   pub kept : AreKept a run raw (length stamps)
 
--- how a run ends, by its outcome
+-- the end of a run, by its outcome
 abbrev pub EndsAs : Asked → (run tai : ℕ) → RunOutcome → Ending → Type 0
 EndsAs a run tai (no_whole_frame head) e = e ≡ ending.NoWholeFrame head
 EndsAs a run tai (whole_frames j) e = IsWhole e j.n (length j.stamps) × IsRunKept a run tai j.stamps
 
--- the runs from one on that are over, by their outcomes, are kept where they are asked for
+-- the ends of the runs from `run` on that have ended, by their outcomes, are kept if they are asked for
 abbrev pub AreEnded : Asked → (tai run : ℕ) → List RunOutcome → Type 0
 AreEnded a tai run [] = ⊤
 AreEnded a tai run (o ∷ os) = ((e : Ending) → ending_of a run ≡ Some e → EndsAs a run tai o e)
     × AreEnded a tai (suc run) os
 
--- the outcome that stands `behind` others ends so
+-- the end of the run with the outcome that comes after `behind` others
 abbrev pub EndsAt : Asked → (run tai : ℕ) → List RunOutcome → (behind : ℕ) → Ending → Type 0
 EndsAt a run tai [] behind e = ⊥
 EndsAt a run tai (o ∷ os) zero e = EndsAs a run tai o e

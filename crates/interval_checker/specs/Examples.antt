@@ -1,9 +1,9 @@
--- Small flows on which an answer is worked by hand.
+-- Small flows with answers worked by hand.
 use Rattle.std.specs.Prelude.{true, false, List, [], ◌∷◌}
 use Rattle.timing_base.specs.Examples.{sent}
 use Rattle.timing_base.specs.declared.packet.FlowPacket.{FlowPacket}
 
--- a head of one packet, and a group of five at once
+-- a head of one packet, and a frame of five at once
 abbrev pub five_at_once : List FlowPacket
 five_at_once =
     sent 11 0 6 0 true ∷ sent 12 7 7 1 false ∷ sent 13 7 8 1 false ∷ sent 14 7 9 1 false ∷ sent 15 7 10 1 false
@@ -13,6 +13,6 @@ five_at_once =
 abbrev pub two_runs : List FlowPacket
 two_runs = sent 11 0 6 0 true ∷ sent 12 5 8 1 false ∷ sent 13 6 9 1 false ∷ []
 
--- a stamp goes back
+-- a capture timestamp that goes back
 abbrev pub stamp_back : List FlowPacket
 stamp_back = sent 11 9 6 0 true ∷ sent 12 8 7 1 false ∷ []

@@ -1,11 +1,11 @@
--- what is promised
+-- definitions that the clauses of the public functions use
 pub mod Checked
 pub mod Asking
 pub mod Readings
 pub mod Sources
--- these serve the laws
+-- flows for values worked by hand
 pub mod Examples
--- these only serve proofs
+-- definitions for proofs only
 pub mod Faulty
 pub mod Markers
 pub mod Packets

@@ -1,10 +1,10 @@
--- What a `Sample` says of the stamps of packets, by their places from 0.
+-- The capture timestamps of packets that a `Sample` has. Packets count from 0.
 use Rattle.std.specs.Prelude.{◌≡◌, ◌≤◌, ◌<◌, ◌+◌, ◌-◌, ◌*◌, ◌^◌, ℕ, List, length, slice_index}
 use Rattle.sender_params.specs.Ticks.{NeverFall}
 use Rattle.timing_base.specs.declared.fail.FailProof.{FailProof}
 use Rattle.interval_checker.specs.declared.sample.Sample.{Sample}
 
--- of the first `count` packets those that the claim speaks of have these stamps
+-- of the first `count` packets, those that the claim needs have these capture timestamps
 pub record IsSample (f : FailProof) (stamps : ℕ → ℕ) (count : ℕ) (s : Sample) : Type 0 where
   pub first : 0 < count → s.first ≡ stamps 0
   pub from : f.from < count → s.from ≡ stamps f.from
@@ -12,7 +12,8 @@ pub record IsSample (f : FailProof) (stamps : ℕ → ℕ) (count : ℕ) (s : Sa
   pub last_counted : 0 < f.count → f.count ≤ count → s.last_counted ≡ stamps (f.count - 1)
   pub behind : f.count < count → s.behind ≡ stamps f.count
 
--- of judged packets with these stamps, in nanoseconds of TAI, which never fall, so many seconds were added to
+-- the sample has the capture timestamps of judged packets, in nanoseconds of TAI, which never go back and include `tai`
+-- seconds
 pub record AreSampled (f : FailProof) (tai : ℕ) (stamps : List ℕ) (s : Sample) : Type 0 where
   pub raw : ℕ → ℕ
   pub added : (k : ℕ) → k < length stamps → slice_index stamps k ≡ raw k + tai * 10 ^ 9

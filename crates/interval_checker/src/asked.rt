@@ -1,4 +1,4 @@
-//! What claims ask of a flow, and what is kept for them.
+//! The data of a flow that claims ask for, and what is kept of it.
 
 ghost use Rattle.std.specs.Prelude.{◌≡◌, ◌<◌, ◌-◌, ◌==◌, ◌&&◌, ℕ, None, Some, IfOk, OnOk, IsSome};
 ghost use Rattle.timing_base.specs.Captures.{IsStamp};
@@ -8,27 +8,28 @@ use std::alloc::{AllocError as OutOfMemory, Global};
 use std::collections::HashMap;
 use timing_base::FailProof;
 
-/// The stamp of a packet, in nanoseconds, as the capture has it.
+/// Capture timestamp of a packet.
 #[derive(Clone, Copy, Debug, PartialEq, Eq)]
 pub struct Stamp {
+    /// Nanoseconds, as the capture has them.
     pub at: u64,
     ghost stamp: { IsStamp at },
 }
 
-/// What claims ask of the runs of a flow: how each ends, and the stamps of a few of its packets. Runs
-/// count from 0, and packets from 0 behind the first marker of their run.
+/// Data that claims ask for: the end of each run, and the capture timestamps of a few of its packets. Runs count from
+/// 0, and packets from 0 after the first marker of their run.
 #[derive(Drop)]
 pub struct Asked {
-    /// The stamp of each packet that is asked for, by its run and its place; 0 before it comes.
+    /// Capture timestamp of each packet asked for, by its run and its position in the run; 0 before it comes.
     stamps: HashMap<(u64, u64), Stamp>,
-    /// How each run that is asked for ends; without a frame before it does.
+    /// End of each run asked for; `NoWholeFrame` until the run has ended.
     endings: HashMap<u64, Ending>,
 }
 
 impl Asked {
     ghost use Rattle.interval_checker.specs.Asking.{AsksNoLess, IsAsked, ending_of, if_asked, stamp_of};
 
-    /// Nothing is asked.
+    /// Returns a value that asks for nothing.
     pub fn new(alloc: Global) -> Asked {
         Asked {
             stamps: HashMap::new(alloc),
@@ -36,7 +37,7 @@ impl Asked {
         }
     }
 
-    /// Asks for the stamp of a packet. It has none yet.
+    /// Asks for the capture timestamp of a packet, which is then 0. Returns `Err` if memory runs out.
     fn ask_stamp(&mut self, run: u64, place: u64) -> Result<(), OutOfMemory>
         ensures there { OnOk result (IsSome (stamp_of self.new run place)) }
         ensures no_less { AsksNoLess self.old self.new }
@@ -46,7 +47,7 @@ impl Asked {
         Ok(())
     }
 
-    /// Asks for the end of a run.
+    /// Asks for the end of a run. Returns `Err` if memory runs out.
     fn ask_ending(&mut self, run: u64) -> Result<(), OutOfMemory>
         ensures there { OnOk result (IsSome (ending_of self.new run)) }
         ensures no_less { AsksNoLess self.old self.new }
@@ -55,7 +56,7 @@ impl Asked {
         Ok(())
     }
 
-    /// Asks for what a fail that is claimed of a run needs. `Err` is want of memory.
+    /// Asks for the data that a claimed violation by a run needs. Returns `Err` if memory runs out.
     pub fn ask(&mut self, run: u64, proof: &FailProof) -> Result<(), OutOfMemory>
         ensures asked { OnOk result (IsAsked self.new run proof.now) }
         ensures no_less { AsksNoLess self.old self.new }
@@ -69,7 +70,7 @@ impl Asked {
         self.ask_stamp(run, proof.count)
     }
 
-    /// The packet at this place of a run has come, at this instant.
+    /// Notes the capture timestamp of a packet of a run, if it was asked for.
     #[inline]
     pub fn came(&mut self, run: u64, place: u64, at: u64)
         requires stamp { IsStamp at }
@@ -83,7 +84,7 @@ impl Asked {
         }
     }
 
-    /// A run is over.
+    /// Notes the end of a run, if it was asked for.
     pub fn over(&mut self, run: u64, ending: Ending)
         ensures endings { (r : ℕ) → ending_of self.new r ≡ if_asked (run == r) ending (ending_of self.old r) }
         ensures stamps { (r p : ℕ) → stamp_of self.new r p ≡ stamp_of self.old r p }
@@ -93,14 +94,14 @@ impl Asked {
         }
     }
 
-    /// How a run that is asked for ends, where it is over.
+    /// Returns the end of a run, if it was asked for; `NoWholeFrame` until the run has ended.
     pub fn ending(&self, run: u64) -> Option<Ending>
         ensures { result ≡ ending_of self.now run }
     {
         self.endings.get(&run).copied()
     }
 
-    /// The stamp of a packet that is asked for, where it came; else some stamp.
+    /// Returns the capture timestamp of a packet that was asked for and came; for others it isn't specified.
     pub fn stamp(&self, run: u64, place: u64) -> u64
         ensures stamp { IsStamp result }
         ensures here { (at : ℕ) → stamp_of self.now run place ≡ Some at → result ≡ at }

@@ -1,4 +1,4 @@
-//! The packet before, and the faults that it shows.
+//! The packet before, and the faults that a packet has by comparison with it.
 
 ghost use Rattle.std.specs.Prelude.{◌≡◌, ◌≤◌, ◌<◌, ◌^◌, ℕ, List, None, true, false, length};
 ghost use Rattle.timing_base.specs.declared.packet.FlowPacket.{FlowPacket};
@@ -7,24 +7,24 @@ ghost use Rattle.timing_base.specs.Flows.{cuts, fault_if, first_of, is_cut, is_s
 
 use timing_base::{PacketFault, Rtp};
 
-/// The most cuts that a flow may have.
+/// Maximum number of gaps in a flow.
 const MOST_CUTS: u64 = 1024;
 
-/// What a packet is compared with: the packet before it, and the source of the flow's first.
+/// Data that the next packet is compared with: the packet before it, and the source of the flow's first packet.
 #[derive(Clone, Copy, Debug, PartialEq, Eq)]
 pub struct Before {
-    /// The stamp of the packet before, in nanoseconds, as the capture has it.
+    /// Capture timestamp of the packet before, in nanoseconds, as the capture has it.
     pub at: u64,
-    /// What was read of the packet before.
+    /// RTP header of the packet before.
     pub rtp: Rtp,
-    /// The synchronisation source of the first packet.
+    /// SSRC of the flow's first packet.
     pub source: u32,
 }
 
 impl Before {
     ghost use Rattle.interval_checker.specs.Packets.{IsAfter, IsRead};
 
-    /// Whether a cut stands at the next packet.
+    /// Returns whether there is a gap before the next packet.
     pub fn is_cut(&self, rtp: Rtp) -> bool
         ensures { (packets : List FlowPacket) (i at : ℕ) → IsAfter packets i self.now
             → IsRead packets i at rtp → result ≡ is_cut packets i }
@@ -32,7 +32,7 @@ impl Before {
         rtp.number != self.rtp.number.wrapping_add(1)
     }
 
-    /// Whether the next packet has another source than the flow's first.
+    /// Returns whether the SSRC of the next packet isn't that of the flow's first.
     pub fn is_second_source(&self, rtp: Rtp) -> bool
         ensures { (packets : List FlowPacket) (i at : ℕ) → IsAfter packets i self.now
             → IsRead packets i at rtp → result ≡ is_second_source packets i }
@@ -40,7 +40,7 @@ impl Before {
         rtp.ssrc != self.source
     }
 
-    /// The fault of the next packet by its RTP timestamp, where no cut stands at it.
+    /// Returns the fault of the next packet by its RTP timestamp. There must be no gap before the packet.
     fn timestamp_fault(&self, rtp: Rtp) -> Option<PacketFault>
         ensures { (packets : List FlowPacket) (i at : ℕ) → IsAfter packets i self.now
             → IsRead packets i at rtp → is_cut packets i ≡ false
@@ -58,8 +58,9 @@ impl Before {
         })
     }
 
-    /// The fault of the next packet by the one before it, where `so_far` cuts stand before: a cut too many, a
-    /// stamp that goes back, or a group that ends without the marker or goes on after it.
+    /// Returns the fault of the next packet by comparison with the packet before: one gap too many, a capture timestamp
+    /// that goes back, or a frame or field that ends without the marker or goes on after it. `cut` is whether there is
+    /// a gap before the packet, and `so_far` the number of gaps before.
     pub fn fault(&self, at: u64, rtp: Rtp, cut: bool, so_far: u64) -> Option<PacketFault>
         ensures is { (packets : List FlowPacket) (i : ℕ) → IsAfter packets i self.now
             → IsRead packets i at rtp → cut ≡ is_cut packets i → so_far ≡ length (cuts packets i)

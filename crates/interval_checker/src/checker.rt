@@ -1,4 +1,4 @@
-//! The readings of flows over sources.
+//! The reading of sources.
 
 ghost use Rattle.std.specs.Prelude.{◌≡◌, ◌≤◌, ◌<◌, ◌+◌, ◌^◌, ◌∷◌, [], ℕ, List, Err, IfOk, IfErr, length};
 ghost use Rattle.timing_base.specs.Captures.{Record, joined};
@@ -16,13 +16,13 @@ use pcap_reader::{MOST, PcapReader, take_records};
 use std::alloc::Global;
 use timing_outside::Source;
 
-/// Reads sources, whose captures are one capture, once for all readings. A capture that is cut or faulty
-/// has its records before that place.
+/// Reads the sources once for all readings; their captures are taken as one. Of a truncated or malformed capture the
+/// packet records before that place are taken.
 ///
-/// `ReadFault` comes only where a read of that source failed, and `OutOfMemory` is want of memory for
-/// the readers or for the list of the sources.
+/// Returns `ReadFault` only if a read of that source failed, and `OutOfMemory` if memory for the readers or for the
+/// list of the sources runs out.
 ///
-/// All sources come back in their order, whatever the answer; each may have been read in part.
+/// All sources come back in their order, whatever the result; each may have been read in part.
 pub fn read_sources<S: Source>(
     alloc: Global,
     readings: Vec<Reading>,
@@ -31,14 +31,14 @@ pub fn read_sources<S: Source>(
     requires few { length sources.items ≤ 16 }
     requires room { HaveRoom (2 ^ 40) readings.items }
 
-    // Where the sources tell their texts, their records were read.
+    // If the contents of the sources are known, their packet records were read.
     ensures told { (texts : List (List ℕ)) (files : List (List Record)) (notes : List _)
         → TellTexts S.left sources.items texts → AreRecords texts files notes
         → HaveRead readings.items []
         → IfOk result.1 (λ read. HaveRead read.items (joined files)) }
     ensures same { IfOk result.1 (λ read. AreSame readings.items read.items) }
 
-    // For every source, also one that tells nothing.
+    // For every source, also one with unknown contents.
     ensures cause { IfReadFault result.1 (RoseAt S.faults sources.items result.0.items) }
     ensures back { AreBack S.name S.faults sources.items result.0.items }
 {
@@ -61,8 +61,8 @@ pub fn read_sources<S: Source>(
     }
 }
 
-/// Reads one source more, behind so many records, where no read failed yet; hands the source back, and
-/// answers how many records there are with its own.
+/// Reads one more source, unless an earlier one failed. `outcome` has the number of packet records before it. Returns
+/// the source, and the number of packet records with its own.
 fn read_source<S: Source>(
     alloc: Global,
     source: S,
@@ -96,7 +96,7 @@ fn read_source<S: Source>(
                     if taken.read_failed() {
                         Err(CheckFault::ReadFault { source: number })
                     } else {
-                        // A capture that is cut or faulty has its records before that place.
+                        // Of a truncated or malformed capture, the packet records before that place count.
                         Ok(before + taken.records)
                     }
                 }

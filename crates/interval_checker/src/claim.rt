@@ -1,24 +1,27 @@
-//! The fail that is claimed.
+//! The claim of a violation.
 
 ghost use Rattle.std.specs.Prelude.{◌≡◌, ◌≤◌, ◌<◌, ◌*◌, ◌^◌};
 
 use timing_base::{FailProof, Kind, Media};
 
-/// A fail that is claimed of a sender type and a run of a flow.
+/// Claim of a violation by a run of a flow, for a sender type.
 #[derive(Drop)]
 pub struct Claim {
+    /// Media of the flow.
     pub media: Media,
+    /// Sender type.
     pub kind: Kind,
-    /// The run, counted from 0.
+    /// Run, counted from 0.
     pub run: u32,
+    /// Claimed violation.
     pub proof: FailProof,
-    /// The seconds that are added to the stamps.
+    /// Seconds added to the capture timestamps.
     pub tai: u64,
     ghost seconds: { tai ≤ 1000 },
 }
 
 impl Claim {
-    /// The nanoseconds that are added to the stamps.
+    /// Returns the nanoseconds added to the capture timestamps.
     pub fn added(&self) -> u64
         ensures value { result ≡ self.now.tai * 10 ^ 9 }
         ensures small { result < 2 ^ 40 }

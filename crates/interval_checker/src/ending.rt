@@ -1,23 +1,24 @@
-//! How a run ends.
+//! The end of a run.
 
 ghost use Rattle.std.specs.Prelude.{◌≤◌};
 
-/// The whole frames of a run.
+/// Complete frames or fields of a run.
 #[derive(Clone, Copy, Debug, PartialEq, Eq)]
 pub struct Frames {
-    /// The packets of each.
+    /// Packets per frame or field.
     pub size: u32,
-    /// The packets of all.
+    /// Packets of all of them.
     pub count: u64,
     ghost some: { 1 ≤ size },
     ghost most: { size ≤ 262144 },
 }
 
-/// What a run has, where it is over.
+/// Contents of a run that has ended.
 #[derive(Clone, Copy, Debug, PartialEq, Eq)]
 pub enum Ending {
-    /// No whole frame, and so many packets up to its first marker.
+    /// No complete frame or field; `head` is the number of packets up to and including the first marker, or of all
+    /// packets if there is no marker.
     NoWholeFrame { head: u64 },
-    /// Whole frames.
+    /// Complete frames or fields.
     WholeFrames(Frames),
 }

@@ -1,4 +1,4 @@
-//! Whether judged packets confirm a claimed fail.
+//! The check of a claimed violation by judged packets.
 
 ghost use Rattle.std.specs.Prelude.{◌≡◌, ◌≤◌, ◌<◌, ◌-◌, ◌↔◌, ◌^◌, ℕ, List, IsTrue, length, slice_index};
 ghost use Rattle.timing_base.specs.declared.fail.Broken.TheVariants.{Bucket, Over, Empty};
@@ -15,7 +15,7 @@ use crate::sample::Sample;
 use sender_params::Params;
 use timing_base::{Broken, Kind};
 
-/// Whether `count` judged packets of groups of `size` confirm the claim.
+/// Returns whether `count` judged packets, in frames or fields of `size`, confirm the claim.
 pub fn is_confirmed(claim: &Claim, size: u32, count: u64, sample: &Sample) -> bool
     requires some { 1 ≤ size }
     requires most { size ≤ 262144 }
@@ -34,7 +34,7 @@ pub fn is_confirmed(claim: &Claim, size: u32, count: u64, sample: &Sample) -> bo
     }
 }
 
-/// Whether the interval has the claimed count of packets less ticks, and too many of them.
+/// Returns whether the interval has the claimed count of packets less drain ticks, and this is above the limit.
 fn breaks_bucket(claim: &Claim, params: &Params, sample: &Sample) -> bool
     requires order { claim.now.proof.from ≤ claim.now.proof.to }
     requires few { claim.now.proof.to < 2 ^ 64 - 1 }
@@ -52,7 +52,7 @@ fn breaks_bucket(claim: &Claim, params: &Params, sample: &Sample) -> bool
     u128::from(claim.proof.count) == load(claim, params, sample)
 }
 
-/// The packets of the interval, less the ticks after its first packet.
+/// Returns the number of packets of the interval, less the drain ticks after its first packet.
 fn load(claim: &Claim, params: &Params, sample: &Sample) -> u128
     requires order { claim.now.proof.from ≤ claim.now.proof.to }
     requires few { claim.now.proof.to < 2 ^ 64 - 1 }
@@ -68,7 +68,7 @@ fn load(claim: &Claim, params: &Params, sample: &Sample) -> u128
     packets.saturating_sub(now.saturating_sub(before))
 }
 
-/// The reads of the type's schedule.
+/// Returns the reads of the type's schedule.
 fn reads(claim: &Claim, params: &Params, sample: &Sample) -> Reads
     ensures { (stamps : List ℕ) → 0 < length stamps
         → AreSampled claim.now.proof claim.now.tai stamps sample.now
@@ -82,8 +82,8 @@ fn reads(claim: &Claim, params: &Params, sample: &Sample) -> Reads
     Reads::of(params, gapped, sample.first + claim.added())
 }
 
-/// Whether the buffer holds the claimed count when the last packet of the interval comes, and this is
-/// too many.
+/// Returns whether the buffer holds the claimed count just after the last packet of the interval, and this is above the
+/// limit.
 fn breaks_over(claim: &Claim, params: &Params, sample: &Sample) -> bool
     requires few { claim.now.proof.to < 2 ^ 64 - 1 }
     ensures { (stamps : List ℕ) → claim.now.proof.to < length stamps
@@ -103,8 +103,8 @@ fn breaks_over(claim: &Claim, params: &Params, sample: &Sample) -> bool
     is_held(claim, params, sample)
 }
 
-/// Whether the buffer holds the claimed count, which isn't 0, just after the last packet of the
-/// interval came: the read before those that aren't done is due, and the first of them isn't.
+/// Returns whether the buffer holds the claimed count, which isn't 0, just after the last packet of the interval. That
+/// is so if `to + 1 - count` reads are due then: the last of these reads is due, and the next one isn't.
 fn is_held(claim: &Claim, params: &Params, sample: &Sample) -> bool
     requires few { claim.now.proof.to < 2 ^ 64 - 1 }
     requires some { 1 ≤ claim.now.proof.count }
@@ -125,7 +125,7 @@ fn is_held(claim: &Claim, params: &Params, sample: &Sample) -> bool
     !reads.is_due(due, at)
 }
 
-/// Whether the claimed count of packets came by the read of the packet, and these are too few.
+/// Returns whether the claimed count of packets came by the read of the packet, and this is below the limit.
 fn breaks_empty(claim: &Claim, params: &Params, sample: &Sample) -> bool
     requires few { claim.now.proof.to < 2 ^ 64 - 1 }
     ensures { (stamps : List ℕ) → claim.now.proof.to < length stamps
@@ -145,8 +145,8 @@ fn breaks_empty(claim: &Claim, params: &Params, sample: &Sample) -> bool
     has_arrived(claim, params, sample)
 }
 
-/// Whether the claimed count of packets, at most as many as come before the packet, came by its read:
-/// the last of them did, and the packet behind them didn't.
+/// Returns whether the claimed count of packets, at most the number before the packet, came by its read: the last of
+/// them did, and the next packet didn't.
 fn has_arrived(claim: &Claim, params: &Params, sample: &Sample) -> bool
     requires few { claim.now.proof.count ≤ claim.now.proof.to }
     ensures { (stamps : List ℕ) → claim.now.proof.to < length stamps

@@ -1,5 +1,4 @@
-//! What holds of the definition of an answer itself. Each function is a theorem: it does nothing, and
-//! its clauses are proved.
+//! Theorems about the definition of an answer. Each function does nothing; its clauses are the theorem.
 
 ghost use Rattle.std.specs.Prelude.{◌≡◌, ℕ, Bool, true, false, [], Result, Ok, Err};
 ghost use Rattle.timing_base.specs.Judged.{FlowVerdict, judged};
@@ -15,7 +14,7 @@ ghost use Rattle.sender_params.specs.Worked.{fail, hd_50};
 ghost use Rattle.interval_checker.specs.Checked.{Says};
 ghost use Rattle.interval_checker.specs.Examples.{five_at_once, stamp_back, two_runs};
 
-/// Whatever is judged of a flow, one answer is right of a run and a fail, and no other is.
+/// For every verdict on a flow, run and violation, exactly one answer is right.
 pub fn one_answer()
     ensures one { (m : Media) (kind : Kind) (f : FailProof) (run : ℕ) (verdict : FlowVerdict)
         → (answer : Result Bool Unjudged) × Says m kind f run verdict answer }
@@ -24,8 +23,7 @@ pub fn one_answer()
         → a ≡ b }
 {}
 
-/// Five packets at once are one more than C_MAX of type N, and four of them aren't five. The flow has
-/// run 0 alone.
+/// Five packets at once are one more than C_MAX of type N, and four of them aren't five. The flow has only run 0.
 pub fn bucket_by_hand()
     ensures five { Says hd_50 N (fail Bucket 0 4 5 4) 0 (judged five_at_once 96 0) (Ok true) }
     ensures four { Says hd_50 N (fail Bucket 0 3 5 4) 0 (judged five_at_once 96 0) (Ok false) }
@@ -33,7 +31,7 @@ pub fn bucket_by_hand()
     ensures no_run { Says hd_50 N (fail Bucket 0 4 5 4) 1 (judged five_at_once 96 0) (Ok false) }
 {}
 
-/// What isn't judged has a cause, and a run that isn't there confirms nothing.
+/// If a flow isn't judged, the answer is the reason; a run that doesn't exist confirms nothing.
 pub fn unjudged_by_hand()
     ensures absent { Says hd_50 N (fail Bucket 0 4 5 4) 0 (judged [] 96 0) (Err Absent) }
     ensures refused { Says hd_50 N (fail Bucket 0 4 5 4) 0 (judged stamp_back 96 0)

@@ -1,11 +1,11 @@
-//! The second opinion on a fail: whether the packets of a capture, or of captures that are joined,
-//! confirm the interval that a report names.
+//! The second opinion on a violation: whether the packets of a capture, or of joined captures, confirm the interval
+//! that a report names.
 //!
-//! A [`Reading`] is of one flow, and made with what the claims on it ask ([`Asked`]). [`read_sources`]
-//! reads captures once for all readings, each of which then answers on its claims. It finds the groups of
-//! the flow by itself, and keeps the stamps of five packets for a claim. It shares the readers and the
-//! numbers of a sender with the judge, and nothing else: it has no bucket, no buffer, no search and no
-//! list of stamps.
+//! A [`Reading`] belongs to one flow, and is made with what the claims on the flow ask for ([`Asked`]).
+//! [`read_sources`] reads the captures once for all readings, and each reading then returns the answers on its claims.
+//! It finds the frames or fields of the flow by itself, and keeps five capture timestamps for each claim. It shares
+//! with the judge the readers and the limits and times of a sender, and nothing else: it has no bucket, no buffer, no
+//! search and no list of timestamps.
 #![tactic(auto)]
 
 mod asked;

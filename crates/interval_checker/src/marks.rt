@@ -1,4 +1,4 @@
-//! The markers of a run, and the faults that they show.
+//! The markers of a run, and the faults that a packet has by them.
 
 ghost use Rattle.std.specs.Prelude.{◌≡◌, ◌≤◌, ◌<◌, ◌+◌, ◌-◌, ◌++◌, ◌∷◌, [], ℕ, List, None};
 ghost use Rattle.std.specs.Option.{ForSome};
@@ -8,17 +8,17 @@ ghost use Rattle.timing_base.specs.Grouped.{IsSized};
 
 use timing_base::PacketFault;
 
-/// The most packets that a group may have.
+/// Maximum number of packets in a frame or field.
 const MOST_IN_GROUP: u64 = 262_144;
 
-/// The markers of a run that has one, by the places of packets in the flow, counted from 0.
+/// Markers of a run that has at least one, by the positions of their packets in the flow, counted from 0.
 #[derive(Clone, Copy, Debug, PartialEq, Eq)]
 pub struct Marks {
-    /// The first marker.
+    /// Packet with the first marker.
     pub first: u64,
-    /// The last marker so far.
+    /// Packet with the last marker so far.
     pub last: u64,
-    /// The packets of each group: those from the first marker to the second, where there are two.
+    /// Packets per frame or field: those after the first marker up to the second. `None` if there is only one marker.
     pub size: Option<u32>,
     ghost order: { first ≤ last },
     ghost some: { ForSome size (λ n. 1 ≤ n) },
@@ -28,7 +28,7 @@ pub struct Marks {
 impl Marks {
     ghost use Rattle.interval_checker.specs.Markers.{AreMarks};
 
-    /// The first marker of a run, at this packet.
+    /// Returns the markers of a run with its first marker at this packet.
     pub fn first(place: u64) -> Marks
         ensures is { AreMarks (place ∷ []) result }
         ensures first { result.first ≡ place }
@@ -41,7 +41,7 @@ impl Marks {
         }
     }
 
-    /// The fault of the packet at `place` by its group: it ends too early, or gets too large.
+    /// Returns the fault of packet `place` by the size of its frame or field: it ends too early, or gets too large.
     pub fn fault(&self, place: u64, marker: bool) -> Option<PacketFault>
         ensures is { (packets : List FlowPacket) → AreMarks (markers_before packets place) self.now
             → IsSized place (markers_before packets place) → has_marker packets place ≡ marker
@@ -61,7 +61,7 @@ impl Marks {
         }
     }
 
-    /// The markers with one more, at a later packet.
+    /// Returns the markers with one more, at a later packet.
     pub fn with(self, place: u64) -> Marks
         requires later { self.last < place }
         requires fits { self.size ≡ None → place ≤ self.last + 262144 }
@@ -85,7 +85,7 @@ ghost use Rattle.std.specs.Prelude.{◌==◌, ◌&&◌, ◌||◌, nat_lt};
 ghost use Rattle.timing_base.specs.Flows.{fault_if};
 ghost use Rattle.timing_base.specs.declared.packet.PacketFault.TheVariants.{FrameSize};
 
-/// The fault of the packet `got` of a group, counted from 1, where groups have `size` packets.
+/// Returns the fault of packet `got` of a frame or field, counted from 1, if frames or fields have `size` packets.
 fn other_size(size: u32, got: u64, marker: bool) -> Option<PacketFault>
     requires { size ≤ 262144 }
     ensures { result ≡ fault_if ((marker && nat_lt got size) || (got == size + 1)) (FrameSize size got) }

@@ -14,14 +14,14 @@ use crate::walk::Walk;
 use timing_base::{FailProof, FlowPacket, Kind, Media, Unjudged};
 use udp_rtp::{Datagram, read_rtp};
 
-/// The flow of a media, as far as it is read, and what is kept of it for the claims on it.
+/// Flow of a media, as far as it has been read, with what is kept of it for the claims.
 #[derive(Drop)]
 pub struct Reading {
     media: Media,
-    /// The seconds that are added to the stamps.
+    /// Seconds added to the capture timestamps.
     tai: u64,
     walk: Walk,
-    /// Why the flow isn't judged, where that is known.
+    /// Reason why the flow isn't judged, once that is known.
     refused: Option<Unjudged>,
     ghost seconds: { tai ≤ 1000 },
 }
@@ -29,7 +29,8 @@ pub struct Reading {
 impl Reading {
     ghost use Rattle.interval_checker.specs.Readings.{HasRead, ReadsOn, asked_by, count_taken, media_of, tai_of};
 
-    /// The flow of this media, of which nothing is read yet. `tai` seconds are added to the stamps.
+    /// Returns the reading of this media's flow, before the first packet record. `tai` seconds are added to the capture
+    /// timestamps.
     pub fn new(media: &Media, tai: u64, asked: Asked) -> Reading
         requires { tai ≤ 1000 }
         ensures media { media_of result ≡ media.now }
@@ -46,7 +47,7 @@ impl Reading {
         }
     }
 
-    /// Takes the packet of a record of the flow.
+    /// Takes the packet of a packet record of the flow.
     #[inline]
     fn feed(&mut self, packet: FlowPacket)
         requires stamp { IsStamp packet.at }
@@ -61,7 +62,7 @@ impl Reading {
         }
     }
 
-    /// Takes the datagram of a record, where it goes to this media.
+    /// Takes the datagram of a packet record if it goes to this media. `rec` counts from 1, and `at` is in nanoseconds.
     #[inline]
     pub fn take(&mut self, rec: u64, at: u64, datagram: &Datagram<'_>)
         requires stamp { IsStamp at }
@@ -79,15 +80,14 @@ impl Reading {
         }
     }
 
-    /// What the records say of a fail that is claimed of a sender type and a run of the flow, where the
-    /// reading was made with what the fail asks. Runs count from 0, and a flow without a cut has run 0
-    /// alone.
+    /// Returns the answer on a claimed violation by a run of the flow, for a sender type. The reading must have been
+    /// made with what the claim asks for. Runs count from 0; a flow without a gap has only run 0.
     ///
-    /// `Ok(true)` is the answer exactly where the run is judged and its packets confirm the fail: the
-    /// interval is one of judged packets, the limit is that of the type, the count is that of the
-    /// interval, and breaks the limit. `Ok(false)`: the flow is judged, and the run isn't there, or is
-    /// judged and doesn't confirm the fail. `Err`: the flow isn't judged, and why, or the run has no
-    /// whole frame.
+    /// - `Ok(true)`: the run is judged, and its packets confirm the violation. The interval is one of judged packets,
+    ///   the limit is that of the type, and the count is that of the interval and violates the limit.
+    /// - `Ok(false)`: the flow is judged, but there is no such run, or the run is judged and doesn't confirm the
+    ///   violation.
+    /// - `Err`: the reason why the flow isn't judged, or the run has no complete frame or field.
     pub fn answer(&self, kind: Kind, run: u32, proof: &FailProof) -> Result<bool, Unjudged>
         ensures { (items : List Record) → HasRead self.now items
             → IsAsked (asked_by self.now) run proof.now

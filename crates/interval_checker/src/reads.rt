@@ -8,22 +8,22 @@ ghost use Rattle.sender_params.specs.Reads.{anchor_of, read_of};
 
 use sender_params::{Params, sizes_of};
 
-/// The groups that a first read may be before 0 of TAI.
+/// Maximum number of frames or fields by which the first read may be before 0 of TAI.
 const GROUPS_BEFORE: u32 = 480;
 
-/// The reads of one schedule (SMPTE ST 2110-21, read schedules) in parts of a nanosecond, counted from
-/// 480 groups before 0 of TAI, so that none is below 0.
+/// Reads of one schedule (SMPTE ST 2110-21, read schedules), in parts of a nanosecond, from 480 frames or fields before
+/// 0 of TAI on, so that none is negative. Read x is read x % `n` of frame or field x / `n`.
 #[derive(Clone, Copy)]
 pub struct Reads {
-    /// The parts of a nanosecond.
+    /// Number of parts in a nanosecond.
     den: u128,
-    /// The reads of one group.
+    /// Reads per frame or field.
     n: u64,
-    /// From one read of a group to the next.
+    /// Time from one read of a frame or field to the next, in parts.
     step: u128,
-    /// From one group to the next.
+    /// Time from one frame or field to the next, in parts.
     group: u128,
-    /// Read 0.
+    /// Instant of read 0, in parts.
     start: u128,
     ghost den_some: { 1 ≤ den },
     ghost den_small: { den < 2 ^ 48 },
@@ -38,8 +38,8 @@ pub struct Reads {
 impl Reads {
     ghost use Rattle.interval_checker.specs.Schedule.{AreReads, parts_at, parts_of};
 
-    /// The reads of the schedule, gapped or linear, of a sender whose first packet comes at `a0`, in
-    /// nanoseconds of TAI.
+    /// Returns the reads of the gapped or the linear schedule of a sender with a first packet at `a0`, in nanoseconds
+    /// of TAI.
     pub fn of(params: &Params, gapped: bool, a0: u64) -> Reads
         requires { a0 < 2 ^ 62 }
         ensures { AreReads params.now.media params.now.n (anchor_of params.now.media a0) gapped result }
@@ -55,7 +55,7 @@ impl Reads {
         }
     }
 
-    /// Where read x is.
+    /// Returns the instant of read `x`, in parts.
     fn read(&self, x: u64) -> u128
         ensures { result ≡ parts_at self.now x }
     {
@@ -64,7 +64,7 @@ impl Reads {
         self.start + group + place
     }
 
-    /// Where the instant `at` is, in nanoseconds of TAI.
+    /// Returns the instant `at`, in nanoseconds of TAI, in parts.
     fn instant(&self, at: u64) -> u128
         requires { at < 2 ^ 62 }
         ensures { result ≡ parts_of self.now at }
@@ -72,7 +72,7 @@ impl Reads {
         u128::from(at) * self.den + u128::from(GROUPS_BEFORE) * self.group
     }
 
-    /// Whether read x is at the instant `at` or before it.
+    /// Returns whether read `x` is at the instant `at` or before it.
     pub fn is_due(&self, x: u64, at: u64) -> bool
         requires { at < 2 ^ 62 }
         ensures { (m : MediaValue) (n : ℕ) (anchor : ℤ) (gapped : Bool)
@@ -82,7 +82,7 @@ impl Reads {
         self.read(x) <= self.instant(at)
     }
 
-    /// Whether read x is before the instant `at`.
+    /// Returns whether read `x` is before the instant `at`.
     pub fn is_before(&self, x: u64, at: u64) -> bool
         requires { at < 2 ^ 62 }
         ensures { (m : MediaValue) (n : ℕ) (anchor : ℤ) (gapped : Bool)
@@ -93,7 +93,7 @@ impl Reads {
     }
 }
 
-/// The number of a group, counted from the earliest one that there may be.
+/// Returns the number of a frame or field, counted from the earliest that is possible.
 fn lifted(anchor: i128) -> u128
     requires low { negsuc 479 ≤ℤ anchor }
     requires high { anchor ≤ℤ pos (2 ^ 42) }

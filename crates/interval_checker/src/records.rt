@@ -1,20 +1,21 @@
-//! The records of captures, taken into readings.
+//! The packet records of captures, taken by readings.
 
 use crate::reading::Reading;
 use pcap_reader::Taker;
 use std::convert::Infallible;
 use udp_rtp::datagram;
 
-/// The readings of some flows of the same records.
+/// The readings of some flows of the same captures.
 #[derive(Drop)]
 pub struct Checking {
+    /// Readings, each of one flow.
     pub readings: Vec<Reading>,
 }
 
 impl Taker for Checking {
     ghost use Rattle.interval_checker.specs.Taking.{FeedsOn, HasRoom, NeverStops, feeds_more, feeds_none, room_less};
 
-    /// It takes all records.
+    /// It never stops before the end of the records.
     type Stop = Infallible;
 
     ghost takes = { FeedsOn };

@@ -1,23 +1,23 @@
-//! The stamps of the few packets that a claim speaks of.
+//! The capture timestamps that a claim needs.
 
 ghost use Rattle.std.specs.Prelude.{◌≤◌, ◌<◌, ◌-◌, ◌^◌, ℕ};
 
 use crate::asked::Asked;
 use timing_base::FailProof;
 
-/// The stamps of five packets among those after the first marker of a run, in nanoseconds, as the
-/// capture has them.
+/// Capture timestamps of five packets among those after the first marker of a run, in nanoseconds, as the capture has
+/// them.
 #[derive(Clone, Copy, Debug, PartialEq, Eq)]
 pub struct Sample {
-    /// Of packet 0.
+    /// Capture timestamp of packet 0.
     pub first: u64,
-    /// Of the first packet of the claimed interval.
+    /// Capture timestamp of the first packet of the claimed interval.
     pub from: u64,
-    /// Of its last packet.
+    /// Capture timestamp of the last packet of the claimed interval.
     pub to: u64,
-    /// Of the last packet of so many as the claimed count.
+    /// Capture timestamp of the last of as many packets as the claimed count.
     pub last_counted: u64,
-    /// Of the packet behind those.
+    /// Capture timestamp of the packet after those.
     pub behind: u64,
     ghost from_later: { first ≤ from },
     ghost to_later: { first ≤ to },
@@ -31,8 +31,8 @@ impl Sample {
     ghost use Rattle.interval_checker.specs.Asking.{AreKept, IsAsked};
     ghost use Rattle.interval_checker.specs.Samples.{IsSample};
 
-    /// The stamps that a fail needs which is claimed of a run, of those that are kept. Of a packet that
-    /// didn't come nothing is said.
+    /// Returns the capture timestamps that a claimed violation by a run needs, of those kept. The timestamp of a packet
+    /// that didn't come is unspecified.
     pub fn of(asked: &Asked, run: u64, proof: &FailProof) -> Sample
         ensures { (stamps : ℕ → ℕ) (count : ℕ) → AreKept asked.now run stamps count
             → IsAsked asked.now run proof.now

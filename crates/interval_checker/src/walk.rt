@@ -1,4 +1,4 @@
-//! The packets of a flow without a fault, as far as they have come.
+//! The packets of a flow so far, in which no packet has a fault.
 
 ghost use Rattle.std.specs.Prelude.{◌≡◌, ◌≤◌, ◌<◌, ◌+◌, ◌-◌, ◌^◌, ◌++◌, ◌∷◌, ◌==◌, ◌&&◌, [], ℕ, List, None, Some, Err, true, false, length, map, IsSome, OnOk, IfErr, MatchOption};
 ghost use Rattle.std.specs.Option.{ForSome};
@@ -18,19 +18,19 @@ use crate::marks::Marks;
 use crate::sample::Sample;
 use timing_base::{FlowPacket, PacketFault, Rtp, Unjudged};
 
-/// What is kept of the packets of a flow between two of them, for all claims.
+/// State of the check between two packets of a flow, for all claims.
 #[derive(Drop)]
 pub struct Walk {
-    /// The packets that came.
+    /// Number of packets that came.
     fed: u64,
     before: Option<Before>,
-    /// The cuts before the open run.
+    /// Gaps before the open run, which is its number, counted from 0.
     cuts: u64,
-    /// The first packet of the open run, counted from 0.
+    /// First packet of the open run, counted from 0.
     start: u64,
-    /// The markers of the open run, if it has one.
+    /// Markers of the open run, if it has one.
     marks: Option<Marks>,
-    /// What is asked of the runs, and kept of those so far.
+    /// Data that was asked for, and what is kept of it so far.
     asked: Asked,
     ghost few_cuts: { cuts ≤ 1024 },
     ghost marked: { ForSome marks (λ m. m.last < fed) },
@@ -44,7 +44,7 @@ impl Walk {
     ghost use Rattle.interval_checker.specs.declared.marks.Marks.{Marks as MarksValue};
     ghost use Rattle.interval_checker.specs.Walks.{Keeps, StandsFor, asked_of, count_fed};
 
-    /// Before the first packet.
+    /// Returns the state before the first packet.
     pub fn new(asked: Asked) -> Walk
         ensures fed { count_fed result ≡ 0 }
         ensures asked { asked_of result ≡ asked }
@@ -60,8 +60,8 @@ impl Walk {
         }
     }
 
-    /// Takes the next packet. `Err` is the answer on the flow, whatever packets follow; nothing is said
-    /// of the walk then.
+    /// Takes the next packet. Returns `Err` with the reason why the flow isn't judged, whatever packets follow, if the
+    /// packet has a fault. The state is then unspecified.
     pub fn feed(&mut self, pt: u8, packet: FlowPacket) -> Result<(), Unjudged>
         requires few { count_fed self.old < 2 ^ 41 }
         requires stamp { IsStamp packet.at }
@@ -82,7 +82,7 @@ impl Walk {
         }
     }
 
-    /// Takes the next packet, which was read, or answers its fault.
+    /// Takes the next packet, which was parsed, or returns its fault.
     fn step(&mut self, pt: u8, at: u64, rtp: Rtp) -> Option<PacketFault>
         requires few { count_fed self.old < 2 ^ 41 }
         requires stamp { IsStamp at }
@@ -109,7 +109,7 @@ impl Walk {
         None
     }
 
-    /// Whether a cut stands at the next packet.
+    /// Returns whether there is a gap before the next packet.
     fn is_cut(&self, rtp: Rtp) -> bool
         ensures is { (pt tai : ℕ) (packets : List PacketValue) (i at : ℕ)
             → Keeps pt tai packets i (cuts packets i) self.now
@@ -122,7 +122,8 @@ impl Walk {
         }
     }
 
-    /// The fault of the next packet by itself and by the packets before it, but for its group.
+    /// Returns the fault of the next packet by itself and by the packets before it, except for the size of its frame or
+    /// field.
     fn fault(&self, pt: u8, at: u64, rtp: Rtp, cut: bool) -> Option<PacketFault>
         ensures is { (tai : ℕ) (packets : List PacketValue) (i : ℕ)
             → Keeps pt tai packets i (cuts packets i) self.now
@@ -146,7 +147,7 @@ impl Walk {
         }
     }
 
-    /// The fault of the next packet by its group, if it stands in one.
+    /// Returns the fault of the next packet by the size of its frame or field; `None` before the first marker of a run.
     fn group_fault(&self, marker: bool) -> Option<PacketFault>
         ensures is { (pt tai : ℕ) (packets : List PacketValue) (i : ℕ)
             → Keeps pt tai packets i (cuts packets (i + 1)) self.now
@@ -160,7 +161,7 @@ impl Walk {
         }
     }
 
-    /// A cut stands at the next packet: a run is over, and another begins.
+    /// Ends the open run and begins another, since there is a gap before the next packet.
     #[cold]
     #[inline(never)]
     fn cut(&mut self)
@@ -179,7 +180,7 @@ impl Walk {
         self.marks = None;
     }
 
-    /// The run of the next packet is open: where a cut stands at it, the run before is over.
+    /// Opens the run of the next packet: if there is a gap before it, the run before ends.
     #[inline]
     fn enter(&mut self, cut: bool)
         requires few { cut ≡ true → self.old.cuts < 1024 }
@@ -195,7 +196,7 @@ impl Walk {
         }
     }
 
-    /// What the packet after the next one is compared with.
+    /// Returns the data that the packet after the next one is compared with.
     #[inline]
     fn next_before(&self, at: u64, rtp: Rtp) -> Before
         ensures at { result.at ≡ at }
@@ -210,7 +211,7 @@ impl Walk {
         Before { at, rtp, source }
     }
 
-    /// The markers with the next packet, which may have one.
+    /// Returns the markers with the next packet, which may have one.
     #[inline]
     fn next_marks(&self, marker: bool) -> Option<Marks>
         requires few { self.now.fed < 2 ^ 41 }
@@ -234,8 +235,7 @@ impl Walk {
         }
     }
 
-    /// The next packet has come, at this instant: its stamp is kept, where a marker stands before it and
-    /// it is asked for.
+    /// Notes the capture timestamp of the next packet, if it comes after the first marker of its run and is asked for.
     #[inline]
     fn keep(&mut self, at: u64)
         requires few { self.old.fed < 2 ^ 41 }
@@ -280,7 +280,7 @@ impl Walk {
         self.marks = marks;
     }
 
-    /// How the open run ends, where it ends here.
+    /// Returns the end of the open run if it ends here.
     fn ending_here(&self) -> Ending
         ensures { (pt tai : ℕ) (packets : List PacketValue) (i : ℕ) (places : List ℕ)
             → Keeps pt tai packets i places self.now
@@ -304,7 +304,7 @@ impl Walk {
         }
     }
 
-    /// How a run that is asked for ends, where the flow ends here and has this run.
+    /// Returns the end of a run that was asked for if the flow ends here, or `None` if the flow has no such run.
     fn ending(&self, run: u64) -> Option<Ending>
         ensures { (pt tai : ℕ) (f : ProofValue) (packets : List PacketValue) (i : ℕ) (places : List ℕ)
             → Keeps pt tai packets i places self.now → IsAsked (asked_of self.now) run f
@@ -322,7 +322,7 @@ impl Walk {
         None
     }
 
-    /// The answer on a claim of this run, which ends so.
+    /// Returns the answer on a claim on this run, which ends with `ending`.
     fn answer(&self, claim: &Claim, run: u64, ending: Ending) -> Result<bool, Unjudged>
         ensures { (o : OutcomeValue) → IsAsked (asked_of self.now) run claim.now.proof
             → EndsAs (asked_of self.now) run claim.now.tai o ending
@@ -337,7 +337,7 @@ impl Walk {
         }
     }
 
-    /// The answer on a claim of a run of the flow, where it ends here.
+    /// Returns the answer on a claim on a run of the flow, if the flow ends here.
     fn answer_here(&self, claim: &Claim) -> Result<bool, Unjudged>
         ensures { (pt : ℕ) (packets : List PacketValue) (i : ℕ) (places : List ℕ)
             → Keeps pt claim.now.tai packets i places self.now
@@ -353,7 +353,7 @@ impl Walk {
         }
     }
 
-    /// The answer on a claim that was asked for, where the flow ends here.
+    /// Returns the answer on a claim that was asked for, if the flow ends here.
     pub fn finish(&self, claim: &Claim) -> Result<bool, Unjudged>
         ensures { (packets : List PacketValue) → StandsFor claim.now.media.pt claim.now.tai self.now packets
             → IsAsked (asked_of self.now) claim.now.run claim.now.proof
@@ -369,7 +369,7 @@ impl Walk {
 
 ghost use Rattle.timing_base.specs.Judged.{refusal as refusal_of};
 
-/// One cut too many is told as a gap, each other fault as itself.
+/// Returns the reason for a fault: one gap too many is reported as a gap, each other fault as itself.
 fn refusal(rec: u64, fault: PacketFault) -> Unjudged
     ensures { IsRefused (refusal_of rec fault) result }
 {

@@ -1,8 +1,8 @@
 pub mod Window
 pub mod Stands
--- stamps that are worked by hand
+-- capture timestamps for windows worked by hand
 pub mod Worked
--- these only serve proofs
+-- definitions for proofs only
 pub mod Parts
 pub mod Moves
 pub mod Quiets

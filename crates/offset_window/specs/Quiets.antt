@@ -1,4 +1,4 @@
--- What a `Quiet` says of the packets to come. Offsets are microseconds, and instants parts of a nanosecond.
+-- The next packets that a `Quiet` describes. Offsets are in microseconds, instants in parts of a nanosecond.
 use Rattle.std.specs.Prelude.{◌≤◌, ◌<◌, ◌+◌, ◌-◌, ◌*◌, ◌/◌, ◌%◌, ◌^◌, ℕ}
 use Rattle.read_schedule.specs.declared.grid.Grid.{Grid}
 use Rattle.offset_window.specs.Parts.{parts_with}
@@ -6,32 +6,34 @@ use Rattle.offset_window.specs.declared.quiet.Quiet.{Quiet}
 use Rattle.offset_window.specs.declared.window.WindowEnd.{WindowEnd}
 use Rattle.offset_window.specs.declared.window.WindowEnd.TheVariants.{Absent, At}
 
--- an end stays where the packet isn't broken with this offset: an end that is absent always stays
+-- offset with which a packet must not come after its own read, if the lower end is to stay; an absent end always stays
 abbrev pub late_of : WindowEnd → ℕ
 late_of Absent = 1000000
 late_of (At micros binding) = micros
 
+-- offset with which a packet must not come before the read that makes room for it, if the upper end is to stay
 abbrev pub early_of : WindowEnd → ℕ
 early_of Absent = 0
 early_of (At micros binding) = micros
 
--- the packet after `seen` ones came at its time, at this instant
+-- the packet after the first `seen` came at this instant, in its span
 pub record Holds (q : Quiet) (seen at : ℕ) : Type 0 where
   pub lasts : seen < q.until
   pub last : at + 2 ^ 49 ≤ q.front / 2 ^ 64
   pub first : q.front / 2 ^ 64 ≤ at + 2 ^ 49 + q.width
 
--- the next packet's time is from `first` to `last`: the front is less than a part behind `last`, and the earliest
--- instant is after `first` by what the front falls behind the reads with up to 2^64 packets
+-- the next packet's span is from `first` to `last`: `front` is less than one part after `last`, and at least `width` +
+-- 2 ns after `first`, one nanosecond for the rounding to whole ones, and one since `front` falls behind the reads by
+-- less than 2^-64 ns with each packet
 pub record IsBetween (g : Grid) (first last : ℕ) (q : Quiet) : Type 0 where
   pub step_low : q.step * g.den ≤ g.step * 2 ^ 64
   pub step_high : g.step * 2 ^ 64 ≤ q.step * g.den + g.den
   pub late : q.front * g.den < (last + 1) * 2 ^ 64
   pub early : (first + (q.width + 2) * g.den) * 2 ^ 64 ≤ q.front * g.den
 
--- after `seen` packets: each packet to come, as long as it lasts, has its own read and the read that makes room for it
--- in the groups of the next packet's; and those that come at their time don't come after their own read with the offset
--- `late`, and with the offset `early` not before the one that makes room
+-- after the first `seen` packets, each next packet up to `until` has its own read, and the read that makes room for it,
+-- in the same frames or fields as the next packet; if it comes in its span, it doesn't come after its own read with the
+-- offset `late`, nor before the read that makes room with the offset `early`
 pub record IsQuiet (g : Grid) (late early seen : ℕ) (q : Quiet) : Type 0 where
   pub begun : q.back ≤ seen
   pub own_group : seen % g.n + (q.until - seen) < g.n

@@ -1,4 +1,4 @@
--- Stamps on which the window is tried by hand, in nanoseconds of TAI.
+-- Capture timestamps for windows worked by hand, in nanoseconds of TAI.
 use Rattle.std.specs.Prelude.{◌+◌, ◌*◌, ℕ, false, List, map, Some, None}
 use Rattle.std.specs.List.{range_with_len}
 use Rattle.timing_base.specs.Media.{Media}
@@ -8,12 +8,12 @@ use Rattle.sender_params.specs.Worked.{described}
 use Rattle.offset_window.specs.Window.{IsWindow}
 use Rattle.offset_window.specs.declared.window.WindowEnd.{WindowEnd}
 
--- so many nanoseconds after second 1,600,000,000, with which a frame begins
+-- `late` nanoseconds after second 1,600,000,000, at which a frame begins
 abbrev pub so_late : ℕ → ℕ
 so_late late = 1600000000000000000 + late
 
--- `count` packets of that frame: packet 0 comes 764,000 ns after its begin, and each other one `step` ns after the one
--- before it
+-- `count` packets of that frame: packet 0 comes 764,000 ns after its start, and each other one `step` ns after the one
+-- before
 abbrev pub each_after : (step count : ℕ) → List ℕ
 each_after step count = map (λ i. so_late (764000 + i * step)) (range_with_len 0 count)
 

@@ -1,5 +1,4 @@
-//! What holds of the window itself. Each function is a theorem: it does nothing, and its clauses are
-//! proved.
+//! Theorems about the window. Each function does nothing; its clauses are the theorem.
 
 ghost use Rattle.std.specs.Prelude.{◌≡◌, ◌≤◌, ◌+◌, ◌-◌, ◌∷◌, ◌++◌, [], ℕ, ℤ, Bool, List, length, slice_index, replicate, Option, Some, None};
 ghost use Rattle.fraction128.specs.Fractions.{whole};
@@ -15,7 +14,7 @@ ghost use Rattle.offset_window.specs.Worked.{IsFromTo, each_after, late_group, s
 ghost use Rattle.offset_window.specs.declared.window.Window.{Window};
 ghost use Rattle.offset_window.specs.declared.window.WindowEnd.TheVariants.{Absent, At};
 
-/// All packets have exactly one window.
+/// Every list of packets has exactly one window.
 pub fn one_window()
     ensures some { (m : Media) (n : ℕ) (stamps : List ℕ) (kind : Kind)
         → (w : Window) × IsWindow m n stamps kind w }
@@ -23,7 +22,7 @@ pub fn one_window()
         → IsWindow m n stamps kind w → IsWindow m n stamps kind other → w ≡ other }
 {}
 
-/// Each offset from the lower end on serves, and each one up to the upper end.
+/// Every offset from the lower end on works for the lower end, and every offset up to the upper end for the upper end.
 pub fn offsets_between_serve()
     ensures lower { (m : Media) (n : ℕ) (stamps : List ℕ) (kind : Kind) (w : Window)
         (micros other : ℕ) (binding : Option ℕ)
@@ -37,7 +36,7 @@ pub fn offsets_between_serve()
         (length stamps) other }
 {}
 
-/// With the offset that TROFF gives, packets break as the model of the buffer says.
+/// With the offset of TROFF, packets violate the buffer's model as the model itself defines it.
 pub fn own_offset_is_the_model()
     ensures empty { (m : Media) (n : ℕ) (stamps : List ℕ) (kind : Kind) (micros i : ℕ)
         → m.troff ≡ Some micros
@@ -49,18 +48,17 @@ pub fn own_offset_is_the_model()
         ≡ is_over m n stamps kind i }
 {}
 
-/// With each offset the buffer holds just after packet i came the packets up to it, less all reads that
-/// are due.
+/// With any offset, the buffer just after packet i holds the packets up to i, less all reads that are due.
 pub fn held_is_less_reads()
     ensures { (m : Media) (n : ℕ) (anchor : ℤ) (stamps : List ℕ) (gapped : Bool) (micros i count : ℕ)
         → AreDue (with_offset m micros) n anchor gapped (whole (slice_index stamps i)) count
         → held_with m n anchor stamps gapped micros i ≡ (i + 1) - count }
 {}
 
-/// A frame of a narrow sender at 50 with 20 packets per frame, where VRX_FULL of types N and NL is 8.
-/// Each packet comes 764,000 ns after its gapped read with the offset 0, and each from packet 8 on
-/// 8,444,000 ns after the gapped read eight packets before: the first of them binds. It comes 40,000 ns
-/// earlier after its linear read with each packet, so packet 19 binds the upper end of NL.
+/// A frame of a narrow sender at 50 with 20 packets per frame; VRX_FULL of N and NL is 8. With the offset 0 each packet
+/// comes 764,000 ns after its gapped read, and each one from packet 8 on 8,444,000 ns after the gapped read eight
+/// packets before: packet 8 is the first to limit the upper end. Relative to its linear read, each packet comes 40,000
+/// ns earlier than the one before, so packet 19 limits the upper end of NL.
 pub fn narrow_by_hand()
     ensures narrow { IsFromTo hd_50 20 (each_after 960000 20) N (At 764 (Some 0)) (At 8444 (Some 8)) }
     ensures linear { IsFromTo hd_50 20 (each_after 960000 20) NL (At 764 (Some 0)) (At 8004 (Some 19)) }
@@ -68,16 +66,16 @@ pub fn narrow_by_hand()
     ensures full { IsFromTo hd_50 20 (each_after 960000 8) N (At 764 (Some 0)) (At 1000000 None) }
 {}
 
-/// A frame of a linear sender. Each packet comes 40,000 ns later after its gapped read than the one
-/// before it, the last 1,524,000 ns after it.
+/// A frame of a linear sender. Relative to its gapped read, each packet comes 40,000 ns later than the one before, the
+/// last 1,524,000 ns after it.
 pub fn linear_by_hand()
     ensures narrow { IsFromTo hd_50 20 (each_after 1000000 20) N (At 1524 (Some 19)) (At 8764 (Some 8)) }
     ensures linear { IsFromTo hd_50 20 (each_after 1000000 20) NL (At 764 (Some 0)) (At 8764 (Some 8)) }
     ensures wide { IsFromTo hd_50 20 (each_after 1000000 20) W (At 764 (Some 0)) (At 1000000 None) }
 {}
 
-/// A packet at its read with the offset 0, and up to 1,001 ns after it. An offset of 1,000,000 reads
-/// packet 1 at 1,000,960,000 ns; a nanosecond later none serves.
+/// A packet at its read with the offset 0, and up to 1,001 ns after it. With the offset 1,000,000 the read of packet 1
+/// is at 1,000,960,000 ns; if the packet comes one nanosecond later, no offset works.
 pub fn lower_ends_by_hand()
     ensures none { IsFromTo hd_50 20 [] N (At 0 None) (At 1000000 None) }
     ensures early { IsFromTo hd_50 20 (so_late 0 ∷ []) N (At 0 None) (At 1000000 None) }
@@ -90,8 +88,8 @@ pub fn lower_ends_by_hand()
         Absent (At 1000000 None) }
 {}
 
-/// Nine packets at once, of which packet 8 finds too much before read 0; and packet 8 late enough for
-/// every offset, or a nanosecond less.
+/// Nine packets at once: packet 8 overflows the buffer if it comes before read 0. In `every` packet 8 is late enough
+/// for every offset, and in `last` one nanosecond too early.
 pub fn upper_ends_by_hand()
     ensures absent { IsFromTo hd_50 20 (replicate 9 1599999999999999999) N (At 0 None) Absent }
     ensures least { IsFromTo hd_50 20 (replicate 9 (so_late 0)) N (At 0 None) (At 0 (Some 8)) }
@@ -104,9 +102,9 @@ pub fn upper_ends_by_hand()
     ensures wide { IsFromTo hd_50 20 (replicate 9 (so_late 0)) W (At 0 None) (At 1000000 None) }
 {}
 
-/// Packets are read in groups that are counted from the group of packet 0 as the video has it: with
-/// TROFF=30000 a packet 30,764,000 ns after the start of a group is of that group, whatever the offset.
-/// With one packet per frame packet 1 comes 765,000 ns after the start of its own.
+/// Reads are counted from the frame of packet 0 as the video describes it: with TROFF=30000 a packet 30,764,000 ns
+/// after the start of a frame belongs to that frame, whatever the offset. With one packet per frame, packet 1 comes
+/// 765,000 ns after the start of its own.
 pub fn groups_by_hand()
     ensures own_group { IsFromTo late_group 20 (so_late 30764000 ∷ []) N
         (At 30764 (Some 0)) (At 1000000 None) }

@@ -1,8 +1,8 @@
-//! The offsets with which a flow would keep the virtual receiver buffer of SMPTE ST 2110-21.
+//! The offsets (TROFF) with which a flow would keep the virtual receiver buffer of SMPTE ST 2110-21.
 //!
-//! A [`WindowMeter`] is fed the stamps of the judged packets, one by one and in order, and keeps the two
-//! ends of the window, each with the packet that binds it, and no history. Stamps are nanoseconds of TAI,
-//! offsets are microseconds, and packets are counted from 0.
+//! A [`WindowMeter`] gets the capture timestamps of the judged packets, one by one and in order. It keeps both ends of
+//! the window, each with the packet that limits it, and no history. Capture timestamps are in nanoseconds of TAI,
+//! offsets in microseconds. Packets count from 0.
 #![tactic(auto)]
 
 pub mod laws;

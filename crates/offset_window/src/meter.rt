@@ -16,19 +16,19 @@ use read_schedule::Grid;
 use sender_params::Params;
 use timing_base::Kind;
 
-/// The window of the packets so far of one flow, for one sender type.
+/// Window of the packets so far of one flow, for one sender type.
 #[derive(Clone, Copy, Debug, PartialEq, Eq)]
 pub struct WindowMeter {
-    /// The sender type.
+    /// Sender type, which sets the schedule of the reads and VRX_FULL.
     pub kind: Kind,
-    /// The packets fed.
+    /// Number of packets fed.
     pub seen: u64,
-    /// The reads of the flow's packets, with the offset 0. A packet's own read may not be before it, and the read
-    /// VRX_FULL packets before that not after it.
+    /// Reads of the flow's packets, with the offset 0. A packet must not come after its own read, nor before the read
+    /// VRX_FULL packets earlier.
     grid: Grid,
     lower: WindowEnd,
     upper: WindowEnd,
-    /// The packets to come that move neither end.
+    /// Next packets that move neither end.
     quiet: Quiet,
     ghost few: { seen ≤ 2 ^ 40 },
     ghost quiet_is: { seen < quiet.until → IsQuiet grid (late_of lower) (early_of upper) seen quiet },
@@ -39,8 +39,8 @@ impl WindowMeter {
     ghost use Rattle.offset_window.specs.Stands.{StandsFor};
     ghost use Rattle.offset_window.specs.Window.{IsWindow};
 
-    /// The meter of a flow whose first packet is of group `n0`, judged as one of this sender type,
-    /// before that packet.
+    /// Returns the meter of a flow that is judged as one of this sender type, before the first packet. That packet
+    /// belongs to frame or field `n0`, counted from the epoch.
     pub fn new(params: &Params, kind: Kind, n0: i128) -> WindowMeter
         requires low { negsuc 479 ≤ℤ n0 }
         requires high { n0 ≤ℤ pos (2 ^ 42) }
@@ -63,10 +63,10 @@ impl WindowMeter {
         }
     }
 
-    /// Puts in the packet that came at `at`, in nanoseconds of TAI. At equal instants the packet has
-    /// come and the read is done (SMPTE ST 2110-21, virtual receiver buffer; this project's profile).
+    /// Puts in the packet that came at `at`, in nanoseconds of TAI. A packet and a read at the same instant both count
+    /// (SMPTE ST 2110-21, virtual receiver buffer; this project's profile).
     ///
-    /// Feed one meter with one `Params` alone, that of `new`: `stands` says nothing of others.
+    /// The caller must pass the same `Params` as to `new`: for others the result is not guaranteed.
     #[inline(always)]
     pub fn feed(&mut self, params: &Params, at: u64)
         requires in_time { at < 2 ^ 62 }
@@ -74,7 +74,7 @@ impl WindowMeter {
 
         ensures seen { self.new.seen ≡ self.old.seen + 1 }
 
-        // Whatever packets the meter stood for, it now stands for those and this one.
+        // The meter was then fed the packets before and this one.
         ensures stands { (kind : Kind) (anchor : ℤ) (stamps : List ℕ)
             → StandsFor params.now kind anchor self.old stamps
             → StandsFor params.now kind anchor self.new (stamps ++ at ∷ []) }
@@ -87,8 +87,8 @@ impl WindowMeter {
         }
     }
 
-    /// The window of the packets that were fed, where the first of them is of the group that `new` was
-    /// given. For no packets it is all offsets.
+    /// Returns the window of the packets fed, if the first of them belongs to the frame or field that was passed to
+    /// `new`. For no packets it is all offsets.
     pub fn finish(&self) -> Window
         ensures { (params : Params) (kind : Kind) (stamps : List ℕ)
             → StandsFor params kind (anchor_of params.media (slice_index stamps 0)) self.now stamps
@@ -100,8 +100,8 @@ impl WindowMeter {
         }
     }
 
-    /// Puts in the packet that came at `at`, to a buffer that may hold so many, and looks how far the packets to come
-    /// move neither end.
+    /// Puts in the packet that came at `at`, and determines which next packets move neither end. The buffer may hold
+    /// `full` packets.
     #[cold]
     #[inline(never)]
     fn measure(&mut self, full: u64, at: u64)
@@ -134,7 +134,8 @@ impl WindowMeter {
     }
 }
 
-/// The upper end goes down for this packet, which came at `at` to a buffer that may hold so many, where it held more.
+/// Moves the upper end down if the buffer, which may hold `full` packets, held more just after this packet, which came
+/// at `at`.
 fn fill(end: &mut WindowEnd, grid: &Grid, full: u64, packet: u64, at: u64)
     requires { at < 2 ^ 62 }
     ensures room { packet < full → end.new ≡ end.old }
@@ -146,7 +147,8 @@ fn fill(end: &mut WindowEnd, grid: &Grid, full: u64, packet: u64, at: u64)
     }
 }
 
-/// The offset with which no packet may come after its own read, for the lower end to stay.
+/// Returns the offset, in microseconds, with which a packet must not come after its own read, if the lower end is to
+/// stay.
 fn late_of(end: &WindowEnd) -> u32
     ensures { result ≡ late_of end.now }
 {
@@ -156,7 +158,8 @@ fn late_of(end: &WindowEnd) -> u32
     }
 }
 
-/// The offset with which no packet may come before the read that makes room for it, for the upper end to stay.
+/// Returns the offset, in microseconds, with which a packet must not come before the read that makes room for it, if
+/// the upper end is to stay.
 fn early_of(end: &WindowEnd) -> u32
     ensures { result ≡ early_of end.now }
 {
@@ -166,7 +169,7 @@ fn early_of(end: &WindowEnd) -> u32
     }
 }
 
-/// Moves the lower end for this packet, which came at `at` and has this read of its own.
+/// Moves the lower end if this packet, which came at `at`, is late for its own read with it.
 #[inline(always)]
 fn raise(end: &mut WindowEnd, own: &Read, packet: u64, at: u64)
     requires { at < 2 ^ 62 }
@@ -180,7 +183,7 @@ fn raise(end: &mut WindowEnd, own: &Read, packet: u64, at: u64)
     }
 }
 
-/// Moves the upper end for this packet, which came at `at` and finds too much before this read is due.
+/// Moves the upper end if this packet, which came at `at`, comes with it before the read that makes room for it.
 #[inline(always)]
 fn sink(end: &mut WindowEnd, freeing: &Read, packet: u64, at: u64)
     requires { at < 2 ^ 62 }
@@ -194,7 +197,7 @@ fn sink(end: &mut WindowEnd, freeing: &Read, packet: u64, at: u64)
     }
 }
 
-/// The lower end of one packet, which comes after its own read with the offset 0.
+/// Returns the lower end for one packet alone, which comes after its own read with the offset 0.
 #[cold]
 #[inline(never)]
 fn lower_end(own: &Read, packet: u64, at: u64) -> WindowEnd
@@ -211,7 +214,8 @@ fn lower_end(own: &Read, packet: u64, at: u64) -> WindowEnd
     }
 }
 
-/// The upper end of one packet, which comes with this offset before the read that makes room for it.
+/// Returns the upper end for one packet alone, which with the offset `micros` comes before the read that makes room for
+/// it.
 #[cold]
 #[inline(never)]
 fn upper_end(freeing: &Read, micros: u32, packet: u64, at: u64) -> WindowEnd
@@ -228,7 +232,7 @@ fn upper_end(freeing: &Read, micros: u32, packet: u64, at: u64) -> WindowEnd
     }
 }
 
-/// Whether the reads of this sender type are gapped.
+/// Returns whether the reads of this sender type are gapped.
 fn is_gapped(kind: Kind) -> bool
     ensures { result ≡ gapped_of kind }
 {

@@ -5,22 +5,22 @@ ghost use Rattle.std.specs.Prelude.{◌≡◌, ◌≤◌, ◌<◌, ◌+◌, ◌-
 use crate::read::Read;
 use read_schedule::{BEFORE, Grid};
 
-/// So many nanoseconds are as good as no limit.
+/// Width in nanoseconds that is as good as no limit.
 const WIDEST: u128 = 1 << 61;
 
-/// The packets to come that move neither end, where each comes at its time: up to an instant that goes on with each
-/// packet as the reads do, and at most so long before it.
+/// Next packets that move neither end, if each comes in its span of time. The spans end at an instant that goes on with
+/// each packet as the reads do.
 #[derive(Clone, Copy, Debug, PartialEq, Eq)]
 pub struct Quiet {
-    /// It is over before this packet, counted from 0.
+    /// Packet, counted from 0, before which the quiet packets end.
     pub until: u64,
-    /// The last instant of the next packet, in parts of 2^-64 nanoseconds from 2^49 ns before 0 on.
+    /// End of the next packet's span, in 2^-64 nanoseconds from 2^49 ns before 0 on.
     front: u128,
-    /// What that goes on by with each packet.
+    /// Amount by which `front` goes on with each packet.
     step: u128,
-    /// The packet may come so many nanoseconds before.
+    /// Nanoseconds before `front` from which on the packet may come.
     width: u64,
-    /// The packets that the buffer may hold.
+    /// Number of packets that the buffer may hold.
     pub back: u64,
     ghost width_small: { width < 2 ^ 62 },
     ghost step_small: { step < 2 ^ 105 },
@@ -31,7 +31,7 @@ impl Quiet {
     ghost use Rattle.offset_window.specs.Parts.{parts_with};
     ghost use Rattle.offset_window.specs.Quiets.{Holds, IsBetween, IsQuiet};
 
-    /// No packet.
+    /// Returns an empty sequence of packets.
     pub fn over() -> Quiet
         ensures { result.until ≡ 0 }
     {
@@ -44,9 +44,9 @@ impl Quiet {
         }
     }
 
-    /// The packets after so many, of a flow with these reads and a buffer that may hold `full`: with the offset `late`
-    /// none comes after its own read, and with the offset `early` none before the read that makes room for it. Offsets
-    /// are microseconds.
+    /// Returns the quiet packets after the first `seen`, of a flow with these reads and a buffer that may hold `full`
+    /// packets. With the offset `late` none of them comes after its own read, and with the offset `early` none comes
+    /// before the read that makes room for it. Offsets are in microseconds.
     pub fn after(grid: &Grid, late: u32, early: u32, full: u64, seen: u64) -> Quiet
         requires { seen ≤ 2 ^ 40 }
         ensures back { seen < result.until → result.back ≡ full }
@@ -61,7 +61,7 @@ impl Quiet {
         Quiet::between(grid, freeing.with(early), own.with(late), seen + left, full)
     }
 
-    /// The packets up to this one, of which the next may come from `first` to `last`, in parts.
+    /// Returns the quiet packets before packet `until`. The next one may come from `first` to `last`, in parts.
     fn between(grid: &Grid, first: u128, last: u128, until: u64, back: u64) -> Quiet
         requires first { first < 2 ^ 117 }
         requires last { last < 2 ^ 117 }
@@ -84,7 +84,7 @@ impl Quiet {
         }
     }
 
-    /// Whether the packet after so many comes at its time and moves neither end.
+    /// Returns whether the packet after the first `seen` comes in its span, and so moves neither end.
     #[inline(always)]
     pub fn has(&self, seen: u64, at: u64) -> bool
         requires { at < 2 ^ 62 }
@@ -95,7 +95,7 @@ impl Quiet {
         seen < self.until && reached <= last && last - reached <= self.width
     }
 
-    /// Goes on to the packet after the next.
+    /// Goes on by one packet.
     #[inline(always)]
     pub fn go_on(&mut self)
         requires { self.old.front < 2 ^ 127 + 2 ^ 120 }

@@ -5,19 +5,19 @@ ghost use Rattle.read_schedule.specs.Parts.{parts_at};
 
 use read_schedule::{BEFORE, Grid};
 
-/// The greatest offset, in microseconds.
+/// Greatest offset, in microseconds.
 pub const MOST: u32 = 1_000_000;
 
 /// A read of a schedule.
 #[derive(Clone, Copy, Debug, PartialEq, Eq)]
 pub struct Read {
-    /// The reads of the schedule.
+    /// Reads of the schedule, with the offset 0.
     pub grid: Grid,
-    /// The number of this one.
+    /// Number of this read, counted from 0.
     pub number: u64,
-    /// Its place in its group.
+    /// Position in its frame or field, counted from 0.
     place: u64,
-    /// Where it is with the offset 0, in parts.
+    /// Instant with the offset 0, in parts.
     at: u128,
     ghost place_is: { number % grid.n ≡ place },
     ghost at_is: { at ≡ parts_at grid number },
@@ -27,7 +27,7 @@ impl Read {
     ghost use Rattle.read_schedule.specs.Parts.{parts_of};
     ghost use Rattle.offset_window.specs.Parts.{comes_after, comes_before, parts_with};
 
-    /// The read of this number.
+    /// Returns the read with this number.
     pub fn of(grid: Grid, number: u64) -> Read
         ensures grid { result.grid ≡ grid }
         ensures number { result.number ≡ number }
@@ -43,7 +43,7 @@ impl Read {
         }
     }
 
-    /// Where it is with this offset, in parts.
+    /// Returns the read's instant with an offset of `micros` microseconds, in parts.
     pub fn with(&self, micros: u32) -> u128
         ensures value { result ≡ parts_with self.now.grid micros self.now.number }
         ensures small { result < 2 ^ 117 }
@@ -51,14 +51,14 @@ impl Read {
         self.at + 1000 * u128::from(micros) * u128::from(self.grid.den)
     }
 
-    /// The packets for which the next reads are of its group.
+    /// Returns the number of reads after this one in its frame or field.
     pub fn left(&self) -> u64
         ensures { self.now.number % self.now.grid.n + result + 1 ≡ self.now.grid.n }
     {
         self.grid.n - 1 - self.place
     }
 
-    /// The instant so many microseconds before `at`, in parts.
+    /// Returns the instant `micros` microseconds before `at`, in parts.
     #[inline(always)]
     fn reached(&self, micros: u32, at: u64) -> u128
         requires { at < 2 ^ 62 }
@@ -69,7 +69,7 @@ impl Read {
         u128::from(before) * u128::from(self.grid.den)
     }
 
-    /// Whether a packet at `at` comes after this read with that offset.
+    /// Returns whether a packet at `at` comes after this read with an offset of `micros` microseconds.
     #[inline(always)]
     pub fn is_before(&self, micros: u32, at: u64) -> bool
         requires { at < 2 ^ 62 }
@@ -78,7 +78,7 @@ impl Read {
         self.at < self.reached(micros, at)
     }
 
-    /// Whether a packet at `at` comes before this read with that offset.
+    /// Returns whether a packet at `at` comes before this read with an offset of `micros` microseconds.
     #[inline(always)]
     pub fn is_after(&self, micros: u32, at: u64) -> bool
         requires { at < 2 ^ 62 }
@@ -87,7 +87,7 @@ impl Read {
         self.at > self.reached(micros, at)
     }
 
-    /// A microsecond in parts.
+    /// Returns the number of parts in a microsecond.
     fn micro(&self) -> u128
         ensures value { result ≡ 1000 * self.now.grid.den }
         ensures some { 1 ≤ result }
@@ -96,8 +96,8 @@ impl Read {
         1000 * u128::from(self.grid.den)
     }
 
-    /// The least offset with which a packet at `at` doesn't come after this read, where it does with the
-    /// offset 0: none where it does with every one.
+    /// Returns the smallest offset, in microseconds, with which a packet at `at` doesn't come after this read, or
+    /// `None` if it does with every offset. With the offset 0 the packet must come after the read.
     pub fn least_offset(&self, at: u64) -> Option<u32>
         requires in_time { at < 2 ^ 62 }
         requires late { comes_after self.now.grid self.now.number at 0 ≡ true }
@@ -117,8 +117,8 @@ impl Read {
         }
     }
 
-    /// The greatest offset with which a packet at `at` doesn't come before this read, where it does with
-    /// the offset `before`: none where it does with every one.
+    /// Returns the greatest offset, in microseconds, with which a packet at `at` doesn't come before this read, or
+    /// `None` if it does with every offset. With the offset `before` the packet must come before the read.
     pub fn greatest_offset(&self, before: u32, at: u64) -> Option<u32>
         requires in_time { at < 2 ^ 62 }
         requires early { comes_before self.now.grid self.now.number at before ≡ true }

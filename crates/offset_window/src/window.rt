@@ -3,22 +3,23 @@
 /// One end of a window.
 #[derive(Clone, Copy, Debug, PartialEq, Eq)]
 pub enum WindowEnd {
-    /// No offset from 0 to 1,000,000 microseconds serves.
+    /// No offset from 0 to 1,000,000 microseconds works.
     Absent,
-    /// The last offset that serves on this side.
+    /// Last offset that works on this side.
     At {
-        /// The offset in microseconds: 0 to 1,000,000.
+        /// Offset in microseconds: 0 to 1,000,000.
         micros: u32,
-        /// The first packet that is broken with the next offset, or none where no offset is next.
+        /// First packet, counted from 0, that violates the model with the next offset; `None` if there is no next
+        /// offset.
         binding: Option<u64>,
     },
 }
 
-/// The offsets with which no packet breaks the buffer's model.
+/// Offsets with which no packet violates the buffer's model.
 #[derive(Clone, Copy, Debug, PartialEq, Eq)]
 pub struct Window {
-    /// The least offset with which no packet comes after its own read.
+    /// Smallest offset with which no packet comes after its own read.
     pub lower: WindowEnd,
-    /// The greatest offset with which no packet finds the buffer too full.
+    /// Greatest offset with which the buffer never holds more than VRX_FULL packets.
     pub upper: WindowEnd,
 }

@@ -1,5 +1,5 @@
-//! Tests of the parts up to the judges and the checker, and of lanes and books, worked by hand: what is read, the numbers of a sender and of
-//! a flow, what is judged and claimed, and what runs beside each other.
+//! Tests of the crates up to the judges and the checker, and of lanes and books, with values worked by hand: reading
+//! inputs, the numbers of a sender and of a flow, verdicts and claims, and concurrent parts.
 #![tactic(auto)]
 
 #[cfg(test)]

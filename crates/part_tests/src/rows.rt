@@ -1,8 +1,8 @@
-//! Tests by the part that they call, in the order of the layers.
+//! Tests by the crate that they call, lowest first.
 
 mod compare;
 
-// Descriptions, captures, the outside, and made captures.
+// SDPs, captures, inputs and outputs, and generated captures.
 mod base;
 mod examples;
 mod made;
@@ -28,6 +28,6 @@ mod checker;
 mod demux;
 mod judge;
 
-// What runs beside each other.
+// Concurrent parts.
 mod books;
 mod lanes;

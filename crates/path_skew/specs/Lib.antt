@@ -1,7 +1,7 @@
--- what is promised
+-- definitions that the clauses of the public functions use
 pub mod Pair
 pub mod Stands
--- what is kept of one flow, of which `Stands` is made
+-- the private state, by which `Stands` is defined
 pub mod Holds
 pub mod Items
 pub mod Kept
@@ -9,8 +9,8 @@ pub mod Listed
 pub mod Search
 pub mod Slots
 pub mod View
--- the extremes by what holds of them, and flows that are worked by hand
+-- properties of the extremes, and flows for values worked by hand
 pub mod Examples
 pub mod Extremes
--- what one packet changes
+-- the change by one packet
 pub mod Step

@@ -1,8 +1,8 @@
--- What a `Directory` lists.
+-- The pages of a `Directory`.
 use Rattle.std.specs.Prelude.{ℕ, List}
 use Rattle.path_skew.specs.Search.{pages_in}
 use Rattle.path_skew.specs.declared.directory.Directory.{Directory}
 
--- its pages, each at its place
+-- the page numbers, each at its position
 abbrev pub pages_of : Directory → List ℕ
 pages_of directory = pages_in directory.entries.items

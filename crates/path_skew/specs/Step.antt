@@ -1,4 +1,4 @@
--- What one packet changes.
+-- The change by one packet.
 use Rattle.std.specs.Prelude.{◌≡◌, ◌⊎◌, ℕ, true, Option, None, Result, Ok, Err}
 use Rattle.timing_base.specs.declared.packet.PacketFault.{PacketFault}
 use Rattle.timing_base.specs.declared.packet.Rtp.{Rtp}
@@ -9,13 +9,13 @@ use Rattle.path_skew.specs.declared.flow.Flow.{Flow}
 use Rattle.path_skew.specs.declared.pages.Pages.{Pages}
 use Rattle.path_skew.specs.declared.pages.Side.{Side}
 
--- a packet with this number came of a flow: it is the first of its number, and the other flow's first packet of it is
--- told where that had it, or it is not, and none is told
+-- a packet of a flow with this packet number came. If it is the first with the number, the result is the other flow's
+-- first packet with it, if any; else there is no result.
 abbrev pub Steps : (v w : View) (old new : Flow) → (number : ℕ) → Arrival → Option Arrival → Type 0
 Steps v w old new number arrival told = (IsOpened v w number arrival told × IsCounted old new 1 0 0)
     ⊎ ((v.own number ≡ true) × IsSame v w × IsCounted old new 0 1 0 × (told ≡ None))
 
--- a packet of a side came, read or not; where it was not, none is told
+-- a packet of a flow came, parsed or not; if it wasn't, there is no result
 abbrev pub Comes : Side → (before after : Pages) → (old new : Flow) → Arrival → Result Rtp PacketFault
     → Option Arrival → Type 0
 Comes side before after old new arrival (Ok rtp) told =

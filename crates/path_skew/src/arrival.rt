@@ -1,13 +1,13 @@
-//! A packet that is kept.
+//! The data kept of a packet.
 
 ghost use Rattle.std.specs.Prelude.{◌<◌, ◌^◌};
 
-/// The first packet of a number.
+/// First packet with a packet number.
 #[derive(Clone, Copy, Debug)]
 pub struct Arrival {
-    /// Its record, counted from 1.
+    /// Packet record, counted from 1.
     pub rec: u64,
-    /// The stamp of its record, in nanoseconds.
+    /// Capture timestamp, in nanoseconds.
     pub at: u64,
     ghost in_time: { at < 2 ^ 62 },
 }

@@ -1,4 +1,4 @@
-//! The arrivals of a page.
+//! The packets kept on a page.
 
 ghost use Rattle.std.specs.Prelude.{◌≡◌, ◌≢◌, ◌≤◌, ◌<◌, [], ◌∷◌, ◌++◌, ℕ, Some, None, insert, length, slice_get, slice_set, OnErr, OnOk, IfOk};
 ghost use Rattle.path_skew.specs.Items.{Leaves, items_in, ones_below, places_in};
@@ -7,20 +7,22 @@ use crate::arrival::Arrival;
 use crate::bits::{has, ones_below, with, without};
 use std::alloc::{AllocError as OutOfMemory, Global};
 
-/// How many places there are.
+/// Number of positions on a page.
 pub const PLACES: u32 = 32;
 
-/// Arrivals in the order of their places, with a bit for each place that has one.
+/// Packets in the order of their positions, with a bit for each position that has one.
 #[derive(Drop)]
 enum Slots {
+    /// No packet.
     Empty,
-    /// One arrival, which takes no memory of its own.
+    /// One packet, which takes no memory of its own. The bits come first.
     One(u32, Arrival),
+    /// Packets in a vector of their own, or none with room for some. The bits come first.
     Many(u32, Vec<Arrival>),
 }
 
 impl Slots {
-    /// A bit for each place that has an arrival.
+    /// Returns a bit for each position that has a packet.
     #[inline(always)]
     fn places(&self) -> u32
         ensures { result ≡ places_in self.now }
@@ -32,9 +34,9 @@ impl Slots {
         }
     }
 
-    /// Puts an arrival in behind all others. The places are these after it.
+    /// Appends a packet behind all others. `after` are the bits of the positions after it.
     ///
-    /// `Err` is want of memory.
+    /// Returns `Err` if memory runs out; nothing changes then.
     #[inline(always)]
     fn push(&mut self, alloc: Global, arrival: Arrival, after: u32) -> Result<(), OutOfMemory>
         ensures items { OnOk result (items_in self.new ≡ items_in self.old ++ arrival ∷ []) }
@@ -56,9 +58,9 @@ impl Slots {
         Ok(())
     }
 
-    /// Puts an arrival in at this index. The places are these after it.
+    /// Inserts a packet at this index. `after` are the bits of the positions after it.
     ///
-    /// `Err` is want of memory.
+    /// Returns `Err` if memory runs out; nothing changes then.
     #[cold]
     #[inline(never)]
     fn insert(
@@ -88,7 +90,7 @@ impl Slots {
         Ok(())
     }
 
-    /// Replaces the arrival of this index.
+    /// Replaces the packet at this index.
     #[cold]
     #[inline(never)]
     fn replace(&mut self, index: usize, arrival: Arrival)
@@ -103,8 +105,8 @@ impl Slots {
         }
     }
 
-    /// Takes the arrival of this index. If it is the last, it leaves, and the places are these after it. If others
-    /// stand behind it, all stay, so that none has to move.
+    /// Returns the packet at this index. If it is the last, it is removed, and `rest` are the bits of the positions
+    /// after that. If others follow it, it stays, so that none has to move.
     #[inline(always)]
     fn take(&mut self, index: usize, rest: u32) -> Arrival
         requires { index < length (items_in self.old) }
@@ -132,9 +134,9 @@ impl Slots {
     }
 }
 
-/// An arrival, and another at this index beside it.
+/// Returns a vector of a packet and another at this index beside it.
 ///
-/// `Err` is want of memory.
+/// Returns `Err` if memory runs out.
 #[cold]
 #[inline(never)]
 fn two(
@@ -152,7 +154,7 @@ fn two(
     Ok(items)
 }
 
-/// Arrivals by place.
+/// Packets by position.
 #[derive(Drop)]
 pub struct Arrivals {
     slots: Slots,
@@ -162,7 +164,7 @@ pub struct Arrivals {
 impl Arrivals {
     ghost use Rattle.path_skew.specs.Slots.{arrival_at};
 
-    /// No arrival.
+    /// Returns an empty collection.
     pub fn new() -> Arrivals
         ensures none { (place : ℕ) → arrival_at result place ≡ None }
     {
@@ -171,9 +173,9 @@ impl Arrivals {
         }
     }
 
-    /// No arrival, and room for one at each place.
+    /// Returns an empty collection with room for a packet at each position.
     ///
-    /// `Err` is want of memory.
+    /// Returns `Err` if memory runs out.
     pub fn with_room(alloc: Global) -> Result<Arrivals, OutOfMemory>
         ensures none { IfOk result (λ arrivals. (place : ℕ) → arrival_at arrivals place ≡ None) }
     {
@@ -182,7 +184,7 @@ impl Arrivals {
         })
     }
 
-    /// Takes the arrival at a place.
+    /// Returns the packet at a position, and may remove it.
     #[inline(always)]
     pub fn take(&mut self, place: u32) -> Option<Arrival>
         requires { place < 32 }
@@ -198,9 +200,9 @@ impl Arrivals {
         Some(self.slots.take(index, without(places, place)))
     }
 
-    /// Keeps an arrival at a place, whatever stood there or stands behind.
+    /// Keeps a packet at a position, whatever was kept there or at later positions.
     ///
-    /// `Err` is want of memory.
+    /// Returns `Err` if memory runs out.
     #[cold]
     #[inline(never)]
     fn keep_before(
@@ -225,9 +227,9 @@ impl Arrivals {
         Ok(())
     }
 
-    /// Keeps an arrival at a place, whatever stood there.
+    /// Keeps a packet at a position, whatever was kept there.
     ///
-    /// `Err` is want of memory.
+    /// Returns `Err` if memory runs out.
     #[inline(always)]
     pub fn keep(&mut self, alloc: Global, place: u32, arrival: Arrival) -> Result<(), OutOfMemory>
         requires { place < 32 }

@@ -1,10 +1,10 @@
-//! The bits of a number, by place.
+//! Bits of a word, by position.
 
 ghost use Rattle.std.specs.Prelude.{◌≡◌, ◌≢◌, ◌<◌, ◌==◌, ℕ};
 ghost use Rattle.std.specs.Int.{bit_at};
 ghost use Rattle.path_skew.specs.Items.{ones_below};
 
-/// Whether the bit at this place is set.
+/// Returns whether the bit at this position is set.
 #[inline(always)]
 pub fn has(bits: u32, place: u32) -> bool
     requires { place < 32 }
@@ -13,7 +13,7 @@ pub fn has(bits: u32, place: u32) -> bool
     bits >> place & 1 == 1
 }
 
-/// These bits, with the one at this place.
+/// Returns the bits with the one at this position set.
 #[inline(always)]
 pub fn with(bits: u32, place: u32) -> u32
     requires { place < 32 }
@@ -23,7 +23,7 @@ pub fn with(bits: u32, place: u32) -> u32
     bits | 1 << place
 }
 
-/// These bits, without the one at this place.
+/// Returns the bits with the one at this position cleared.
 #[inline(always)]
 pub fn without(bits: u32, place: u32) -> u32
     requires { place < 32 }
@@ -33,7 +33,7 @@ pub fn without(bits: u32, place: u32) -> u32
     bits & !(1 << place)
 }
 
-/// How many bits are set below this place.
+/// Returns the number of bits set below this position.
 #[inline(always)]
 pub fn ones_below(bits: u32, place: u32) -> usize
     requires { place < 32 }

@@ -1,23 +1,23 @@
-//! Where each page stands.
+//! The positions of the pages.
 
 ghost use Rattle.std.specs.Prelude.{◌≡◌, ◌≢◌, ◌↔◌, ◌++◌, ◌∷◌, [], length, slice_get, Some, true, OnErr, OnOk, IfOk, IfSome, IfNone};
 ghost use Rattle.path_skew.specs.Search.{Ends, Enters, GoesOn, IsEnd, IsFound, IsLinked, below, with_below};
 
 use std::alloc::{AllocError as OutOfMemory, Global};
 
-/// A page, and the entries below it. The first entry stands below none, so the place 0 says that there is none.
+/// A page, and the entries below it. The first entry is below no other, so position 0 means that there is none.
 #[derive(Clone, Copy, Debug)]
 pub struct Entry {
-    /// The number of the page.
+    /// Page number.
     page: u32,
-    /// The place where a search goes on whose next digit is 0.
+    /// Position at which a search goes on if its next digit is 0.
     zero: u32,
-    /// The place where a search goes on whose next digit is 1.
+    /// Position at which a search goes on if its next digit is 1.
     one: u32,
 }
 
 impl Entry {
-    /// The place where a search goes on that has these digits left, and 0 where it ends.
+    /// Returns the position at which a search with these digits left goes on, or 0 if it ends.
     #[inline(always)]
     fn below(&self, digits: u32) -> u32
         ensures { result ≡ below self.now digits }
@@ -25,7 +25,7 @@ impl Entry {
         if digits % 2 == 0 { self.zero } else { self.one }
     }
 
-    /// This entry, from which a search that has these digits left goes on at this place.
+    /// Returns the entry with `place` as the position at which a search with these digits left goes on.
     fn with_below(self, digits: u32, place: u32) -> Entry
         ensures { result ≡ with_below self digits place }
     {
@@ -40,19 +40,19 @@ impl Entry {
     }
 }
 
-/// Where a search ended, and the digits that it had left.
+/// Position at which a search ended, and the digits that it had left.
 #[derive(Clone, Copy, Debug)]
 struct End {
     place: usize,
     digits: u32,
 }
 
-/// Pages in the order in which they came, in a digital search tree: a search begins at the first entry, and goes on
-/// below it by the binary digits of the page's number, from the lowest on. So it passes no more entries than a page
+/// Pages in the order in which they came, in a digital search tree. A search begins at the first entry and goes on
+/// below it by the binary digits of the page number, from the lowest on. So it passes at most as many entries as a page
 /// number has digits, whatever pages there are.
 #[derive(Drop)]
 pub struct Directory {
-    /// The entries. What stands below one stands behind it.
+    /// Entries. Those below an entry come after it.
     entries: Vec<Entry>,
     ghost linked: { IsLinked entries.items },
     ghost found: { ∥ IsFound entries.items ∥₁ },
@@ -61,7 +61,7 @@ pub struct Directory {
 impl Directory {
     ghost use Rattle.path_skew.specs.Listed.{pages_of};
 
-    /// No page.
+    /// Returns an empty directory.
     pub fn new(alloc: Global) -> Directory
         ensures { pages_of result ≡ [] }
     {
@@ -70,7 +70,7 @@ impl Directory {
         }
     }
 
-    /// Whether this page stands at this place.
+    /// Returns whether page number `page` is at this position.
     #[inline(always)]
     pub fn is_at(&self, place: usize, page: u32) -> bool
         ensures { (result ≡ true) ↔ (slice_get (pages_of self.now) place ≡ Some page) }
@@ -81,7 +81,7 @@ impl Directory {
         }
     }
 
-    /// The place where the search for a page goes on from here, and `None` where it ends.
+    /// Returns the position at which the search for a page goes on from here, or `None` if it ends.
     #[inline(always)]
     fn next(&self, at: End, page: u32) -> Option<usize>
         ensures on { IfSome result (GoesOn self.now.entries.items page at.place at.digits) }
@@ -95,7 +95,7 @@ impl Directory {
         Some(below as usize)
     }
 
-    /// Where the search for a page ends: at the page, or at the entry that it belongs below.
+    /// Returns where the search for a page ends: at the page, or at the entry below which it belongs.
     fn find(&self, page: u32) -> End
         ensures { IsEnd self.now.entries.items page result.place result.digits }
     {
@@ -112,9 +112,9 @@ impl Directory {
         at
     }
 
-    /// Adds a page that isn't there, where the search for it ended here, and answers its place.
+    /// Adds a page that isn't there, below the entry at which the search for it ended, and returns its position.
     ///
-    /// `Err` is want of memory.
+    /// Returns `Err` if memory runs out; nothing changes then.
     fn add(&mut self, end: End, page: u32) -> Result<usize, OutOfMemory>
         requires end { IsEnd self.old.entries.items page end.place end.digits }
         requires other { slice_get (pages_of self.old) end.place ≢ Some page }
@@ -137,9 +137,9 @@ impl Directory {
         Ok(place)
     }
 
-    /// The place of a page, which is added at the end where it isn't there.
+    /// Returns the position of a page, which is appended if it isn't there.
     ///
-    /// `Err` is want of memory.
+    /// Returns `Err` if memory runs out; nothing changes then.
     pub fn enter(&mut self, page: u32) -> Result<usize, OutOfMemory>
         ensures enters { IfOk result (Enters (pages_of self.old) (pages_of self.new) page) }
         ensures kept { OnErr result (pages_of self.new ≡ pages_of self.old) }

@@ -1,22 +1,22 @@
-//! What is counted of a flow.
+//! The counts of a flow.
 
-/// The packets of one flow, and where its last number stands.
+/// Counts of the packets of one flow, and the position of its last packet number.
 #[derive(Clone, Copy, Debug)]
 pub struct Flow {
-    /// The numbers that it had.
+    /// Number of different packet numbers.
     pub numbers: u64,
-    /// The packets whose number it had before.
+    /// Packets with a packet number that came before.
     pub repeated: u64,
-    /// The packets that could not be read.
+    /// Packets that couldn't be parsed.
     pub unread: u64,
-    /// The place of the page of its last number.
+    /// Position of the page of its last packet number, counted from 0.
     pub near: usize,
 }
 
 impl Flow {
     ghost use Rattle.std.specs.Prelude.{◌≡◌};
 
-    /// No packet.
+    /// Returns the counts of a flow without packets.
     pub fn new() -> Flow
         ensures numbers { result.numbers ≡ 0 }
         ensures repeated { result.repeated ≡ 0 }

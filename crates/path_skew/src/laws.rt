@@ -1,5 +1,5 @@
-//! What holds of the definitions themselves, and the definitions on flows worked by hand. Each
-//! function is a theorem: it does nothing, and its clauses are proved.
+//! Theorems about the definitions, and the definitions on flows worked by hand. Each function does nothing; its clauses
+//! are the theorem.
 
 ghost use Rattle.std.specs.Prelude.{◌≡◌, [], ◌∷◌, List, Option, Some, None, length, pos, negsuc};
 ghost use Rattle.timing_base.specs.Examples.{unread};
@@ -11,9 +11,9 @@ ghost use Rattle.path_skew.specs.Pair.{skew, skews};
 
 use timing_base::PacketFault;
 
-/// The least skew is that of a matched number, no skew is below it, and of equal ones its record in
-/// the first flow is least; so is the greatest above all. There is none exactly where no number is
-/// matched.
+/// The least skew is that of a matched packet number, and no skew is below it; of equal skews it has the lowest packet
+/// record in the first flow. The greatest skew likewise has none above it. There is no extreme exactly if no packet
+/// number is matched.
 pub fn extremes_are_extreme()
     ensures least { (first second : List FlowPacket) (e : Extreme)
         → (skew first second).least ≡ Some e → IsLeast (skews first second) e }
@@ -42,20 +42,20 @@ pub fn pair_by_hand()
     ensures apart { skew (came 1 0 6 ∷ []) (came 1 0 7 ∷ []) ≡ told 0 1 1 0 0 None None }
 {}
 
-/// Worked by hand: the records of the extremes, and numbers that come out of order.
+/// Worked by hand: the packet records of the extremes, and packet numbers that come out of order.
 pub fn extremes_by_hand()
-    // Of equal skews the lesser record in the first flow counts, whatever the numbers and the
-    // second flow's records.
+    // Of equal skews, the one with the lower packet record in the first flow counts, whatever the packet numbers and
+    // the packet records in the second flow.
     ensures equal { skew (came 3 10 9 ∷ came 5 20 8 ∷ []) (came 2 21 8 ∷ came 4 11 9 ∷ [])
         ≡ told 2 0 0 0 0 (at_records (pos 1) 3 4) (at_records (pos 1) 3 4) }
 
-    // One nanosecond tells them apart.
+    // The skews differ by one nanosecond.
     ensures below { skew (came 3 10 9 ∷ came 5 20 8 ∷ []) (came 2 20 8 ∷ came 4 11 9 ∷ [])
         ≡ told 2 0 0 0 0 (at_records (pos 0) 5 2) (at_records (pos 1) 3 4) }
     ensures above { skew (came 3 10 9 ∷ came 5 20 8 ∷ []) (came 2 22 8 ∷ came 4 11 9 ∷ [])
         ≡ told 2 0 0 0 0 (at_records (pos 1) 3 4) (at_records (pos 2) 5 2) }
 
-    // From below 0 to above it.
+    // A negative and a positive skew.
     ensures across { skew (came 1 10 6 ∷ came 2 20 7 ∷ []) (came 1 9 6 ∷ came 2 21 7 ∷ [])
         ≡ told 2 0 0 0 0 (at_records (negsuc 0) 1 1) (at_records (pos 1) 2 2) }
 
@@ -64,7 +64,7 @@ pub fn extremes_by_hand()
         ≡ told 1 1 0 0 0 (at_records (pos 3) 2 1) (at_records (pos 3) 2 1) }
 {}
 
-/// Worked by hand: of equal numbers in one flow the first counts.
+/// Worked by hand: of packets with equal packet numbers in one flow, the first counts.
 pub fn repeated_by_hand()
     ensures first { skew (came 1 10 6 ∷ came 2 90 6 ∷ []) (came 1 15 6 ∷ [])
         ≡ told 1 0 0 1 0 (at_records (pos 5) 1 1) (at_records (pos 5) 1 1) }
@@ -73,12 +73,12 @@ pub fn repeated_by_hand()
     ensures both { skew (came 1 10 6 ∷ came 2 90 6 ∷ came 3 95 6 ∷ []) (came 1 15 6 ∷ came 2 20 6 ∷ [])
         ≡ told 1 0 0 3 0 (at_records (pos 5) 1 1) (at_records (pos 5) 1 1) }
 
-    // Others stand between, and the numbers alone count once.
+    // Other packets come between the repeated ones, and each packet number counts once.
     ensures between { skew (came 1 10 6 ∷ came 2 20 7 ∷ came 3 30 6 ∷ came 4 40 7 ∷ []) (came 1 50 8 ∷ [])
         ≡ told 0 2 1 2 0 None None }
 {}
 
-/// Worked by hand: a packet that was not read counts as unread, and for nothing else.
+/// Worked by hand: a packet that couldn't be parsed counts as unread, and as nothing else.
 pub fn unread_by_hand()
     ensures first { skew (unread 1 10 PacketFault.Short ∷ came 2 20 6 ∷ []) (came 1 21 6 ∷ [])
         ≡ told 1 0 0 0 1 (at_records (pos 1) 2 1) (at_records (pos 1) 2 1) }
@@ -87,7 +87,7 @@ pub fn unread_by_hand()
     ensures both { skew (unread 1 10 PacketFault.Short ∷ unread 2 20 PacketFault.Short ∷ [])
         (unread 1 10 PacketFault.Short ∷ []) ≡ told 0 0 0 0 3 None None }
 
-    // Two of them are no repetition, nor is a packet with number 0 after one.
+    // Two of them aren't a repetition, nor is a packet with number 0 after one.
     ensures zero { skew (unread 1 10 PacketFault.Short ∷ came 2 20 0 ∷ []) (came 1 20 0 ∷ [])
         ≡ told 1 0 0 0 1 (at_records (pos 0) 2 1) (at_records (pos 0) 2 1) }
 {}

@@ -1,5 +1,5 @@
-//! The skew of two flows that carry the same packets by two paths: how far the stamps of equal packet
-//! numbers lie apart.
+//! The skew of two flows that carry the same packets on two paths: the difference between the capture timestamps of
+//! packets with equal packet numbers.
 #![tactic(auto)]
 
 mod arrival;

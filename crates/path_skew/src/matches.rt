@@ -1,4 +1,4 @@
-//! The numbers that stand in both flows.
+//! The packet numbers in both flows.
 
 ghost use Rattle.std.specs.Prelude.{◌≡◌, ◌<◌, ◌+◌, ◌^◌, ◌-ℤ◌, pos, ◌++◌, ◌∷◌, List, None, Some};
 ghost use Rattle.path_skew.specs.Pair.{earlier_of, falling, record_cmp, rising};
@@ -8,21 +8,21 @@ ghost use Rattle.path_skew.specs.declared.row.Extreme.{Extreme};
 use crate::arrival::Arrival;
 use crate::row::Extreme;
 
-/// The skews of the matched numbers so far: how many there are, and the extreme ones.
+/// Skews of the matched packet numbers so far: how many there are, and the extreme ones.
 #[derive(Clone, Copy, Debug)]
 pub struct Matches {
-    /// The matched numbers.
+    /// Number of matched packet numbers.
     pub matched: u64,
-    /// The least skew, if a number is matched.
+    /// Least skew, if a packet number is matched.
     pub least: Option<Extreme>,
-    /// The greatest skew, if a number is matched.
+    /// Greatest skew, if a packet number is matched.
     pub greatest: Option<Extreme>,
 }
 
 impl Matches {
     ghost use Rattle.path_skew.specs.Holds.{HoldsSkews};
 
-    /// No number is matched.
+    /// Returns the skews before any packet number is matched.
     pub fn new() -> Matches
         ensures none { result.matched ≡ 0 }
         ensures least { result.least ≡ None }
@@ -35,13 +35,13 @@ impl Matches {
         }
     }
 
-    /// Takes one more number, by its first packets in the two flows.
+    /// Adds one more packet number, by its first packets in both flows.
     #[inline(always)]
     pub fn put(&mut self, first: Arrival, second: Arrival)
         requires { self.old.matched < 2 ^ 62 }
         ensures count { self.new.matched ≡ self.old.matched + 1 }
 
-        // Wherever the skew stands among the others.
+        // For any position of the skew among the others.
         ensures holds { (before after : List Extreme) → HoldsSkews self.old (before ++ after)
             → HoldsSkews self.new (before ++ record {
               skew = pos second.at -ℤ pos first.at;
@@ -56,7 +56,7 @@ impl Matches {
     }
 }
 
-/// The skew of a number, by its first packets in the two flows.
+/// Returns the skew of a packet number, by its first packets in both flows.
 #[inline(always)]
 fn extreme_of(first: Arrival, second: Arrival) -> Extreme
     ensures { result ≡ record {
@@ -72,7 +72,7 @@ fn extreme_of(first: Arrival, second: Arrival) -> Extreme
     }
 }
 
-/// Whether an extreme comes after another of equal skew, by their records.
+/// Returns whether an extreme comes after another of equal skew, by their packet records.
 #[inline(always)]
 fn is_later(extreme: &Extreme, other: &Extreme) -> bool
     ensures { result ≡ is_gt (record_cmp extreme.now other.now) }
@@ -81,7 +81,7 @@ fn is_later(extreme: &Extreme, other: &Extreme) -> bool
         || extreme.first_rec == other.first_rec && extreme.second_rec > other.second_rec
 }
 
-/// Whether an extreme comes after another in the order in which the least skew comes first.
+/// Returns whether an extreme comes after another in the order that begins with the least skew.
 #[inline(always)]
 fn is_above(extreme: &Extreme, other: &Extreme) -> bool
     ensures { result ≡ is_gt (rising extreme.now other.now) }
@@ -89,7 +89,7 @@ fn is_above(extreme: &Extreme, other: &Extreme) -> bool
     extreme.skew > other.skew || extreme.skew == other.skew && is_later(extreme, other)
 }
 
-/// Whether an extreme comes after another in the order in which the greatest skew comes first.
+/// Returns whether an extreme comes after another in the order that begins with the greatest skew.
 #[inline(always)]
 fn is_below(extreme: &Extreme, other: &Extreme) -> bool
     ensures { result ≡ is_gt (falling extreme.now other.now) }
@@ -97,7 +97,7 @@ fn is_below(extreme: &Extreme, other: &Extreme) -> bool
     extreme.skew < other.skew || extreme.skew == other.skew && is_later(extreme, other)
 }
 
-/// Keeps the least skew of one more and those before, and of equal ones that of the least record.
+/// Keeps the least skew. Of equal skews, the one with the lowest packet records stays.
 #[inline(always)]
 fn keep_least(extreme: Extreme, least: &mut Option<Extreme>)
     ensures { least.new ≡ Some (earlier_of rising extreme least.old) }
@@ -110,7 +110,7 @@ fn keep_least(extreme: Extreme, least: &mut Option<Extreme>)
     *least = Some(extreme);
 }
 
-/// Keeps the greatest skew of one more and those before, and of equal ones that of the least record.
+/// Keeps the greatest skew. Of equal skews, the one with the lowest packet records stays.
 #[inline(always)]
 fn keep_greatest(extreme: Extreme, greatest: &mut Option<Extreme>)
     ensures { greatest.new ≡ Some (earlier_of falling extreme greatest.old) }

@@ -1,4 +1,4 @@
-//! What is kept of the packet numbers of two flows.
+//! The packet numbers of two flows, and the packets kept for them.
 
 ghost use Rattle.std.specs.Prelude.{◌≡◌, ◌≢◌, ◌<◌, ℕ, None, Some, false, true, length, IfOk, OnOk};
 ghost use Rattle.path_skew.specs.Slots.{arrival_at};
@@ -11,37 +11,39 @@ use crate::bits::{has, with};
 use crate::directory::Directory;
 use std::alloc::{AllocError as OutOfMemory, Global};
 
-/// Which of the two flows.
+/// One of the two flows.
 #[derive(Clone, Copy, Debug)]
 pub enum Side {
+    /// The first flow.
     First,
+    /// The second flow.
     Second,
 }
 
-/// What a packet finds of its number.
+/// Result of looking up the packet number of a packet.
 #[derive(Clone, Copy, Debug)]
 pub enum Found {
-    /// Its own flow had the number.
+    /// Its own flow had the number before.
     Again,
-    /// Its own flow had it not. This is the other flow's first packet of it, where that had it.
+    /// Its own flow didn't have the number before. The value is the other flow's first packet with it, if any.
     Opens(Option<Arrival>),
 }
 
-/// 32 numbers that follow each other.
+/// 32 consecutive packet numbers.
 #[derive(Drop)]
 pub struct Page {
-    /// A bit for each number that the first flow had, from the lowest on.
+    /// Bits of the packet numbers that the first flow had, from the lowest number on.
     first: u32,
-    /// A bit for each number that the second flow had, from the lowest on.
+    /// Bits of the packet numbers that the second flow had, from the lowest number on.
     second: u32,
-    /// The first packets of the numbers, each at the place of its number. One counts only while its number waits:
-    /// one of the flows had it, and the other had it not.
+    /// First packets of the packet numbers, each at the position of its number. A packet counts only while exactly one
+    /// of the flows had its number.
     arrivals: Arrivals,
 }
 
-/// Answers the other flow's arrival of the number at this place where that had it, and else keeps this.
+/// Returns the other flow's packet at this position if that flow had the number; else keeps this packet there.
 ///
-/// `Err` is want of memory.
+/// Returns `Err` if memory runs out.
 #[inline(always)]
 fn exchange(
     arrivals: &mut Arrivals,
@@ -65,9 +67,10 @@ fn exchange(
     Ok(None)
 }
 
-/// Takes a packet with the number at this place, where its own flow and the other had these.
+/// Takes a packet with the packet number at this position. `own` and `other` are the bits of its own flow and of the
+/// other.
 ///
-/// `Err` is want of memory.
+/// Returns `Err` if memory runs out.
 #[inline(always)]
 fn meet(
     own: &mut u32,
@@ -92,7 +95,7 @@ fn meet(
 impl Page {
     ghost use Rattle.path_skew.specs.Kept.{page_view};
 
-    /// No number of either flow, and these arrivals.
+    /// Returns a page without packet numbers, and with these packets.
     fn new(arrivals: Arrivals) -> Page
         ensures { (side : Side) (place : ℕ) → (page_view side (Some result)).own place ≡ false }
     {
@@ -103,7 +106,7 @@ impl Page {
         }
     }
 
-    /// Forgets all arrivals where this found one, and no number waits for another any more.
+    /// Frees all kept packets if `found` is a match and both flows had the same numbers of the page.
     #[inline(always)]
     fn release(&mut self, found: Found)
         ensures same { (side : Side) → IsSame (page_view side (Some self.old)) (page_view side (Some self.new)) }
@@ -115,9 +118,9 @@ impl Page {
         }
     }
 
-    /// Takes a packet of this side with the number at this place.
+    /// Takes a packet of this flow with the packet number at this position.
     ///
-    /// `Err` is want of memory.
+    /// Returns `Err` if memory runs out.
     #[inline(always)]
     fn take(
         &mut self,
@@ -150,9 +153,10 @@ impl Page {
         }
     }
 
-    /// Takes a packet of this side with the number at this place. Where none waits after it, all arrivals are let go.
+    /// Takes a packet of this flow with the packet number at this position, and frees the kept packets if no number
+    /// then waits for the other flow.
     ///
-    /// `Err` is want of memory.
+    /// Returns `Err` if memory runs out.
     #[inline(always)]
     fn meet(
         &mut self,
@@ -170,18 +174,18 @@ impl Page {
         Ok(found)
     }
 
-    /// Whether each number waits.
+    /// Returns whether each packet number of the page came in exactly one of the flows.
     fn is_waiting(&self) -> bool {
         self.first ^ self.second == u32::MAX
     }
 }
 
-/// The numbers of two flows, on pages.
+/// Packet numbers of two flows, on pages.
 #[derive(Drop)]
 pub struct Pages {
-    /// Where each page stands, by the high part of its numbers: a number divided by how many stand on a page.
+    /// Positions of the pages, by page number: a packet number divided by the numbers per page.
     directory: Directory,
-    /// The pages, in the order in which they were opened.
+    /// Pages, in the order in which they were opened.
     pages: Vec<Page>,
     alloc: Global,
     ghost listed: { length (pages_of directory) ≡ length pages.items },
@@ -190,7 +194,7 @@ pub struct Pages {
 impl Pages {
     ghost use Rattle.path_skew.specs.Kept.{HasPage, view};
 
-    /// No number of either flow.
+    /// Returns the pages of two flows without packets.
     pub fn new(alloc: Global) -> Pages
         ensures none { (side : Side) (number : ℕ) → (view side result).own number ≡ false }
     {
@@ -201,14 +205,14 @@ impl Pages {
         }
     }
 
-    /// Whether a page beside this one stands at this place.
+    /// Returns whether the page at this position is a neighbour of page number `page`.
     fn is_beside(&self, place: usize, page: u32) -> bool {
         self.directory.is_at(place, page.wrapping_sub(1))
             || self.directory.is_at(place, page.wrapping_add(1))
     }
 
-    /// Whether a flow that goes on to this page from the one beside it, at the place `near`, is ahead of the other
-    /// flow by all numbers of that.
+    /// Returns whether a flow that goes on to page number `page` comes from the neighbour page at position `near`, and
+    /// exactly one flow had each number of that.
     fn is_ahead(&self, near: usize, page: u32) -> bool {
         match self.pages.get(near) {
             Some(last) => last.is_waiting() && self.is_beside(near, page),
@@ -216,10 +220,10 @@ impl Pages {
         }
     }
 
-    /// Leaves the page at the place `near` for this one, and answers its place. A page that is opened has room for
-    /// the arrivals of all its numbers where the flow is ahead.
+    /// Goes on from the page at position `near` to page number `page`, and returns its position. A page that is opened
+    /// has room for packets at all positions if the flow is ahead of the other by all numbers of the page before.
     ///
-    /// `Err` is want of memory.
+    /// Returns `Err` if memory runs out.
     #[cold]
     #[inline(never)]
     fn turn(&mut self, near: usize, page: u32) -> Result<usize, OutOfMemory>
@@ -243,9 +247,9 @@ impl Pages {
         Ok(place)
     }
 
-    /// Comes to the page of a number, which is looked for first at the place `near`. That becomes its own.
+    /// Goes to page number `page`, which is looked for first at position `near`, and sets `near` to its position.
     ///
-    /// `Err` is want of memory.
+    /// Returns `Err` if memory runs out.
     #[inline(always)]
     fn come_to(&mut self, near: &mut usize, page: u32) -> Result<(), OutOfMemory>
         ensures at { OnOk result (HasPage self.new page near.new) }
@@ -257,10 +261,10 @@ impl Pages {
         Ok(())
     }
 
-    /// Takes a packet of this side with this number. The page of the number is looked for first at the
-    /// place `near`, which becomes its own.
+    /// Takes a packet of this flow with this packet number. The number's page is looked for first at position `near`,
+    /// which is set to its position.
     ///
-    /// `Err` is want of memory.
+    /// Returns `Err` if memory runs out.
     #[inline(always)]
     pub fn meet(
         &mut self,

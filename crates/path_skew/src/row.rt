@@ -1,31 +1,31 @@
-//! What is told of two flows.
+//! The result for two flows.
 
-/// The skew of one packet number, and the records of its first packets in the two flows.
+/// Skew of one packet number, with the packet records of its first packets in both flows.
 #[derive(Clone, Copy, Debug, PartialEq, Eq)]
 pub struct Extreme {
-    /// The stamp in the second flow less that in the first, in nanoseconds.
+    /// Capture timestamp in the second flow less that in the first, in nanoseconds.
     pub skew: i64,
-    /// The record in the first flow, counted from 1.
+    /// Packet record in the first flow, counted from 1.
     pub first_rec: u64,
-    /// The record in the second flow, counted from 1.
+    /// Packet record in the second flow, counted from 1.
     pub second_rec: u64,
 }
 
-/// How two flows match, packet number by packet number.
+/// Comparison of two flows, packet number by packet number.
 #[derive(Clone, Copy, Debug, PartialEq, Eq)]
 pub struct SkewRow {
-    /// The numbers that stand in both flows.
+    /// Packet numbers in both flows.
     pub matched: u64,
-    /// The numbers that stand in the first flow alone.
+    /// Packet numbers in the first flow only.
     pub first_only: u64,
-    /// The numbers that stand in the second flow alone.
+    /// Packet numbers in the second flow only.
     pub second_only: u64,
-    /// The packets of both flows whose number stands earlier in their own flow.
+    /// Packets of both flows with a packet number that came before in their own flow.
     pub repeated: u64,
-    /// The packets of both flows that could not be read.
+    /// Packets of both flows that couldn't be parsed.
     pub unread: u64,
-    /// The least skew of a matched number, and `None` where nothing is matched.
+    /// Least skew of a matched packet number; `None` if none is matched.
     pub least: Option<Extreme>,
-    /// The greatest skew of a matched number, and `None` where nothing is matched.
+    /// Greatest skew of a matched packet number; `None` if none is matched.
     pub greatest: Option<Extreme>,
 }

@@ -13,19 +13,19 @@ use crate::row::SkewRow;
 use std::alloc::{AllocError as OutOfMemory, Global};
 use timing_base::{FlowPacket, PacketFault, Rtp};
 
-/// Two flows that carry the same packets by two paths. It is given the packets of each flow in order,
-/// and those of the two flows in any order among each other.
+/// Two flows that carry the same packets on two paths. The packets of each flow are given in order; those of the two
+/// flows may be interleaved in any way.
 #[derive(Drop)]
 pub struct Skew {
-    /// What is counted of the first flow.
+    /// Counts of the first flow.
     first: Flow,
-    /// What is counted of the second flow.
+    /// Counts of the second flow.
     second: Flow,
-    /// The numbers of both.
+    /// Packet numbers of both flows.
     pages: Pages,
-    /// The numbers that came of both.
+    /// Skews of the packet numbers that both flows had.
     matches: Matches,
-    /// Memory was refused.
+    /// Whether memory ran out.
     spent: bool,
     ghost few_first: { count_given first ≤ 2 ^ 41 },
     ghost few_second: { count_given second ≤ 2 ^ 41 },
@@ -35,7 +35,7 @@ pub struct Skew {
 impl Skew {
     ghost use Rattle.path_skew.specs.Stands.{Gives, IsSpent, StandsFor, count_first, count_second};
 
-    /// No packet of either flow.
+    /// Returns two flows without packets.
     pub fn new(alloc: Global) -> Skew
         ensures first { count_first result ≡ 0 }
         ensures second { count_second result ≡ 0 }
@@ -50,16 +50,16 @@ impl Skew {
         }
     }
 
-    /// Takes the next packet of the first flow.
+    /// Takes the next packet of the first flow. Its capture timestamp is in nanoseconds.
     ///
-    /// `Err` is want of memory. It comes from then on for the packets of both flows, and what
-    /// [`Skew::finish`] then answers is not of these flows.
+    /// Returns `Err` if memory runs out. Every later call then returns `Err` too, for both flows, and [`Skew::finish`]
+    /// doesn't return the result for these flows.
     #[inline(always)]
     pub fn first(&mut self, packet: FlowPacket) -> Result<(), OutOfMemory>
         requires in_time { packet.at < 2 ^ 62 }
         requires few { count_first self.old < 2 ^ 41 }
 
-        // Whatever flows were given before, the first has this packet more.
+        // The first flow then has this packet too.
         ensures stands { (first second : List FlowPacket) → StandsFor self.old first second
             → OnOk result (StandsFor self.new (first ++ packet ∷ []) second) }
 
@@ -81,13 +81,13 @@ impl Skew {
         Ok(())
     }
 
-    /// Takes the next packet of the second flow, as [`Skew::first`] does of the first.
+    /// Takes the next packet of the second flow, as [`Skew::first`] does for the first.
     #[inline(always)]
     pub fn second(&mut self, packet: FlowPacket) -> Result<(), OutOfMemory>
         requires in_time { packet.at < 2 ^ 62 }
         requires few { count_second self.old < 2 ^ 41 }
 
-        // Whatever flows were given before, the second has this packet more.
+        // The second flow then has this packet too.
         ensures stands { (first second : List FlowPacket) → StandsFor self.old first second
             → OnOk result (StandsFor self.new first (second ++ packet ∷ [])) }
 
@@ -109,7 +109,7 @@ impl Skew {
         Ok(())
     }
 
-    /// The row of the two flows, where they end here.
+    /// Ends both flows, and returns the result.
     pub fn finish(self) -> SkewRow
         ensures { (first second : List FlowPacket) → StandsFor self first second
             → result ≡ skew first second }
@@ -134,10 +134,10 @@ impl Skew {
 ghost use Rattle.path_skew.specs.Kept.{view};
 ghost use Rattle.path_skew.specs.Step.{Comes, Steps};
 
-/// Takes a packet of one side, and answers the other flow's first packet of its number where this was
-/// read and is the first of its own flow.
+/// Takes a packet of one flow. If it was parsed and is the first with its packet number in this flow, returns the other
+/// flow's first packet with that number, if any.
 ///
-/// `Err` is want of memory: the packet is not counted, and the two flows are spent from then on.
+/// Returns `Err` if memory runs out: the packet isn't counted, and every later call returns `Err` too.
 #[inline(always)]
 fn take(
     pages: &mut Pages,
@@ -171,10 +171,10 @@ fn take(
     outcome
 }
 
-/// Takes a packet with this number of one side, and answers the other flow's first packet of the number
-/// where this is the first of its own flow.
+/// Takes a packet with this packet number of one flow. If it is the first with the number in this flow, returns the
+/// other flow's first packet with the number, if any.
 ///
-/// `Err` is want of memory: the packet is not counted.
+/// Returns `Err` if memory runs out: the packet isn't counted.
 #[inline(always)]
 fn take_read(
     pages: &mut Pages,

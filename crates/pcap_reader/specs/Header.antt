@@ -1,8 +1,8 @@
--- The file header of a classic capture: 24 bytes, of which the magic, the version and the link type
--- count. Places are bytes from the header's start.
--- From pcap-savefile(5): the four magics, the places and sizes of the fields, and that the link
--- type is the low 16 bits of its field.
--- This project's profile: version 2.4 and Ethernet alone, and which of several faults is the first.
+-- The file header of a classic pcap file: 24 bytes, of which the magic number, the version and the link type matter.
+-- Places are bytes from the start of the header.
+-- From pcap-savefile(5): the four magic numbers, the places and sizes of the fields, and that the link type is the
+-- low 16 bits of its field.
+-- This project's profile: only version 2.4 and Ethernet, and the order of the faults.
 use Rattle.std.specs.Prelude.{ℕ, ◌^◌, ◌%◌, ◌==◌, nat_lt, if◌then◌else◌, List, length, drop, Option, Some, None, Result}
 use Rattle.std.specs.Prelude.{Ok, Err}
 use Rattle.byteorder.specs.Endian.{big_number, little_number}
@@ -19,17 +19,17 @@ abbrev pub number : Order → ℕ → List ℕ → ℕ
 number Big n bytes = big_number n bytes
 number Little n bytes = little_number n bytes
 
--- how many units of a fraction make a second
+-- the number of these units in a second
 abbrev pub per_second : Fraction → ℕ
 per_second Micros = 10 ^ 6
 per_second Nanos = 10 ^ 9
 
--- how many nanoseconds one unit is
+-- the nanoseconds of one unit
 abbrev pub nanos : Fraction → ℕ
 nanos Micros = 1000
 nanos Nanos = 1
 
--- what the first four bytes say, read with the highest first
+-- the layout of a magic number, given its four bytes as a big-endian number
 abbrev pub layout_of : ℕ → Option Layout
 layout_of magic =
     if magic == 0xa1b2c3d4 then Some (record { order = Big; fraction = Micros })
@@ -38,7 +38,7 @@ layout_of magic =
     else if magic == 0x4d3cb2a1 then Some (record { order = Little; fraction = Nanos })
     else None
 
--- the version is 2.4, and the low 16 bits of the link type are 1, Ethernet
+-- the header with this layout: its version is 2.4, and the low 16 bits of the link type are 1, Ethernet
 abbrev pub header_by : Option Layout → List ℕ → Result Layout PcapFault
 header_by None text = Err BadMagic
 header_by (Some layout) text =
@@ -48,7 +48,7 @@ header_by (Some layout) text =
     else Err BadVersion)
     else Err BadVersion
 
--- what a capture's header says of its records, or its first fault
+-- the layout that a capture's header gives, or its first fault
 abbrev pub header : List ℕ → Result Layout PcapFault
 header text =
     if nat_lt (length text) 24 then Err BadMagic

@@ -1,4 +1,4 @@
--- what is promised
+-- definitions that the crate's clauses cite
 pub mod Header
 pub mod Readers
 pub mod Records
@@ -6,9 +6,9 @@ pub mod Stages
 pub mod Taken
 pub mod Windows
 pub mod WrittenHeads
--- captures that are worked by hand
+-- captures for examples worked by hand
 pub mod Examples
--- these only serve proofs
+-- used in proofs only
 pub mod Finding
 pub mod Heads
 pub mod Runs

@@ -1,5 +1,5 @@
-//! What holds of the definition of a capture's records, for every text. Each function is a theorem:
-//! it does nothing, and its clause is proved.
+//! Theorems about the definition of a capture's packet records, for all contents, and examples
+//! worked by hand. Each function does nothing; its clauses are what is proved.
 
 ghost use Rattle.std.specs.Prelude.{◌≡◌, ◌≢◌, ◌^◌, ◌+◌, ◌*◌, ℕ, List, [], ◌∷◌, ◌++◌, take, drop, Ok, Err};
 ghost use Rattle.timing_base.specs.Captures.{Record};
@@ -9,13 +9,13 @@ ghost use Rattle.timing_base.specs.declared.capture.FileNote.TheVariants.{End, C
 ghost use Rattle.pcap_reader.specs.Records.{Records};
 ghost use Rattle.pcap_reader.specs.Examples.{little_micros, little_nanos, big_micros, big_nanos, little_record, big_record, changed, head, zero_bytes, one_byte, most_bytes, too_many_bytes, last_micro, million, last_nano, milliard};
 
-/// Each text has a list of records and a note of how they end.
+/// For any file contents there are a list of packet records and a note of how they end.
 pub fn some_list()
     ensures { (text : List ℕ) (most : ℕ)
         → (items : List Record) × (end : FileNote) × Records text most items end }
 {}
 
-/// It has no other.
+/// No file contents have two such lists or two such notes.
 pub fn only_list()
     ensures items { (text : List ℕ) (most : ℕ) (xs ys : List Record) (d e : FileNote)
         → Records text most xs d → Records text most ys e → xs ≡ ys }
@@ -23,13 +23,13 @@ pub fn only_list()
         → Records text most xs d → Records text most ys e → d ≡ e }
 {}
 
-/// No text ends by a failed read.
+/// The note is never a failed read.
 pub fn ends_by_itself()
     ensures { (text : List ℕ) (most : ℕ) (items : List Record) (note : FileNote)
         → Records text most items note → note ≢ Refused ReadFault }
 {}
 
-/// Worked by hand: whole captures, in all orders and units.
+/// Worked by hand: complete captures, of all byte orders and units.
 pub fn worked_whole()
     ensures none { Records little_nanos 24 [] End }
     ensures little_nanos { Records (little_nanos ++ little_record) 43
@@ -48,35 +48,35 @@ pub fn worked_whole()
     ensures last_nano { Records (little_nanos ++ (head last_nano one_byte ++ 7 ∷ [])) 41
         (record { number = 1; stamp = 3999999999; bytes = 7 ∷ [] } ∷ []) End }
 
-    // Of the link type, 0xf0000001 here, the low 16 bits alone count.
+    // Only the low 16 bits of the link type count, which is 0xf0000001 here.
     ensures high_link { Records (changed 23 0xf0 little_nanos) 24 [] End }
 {}
 
-/// Worked by hand: captures that are cut.
+/// Worked by hand: truncated captures.
 pub fn worked_cut()
     ensures in_head { Records (little_nanos ++ take 15 little_record) (2 ^ 40) [] (Cut 24) }
     ensures in_bytes { Records (little_nanos ++ (little_record ++ take 18 little_record)) (2 ^ 40)
         (record { number = 1; stamp = 3000000005; bytes = 7 ∷ 8 ∷ 9 ∷ [] } ∷ []) (Cut 43) }
 
-    // A record may have 262,144 captured bytes; here they are missing.
+    // A packet record may have 262,144 captured bytes. Here they are missing.
     ensures most_bytes { Records (little_nanos ++ head zero_bytes most_bytes) (24 + 16 + 262144) []
         (Cut 24) }
 {}
 
-/// Worked by hand: captures that are refused, each at the first of its faults.
+/// Worked by hand: invalid captures, each with its first fault.
 pub fn worked_refused()
     ensures short { Records (take 23 little_nanos) (2 ^ 40) [] (Refused BadMagic) }
     ensures magic { Records (drop 1 little_nanos ++ little_record) (2 ^ 40) [] (Refused BadMagic) }
     ensures major { Records (changed 4 0 little_nanos) (2 ^ 40) [] (Refused BadVersion) }
     ensures minor { Records (changed 6 3 little_nanos) (2 ^ 40) [] (Refused BadVersion) }
 
-    // Link types 101 and 257, of which the low byte is 1; and two faults at once.
+    // The link types 101 and 257; the low byte of the second is 1. Then two faults at once.
     ensures link { Records (changed 20 101 little_nanos) (2 ^ 40) [] (Refused BadLink) }
     ensures second_byte { Records (changed 21 1 little_nanos) (2 ^ 40) [] (Refused BadLink) }
     ensures version_and_link { Records (changed 6 3 (changed 20 101 little_nanos)) (2 ^ 40) []
         (Refused BadVersion) }
 
-    // A whole second in the fraction, alone and with 262,145 captured bytes, and those alone.
+    // The fraction is a whole second, alone and with 262,145 captured bytes, and those alone.
     ensures nanos { Records (little_nanos ++ head milliard one_byte) 24 [] (Refused (BadStamp 1)) }
     ensures micros { Records (little_micros ++ head million one_byte) (2 ^ 40) []
         (Refused (BadStamp 1)) }
@@ -86,7 +86,8 @@ pub fn worked_refused()
         (record { number = 1; stamp = 3000000005; bytes = 7 ∷ 8 ∷ 9 ∷ [] } ∷ [])
         (Refused (BadLength 2)) }
 
-    // A record that ends at byte 43 is within a greatest length of 43, as above, and not of 42.
+    // A record that ends at byte 43 is within a greatest length of 43, as above, and exceeds one of
+    // 42.
     ensures long { Records (little_nanos ++ little_record) 42 [] (Refused TooLong) }
     ensures long_before_cut { Records (little_nanos ++ take 18 little_record) 42 []
         (Refused TooLong) }

@@ -1,4 +1,4 @@
-//! The file header and the head of a record, and how the numbers of a capture are laid out.
+//! The file header, the header of a packet record, and the layout of numbers in a capture.
 
 ghost use Rattle.std.specs.Prelude.{◌≡◌, ◌≤◌, ◌<◌, ◌+◌, ◌*◌, ◌^◌, ℕ, IfErr, IfOk, IfSome, None, Some, length, drop};
 ghost use Rattle.pcap_reader.specs.Header.{number, layout_of, header, per_second, nanos};
@@ -7,32 +7,38 @@ use crate::stage::Head;
 use byteorder::{BigEndian, ByteOrder, LittleEndian};
 use timing_base::PcapFault;
 
-/// The most bytes of a record that are captured.
+/// The most bytes that are captured of a packet.
 const MOST_CAPTURED: usize = 262_144;
 
-/// The order of the bytes of a number.
+/// The byte order of numbers.
 #[derive(Clone, Copy, Debug)]
 pub enum Order {
+    /// The most significant byte is first (big-endian).
     Big,
+    /// The least significant byte is first (little-endian).
     Little,
 }
 
-/// What the fraction of a stamp counts.
+/// The unit of the fractional part of a capture timestamp.
 #[derive(Clone, Copy, Debug)]
 pub enum Fraction {
+    /// Microseconds.
     Micros,
+    /// Nanoseconds.
     Nanos,
 }
 
-/// What the magic of a capture says of its numbers.
+/// The layout of numbers, as the magic number gives it.
 #[derive(Clone, Copy, Debug)]
 pub struct Layout {
+    /// The byte order.
     pub order: Order,
+    /// The unit of fractions of a second.
     pub fraction: Fraction,
 }
 
 impl Order {
-    /// The number of 32 bits at a place.
+    /// Returns the 32-bit number at a place, in bytes from the start.
     pub fn read_u32(self, bytes: &[u8], place: usize) -> u32
         requires { place + 4 ≤ length bytes.now }
         ensures { result ≡ number self 4 (drop place bytes.now) }
@@ -43,7 +49,7 @@ impl Order {
         }
     }
 
-    /// The number of 16 bits at a place.
+    /// Returns the 16-bit number at a place, in bytes from the start.
     fn read_u16(self, bytes: &[u8], place: usize) -> u16
         requires { place + 2 ≤ length bytes.now }
         ensures { result ≡ number self 2 (drop place bytes.now) }
@@ -56,7 +62,7 @@ impl Order {
 }
 
 impl Fraction {
-    /// How many of them make a second.
+    /// Returns how many of these units make a second.
     pub fn per_second(self) -> u32
         ensures { result ≡ per_second self }
     {
@@ -66,7 +72,7 @@ impl Fraction {
         }
     }
 
-    /// So many of them, fewer than a second, in nanoseconds.
+    /// Converts a fraction of a second in this unit to nanoseconds.
     pub fn to_nanos(self, count: u32) -> u32
         requires { count < per_second self }
         ensures value { result ≡ count * nanos self }
@@ -84,7 +90,7 @@ impl Layout {
     ghost use Rattle.pcap_reader.specs.Heads.{SaysHead, SaysStamp};
     ghost use Rattle.pcap_reader.specs.Records.{OnReadFault, captured, fraction, note_by};
 
-    /// The layout that a magic stands for, its four bytes being read as big-endian.
+    /// Returns the layout of a magic number, given its four bytes as a big-endian number.
     fn of_magic(magic: u32) -> Option<Layout>
         ensures { result ≡ layout_of magic }
     {
@@ -98,7 +104,8 @@ impl Layout {
         Some(Layout { order, fraction })
     }
 
-    /// Reads the 24 bytes of a file header. The first fault wins: magic, version, link type.
+    /// Reads the 24 bytes of a file header. Of several faults the first in this order is returned:
+    /// magic number, version, link type.
     pub fn read_header(bytes: &[u8]) -> Result<Layout, PcapFault>
         requires { 24 ≤ length bytes.now }
         ensures { result ≡ header bytes.now }
@@ -117,8 +124,8 @@ impl Layout {
         Ok(layout)
     }
 
-    /// Reads the head of the record of this number: its first 16 bytes. The first fault wins: the fraction, the
-    /// captured length.
+    /// Reads the header of the packet record of this number: its first 16 bytes. Of two faults the
+    /// first in this order is returned: the fraction of the capture timestamp, the captured length.
     #[inline(always)]
     pub fn read_head(self, bytes: &[u8], rec: u64) -> Result<Head, PcapFault>
         requires { 16 ≤ length bytes.now }
@@ -137,8 +144,9 @@ impl Layout {
         Ok(head)
     }
 
-    /// Reads the head of a record, where its fraction has no fault. Whether too much was captured isn't asked for: the
-    /// bytes that are held can't have that much.
+    /// Reads the header of a packet record, and returns `None` if the fraction of its capture
+    /// timestamp is a second or more. Doesn't check the captured length, because the buffer can't
+    /// hold more than is allowed.
     #[inline(always)]
     pub fn read_stamped(self, bytes: &[u8]) -> Option<Head>
         requires { 16 ≤ length bytes.now }

@@ -1,16 +1,17 @@
-//! Where the pages of memory begin in a buffer.
+//! The alignment of reads to memory pages.
 
 ghost use Rattle.std.specs.Prelude.{◌≡◌, ◌≤◌, ◌+◌, ◌%◌};
 
-/// The bytes of a page.
+/// The size of a page, in bytes.
 const PAGE: usize = 4096;
 
-/// The place of the first page in a large buffer, which the C library lets begin 16 bytes behind the start of
-/// one.
+/// The place of the first page boundary in a large buffer: the C library begins such a buffer 16
+/// bytes after a page boundary.
 const FIRST: usize = 4080;
 
-/// The place below 4,096 in a large buffer from which on so many bytes end where a page does. A read behind them
-/// then writes whole pages, which is faster: a tenth of the time that a copy of full frames takes.
+/// Returns the place below 4,096 in a large buffer at which this many bytes have to begin to end at
+/// a page boundary. A read behind them then writes whole pages, which is faster: it saves a tenth
+/// of the time that copying full packets takes.
 pub fn before_page(held: usize) -> usize
     ensures few { result ≤ 4095 }
     ensures ends { (result + held) % 4096 ≡ 4080 }

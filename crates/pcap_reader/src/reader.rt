@@ -1,4 +1,4 @@
-//! The reader, which lends one frame after the other.
+//! The reader, which lends one packet record after the other.
 
 ghost use Rattle.std.specs.Prelude.{◌≡◌, ◌≤◌, ◌^◌, List, ℕ, Some, None, Ok, Err, IfOk, IfErr, IfSome, MatchResult, drop};
 ghost use Rattle.timing_base.specs.Captures.{Record};
@@ -12,22 +12,22 @@ use std::alloc::Global;
 use timing_base::{FileNote, PcapFault};
 use timing_outside::Source;
 
-/// The greatest length of a capture that is read, in bytes.
+/// The greatest length of a capture that any command reads, in bytes.
 pub const MOST: u64 = 1 << 40;
 
-/// What a reader comes to next.
+/// The next packet record, or the end of the capture.
 #[derive(Clone, Copy, Debug)]
 pub enum Step<'a> {
-    /// The captured bytes of the next record, lent from the reader's buffer, and its stamp, in
-    /// nanoseconds since 1970-01-01 00:00:00.
+    /// The captured bytes of the next packet record, lent from the reader's buffer, and its capture
+    /// timestamp, in nanoseconds since 1970-01-01 00:00:00.
     Frame { at: u64, bytes: &'a [u8] },
-    /// The capture ends after a record.
+    /// The capture ends after a complete packet record.
     End,
-    /// The capture ends within the record that starts at this byte, counted from 0.
+    /// The capture ends within the packet record that starts at this byte, counted from 0.
     Cut { at: u64 },
 }
 
-/// The records of a source, through a buffer.
+/// A buffered reader of the packet records of a source.
 #[derive(Drop)]
 pub struct PcapReader<S: Source> {
     pub(crate) source: S,
@@ -41,9 +41,9 @@ impl<S: Source> PcapReader<S> {
     ghost use Rattle.pcap_reader.specs.Readers.{under, frame_count, most_of, taken_count, end_note, WillGive, Steps};
     ghost use Rattle.pcap_reader.specs.contracts.reader.PcapReader.{the_row};
 
-    /// A reader at the start of its source, for captures of at most `most` bytes. It takes the one
-    /// buffer of 331,792 bytes that the reader ever has, and reads nothing. `Err` is want of
-    /// memory, and hands the source back as it was.
+    /// Returns a reader at the start of its source, for captures of at most `most` bytes. Allocates
+    /// its only buffer, of 331,792 bytes, and reads nothing. If memory runs out, returns the
+    /// unchanged source as `Err`.
     pub fn start(alloc: Global, source: S, most: u64) -> Result<PcapReader<S>, S>
         requires least { 24 ≤ most }
         requires greatest { most ≤ 2 ^ 40 }
@@ -63,24 +63,24 @@ impl<S: Source> PcapReader<S> {
         }
     }
 
-    /// The next frame, or how the capture ends. The first of these that holds at a record's place
-    /// is the answer:
+    /// Returns the next packet record, or how the capture ends. At the place of a record, the first
+    /// of these that applies is the result:
     ///
-    /// - no byte stands there: `End`;
-    /// - fewer than the 16 bytes of a record's head do: `Cut`;
-    /// - the fraction of its stamp is a second or more: `BadStamp`;
+    /// - no byte is left: `End`;
+    /// - fewer than the 16 bytes of a record's header are left: `Cut`;
+    /// - the fraction of the capture timestamp is a second or more: `BadStamp`;
     /// - more than 262,144 bytes were captured: `BadLength`;
     /// - the record ends past the greatest length of a capture, `most`: `TooLong`;
-    /// - fewer bytes follow its head than were captured: `Cut`;
-    /// - else a frame.
+    /// - fewer bytes are left than were captured: `Cut`;
+    /// - otherwise a `Frame`.
     ///
-    /// Before the first record stands the file header, whose faults are, in this order, `BadMagic`
-    /// (also where it is not whole), `BadVersion` and `BadLink`. `ReadFault` is the answer,
-    /// whatever stands there, of a call in which a read of the source failed. After an end or a
-    /// fault the reader reads nothing more and answers the same again.
+    /// The faults of the file header, before the first record, are in this order `BadMagic` (also
+    /// if the header is incomplete), `BadVersion` and `BadLink`. If a read of the source fails, the
+    /// result is `ReadFault`, whatever is at this place. After an end or a fault the reader reads
+    /// nothing more, and each further call returns the same.
     #[inline(always)]
     pub fn next(&mut self) -> Result<Step<'_>, PcapFault>
-        // All that holds of the answer and of the reader behind it is a field of `Steps`.
+        // All guarantees about the result and the reader are the fields of `Steps`.
         ensures* after { sem 𝓛 (Rests (the_row S.row) self.entry
             (λ new. Steps S.left S.name S.faults self.old new result)) }
     {
@@ -95,15 +95,15 @@ impl<S: Source> PcapReader<S> {
         }
     }
 
-    /// How the records ended, where they have: what the last answer of `next` said, if it was no
-    /// frame.
+    /// Returns how the records ended, if they have: the last result of `next`, if that was no
+    /// packet record.
     pub fn note(&self) -> Option<FileNote>
         ensures note { result ≡ end_note self.now }
     {
         self.window.note()
     }
 
-    /// The source, with what it has left.
+    /// Returns the source, with the bytes it has left.
     pub fn into_source(self) -> S
         ensures { result ≡ under self }
     {
@@ -121,8 +121,8 @@ impl<S: Source> PcapReader<S> {
     ghost use Rattle.pcap_reader.specs.Finding.{Holds, HeaderIs, FoundGives, FoundCounts, Moves, OnRose, Finds};
     ghost use Rattle.pcap_reader.specs.declared.stage.Stage.TheVariants as stage;
 
-    /// Holds so many bytes, and answers whether there are so many. It reads only where fewer are
-    /// held.
+    /// Makes sure that `need` bytes are buffered, and returns whether there are that many. Reads
+    /// only if fewer are buffered.
     #[inline]
     fn hold(&mut self, need: usize) -> Result<bool, FileNote>
         requires need { need ≤ 262160 }
@@ -138,7 +138,8 @@ impl<S: Source> PcapReader<S> {
         }
     }
 
-    /// Moves what is held to the front of the buffer, and reads until so many bytes are held.
+    /// Moves the buffered bytes to the start of the buffer, and reads until `need` bytes are
+    /// buffered.
     #[cold]
     fn fill(&mut self, need: usize) -> Result<bool, FileNote>
         requires need { need ≤ 262160 }
@@ -150,7 +151,7 @@ impl<S: Source> PcapReader<S> {
             .map_err(|_| FileNote::Refused(PcapFault::ReadFault))
     }
 
-    /// Reads the file header and lets it go.
+    /// Reads and consumes the file header.
     fn read_header(&mut self) -> Result<Layout, FileNote>
         requires first { self.old.window.place ≡ 0 }
         ensures header { (text : List ℕ) → ahead S.left self.old ≡ Some text
@@ -176,7 +177,7 @@ impl<S: Source> PcapReader<S> {
         }
     }
 
-    /// Reads the next record and lets it go.
+    /// Reads and consumes the next packet record.
     fn read_record(&mut self, layout: Layout) -> Result<Head, FileNote>
         requires begun { self.old.window.stage ≡ stage.Records layout }
         ensures gives { (text : List ℕ) (items : List Record) (note : _)
@@ -208,11 +209,12 @@ impl<S: Source> PcapReader<S> {
         Ok(head)
     }
 
-    /// Reads on to the end of the next record, or to how the capture ends.
+    /// Reads and consumes the next packet record, after the file header if that is still ahead, or
+    /// returns how the capture ends.
     fn advance(&mut self) -> Result<Head, FileNote>
         ensures finds { Finds S.left S.name S.faults self.old self.new result }
         ensures goes_on { IfOk result (λ _. end_note self.new ≡ None) }
-        // After an end nothing is taken, and that is the answer.
+        // After an end nothing is read, and that end is returned again.
         ensures same { (note : _) → end_note self.old ≡ Some note → self.new ≡ self.old }
         ensures again { (note : _) → end_note self.old ≡ Some note → result ≡ Err note }
     {
@@ -226,7 +228,7 @@ impl<S: Source> PcapReader<S> {
         }
     }
 
-    /// The captured bytes of the record that was found last.
+    /// Returns the captured bytes of the packet record that was found last.
     #[inline(always)]
     pub(crate) fn frame(&self, head: Head) -> &[u8]
         requires { head.captured ≤ self.now.window.start }
@@ -235,7 +237,7 @@ impl<S: Source> PcapReader<S> {
         self.window.last(head.captured)
     }
 
-    /// Finds the next record, or says how all ended, and keeps that.
+    /// Finds the next packet record. If there is none, keeps and returns how the records end.
     pub(crate) fn find(&mut self) -> Result<Head, FileNote>
         ensures finds { Finds S.left S.name S.faults self.old self.new result }
         ensures tells { MatchResult result (λ _. end_note self.new ≡ None)

@@ -1,4 +1,4 @@
-//! The records of a capture, taken one after the other.
+//! The loop over the packet records of a capture.
 
 ghost use Rattle.std.specs.Prelude.{◌≡◌, ◌≢◌, ◌≤◌, ◌<◌, ◌+◌, ◌-◌, ◌*◌, ◌^◌, ℕ, List, None, Some, true, false, IfOk, IfErr, MatchOption, MatchResult, map, length};
 ghost use Rattle.timing_base.specs.Captures.{Record, raised};
@@ -15,17 +15,17 @@ use crate::taker::Taker;
 use timing_base::{FileNote, PcapFault};
 use timing_outside::Source;
 
-/// The records of a capture that were taken.
+/// The result of reading all packet records of a capture.
 #[derive(Clone, Copy, Debug, PartialEq, Eq)]
 pub struct Taken {
     /// How the records end, or that a read failed.
     pub note: FileNote,
-    /// How many they are, or where a read failed those before.
+    /// The number of records that were taken. If a read failed, these are the ones before it.
     pub records: u64,
 }
 
 impl Taken {
-    /// Whether a read failed before the records ended.
+    /// Returns whether a read failed before the records ended.
     #[inline]
     pub fn read_failed(&self) -> bool
         ensures failed { result ≡ true → self.now.note ≡ file_note.Refused fault.ReadFault }
@@ -38,8 +38,8 @@ impl Taken {
     }
 }
 
-/// Takes the next record, the number raised by `before`. Answers how the records ended, where there
-/// is no record more.
+/// Passes the next record to the taker, with its number raised by `before`. Returns how the records
+/// end if there is none, and `Err` if the taker stops.
 #[inline(always)]
 fn take_next<S: Source, T: Taker>(
     reader: &mut PcapReader<S>,
@@ -81,8 +81,9 @@ fn take_next<S: Source, T: Taker>(
     }
 }
 
-/// Takes the records that are held whole and have no fault, up to the first that isn't so, the number of each raised by
-/// `before`. It reads nothing.
+/// Passes the records that are completely in the buffer to the taker, with their numbers raised by
+/// `before`, up to the first that is incomplete or has a fault. Reads nothing. Returns `Err` if the
+/// taker stops.
 #[inline(always)]
 fn take_held<S: Source, T: Taker>(
     reader: &mut PcapReader<S>,
@@ -120,8 +121,9 @@ fn take_held<S: Source, T: Taker>(
     Ok(())
 }
 
-/// Takes all records of a reader that has answered none, the number of each raised by `before`, the
-/// records before this capture. They end, or a read of the source fails, or the taker stops (`Err`).
+/// Passes all packet records of a new reader to the taker. `before` is the number of records in the
+/// captures before this one, and is added to each record's number. Returns when the records end or
+/// a read of the source fails; returns `Err` if the taker stops.
 pub fn take_records<S: Source, T: Taker>(
     reader: &mut PcapReader<S>,
     before: u64,
@@ -133,14 +135,15 @@ pub fn take_records<S: Source, T: Taker>(
     requires before { before ≤ 2 ^ 41 }
     requires room { T.room (before + 1) (2 ^ 36) taker.old }
 
-    // What the reader had still to give says which records were taken, how they end, and at which the
-    // taker stopped.
+    // The records that the reader still had to give determine which were taken, how they end, and
+    // at which of them the taker stopped.
     ensures told { (items : List Record) (end : _) → WillGive S.left reader.old items end
         → MatchResult result
         (λ taken. HasTaken T.takes before taker.old taker.new taken.note taken.records items end)
         (λ stop. T.stops taker.old taker.new stop (map (raised before) items)) }
 
-    // Whatever the source tells, its records were taken and no others, and at one of them it stopped.
+    // If the contents of the source aren't known, it is still guaranteed that only its records were
+    // taken, and that the taker stopped at one of them.
     ensures fed { IfOk result (λ _. TakesFew T.takes (2 ^ 36) taker.old taker.new) }
     ensures stopped { IfErr result (λ stop. HasStopped T.stops taker.old taker.new stop) }
     ensures few { IfOk result (λ taken. taken.records ≤ 2 ^ 36) }

@@ -1,4 +1,4 @@
-//! Records that stand whole in bytes that are held, taken one after the other.
+//! Packet records that are completely in the buffer, taken one after the other.
 
 ghost use Rattle.std.specs.Prelude.{◌≡◌, ◌≤◌, ◌<◌, ◌+◌, ◌*◌, ◌^◌, ℕ, IfSome, length};
 ghost use Rattle.pcap_reader.specs.Heads.{IsWhole};
@@ -8,22 +8,24 @@ use crate::layout::{Fraction, Layout, Order};
 use crate::stage::Head;
 use crate::taker::Taker;
 
-/// The bytes of the head of a record.
+/// The size of a packet record's header, in bytes.
 const RECORD_HEAD: usize = 16;
 
-/// The bytes of the largest record, with its head.
+/// The size of the largest packet record with its header, in bytes.
 const MOST_HELD: usize = 262_160;
 
-/// Records that were taken, one behind the other.
+/// Consecutive packet records that were taken.
 #[derive(Clone, Copy, Debug)]
 pub struct Run {
+    /// The number of records.
     pub records: u64,
-    /// The bytes that they have, with their heads.
+    /// Their size with their headers, in bytes.
     pub size: usize,
 }
 
-/// The head of the record at the front of these bytes, where it has no fault and stands there whole. The fault is told
-/// once the reader comes to it. The bytes are too few for a record of which too much was captured.
+/// Returns the header of the packet record at the start of these bytes, if the record is complete
+/// and has no fault. A fault is reported later, when the reader comes to it. The bytes are too few
+/// for a record of more than 262,144 captured bytes.
 #[inline(always)]
 fn whole_head(layout: Layout, bytes: &[u8]) -> Option<Head>
     requires { length bytes.now ≤ 262160 }
@@ -39,8 +41,8 @@ fn whole_head(layout: Layout, bytes: &[u8]) -> Option<Head>
     Some(head)
 }
 
-/// Takes the records of one layout, as [`take_run`] says, from bytes that are too few for a record with a fault in its
-/// length.
+/// Passes packet records of one layout to the taker, as [`take_run`] does. The bytes are too few
+/// for a record of more than 262,144 captured bytes.
 #[inline(always)]
 fn take_laid_out<T: Taker>(
     layout: Layout,
@@ -69,7 +71,7 @@ fn take_laid_out<T: Taker>(
     Ok(run)
 }
 
-/// Takes the records at the front of these bytes, which aren't many, as [`take_run`] says.
+/// Passes packet records to the taker, as [`take_run`] does, from at most 262,160 bytes.
 #[inline(always)]
 fn take_few<T: Taker>(
     layout: Layout,
@@ -84,7 +86,7 @@ fn take_few<T: Taker>(
     requires room { (count : ℕ) → 16 * count ≤ length bytes.now → T.room (before + number) count taker.old }
     ensures { TakesRun T.takes T.stops T.room layout bytes.now before number taker.old taker.new result }
 {
-    // The loop is compiled once for each layout, so that no record asks for it.
+    // The loop is compiled once for each layout, so that it needn't be checked for each record.
     match (layout.order, layout.fraction) {
         (Order::Little, Fraction::Micros) => {
             let layout = Layout {
@@ -117,8 +119,9 @@ fn take_few<T: Taker>(
     }
 }
 
-/// Takes the records that stand whole at the front of these bytes and have no fault, up to the first that
-/// isn't so, or up to the most bytes that a record has. The first has this number, and each number is raised by `before`.
+/// Passes the packet records at the start of the first 262,160 of these bytes to the taker, up to
+/// the first that is incomplete or has a fault. The first record has this `number`, and `before` is
+/// added to each number. Returns `Err` if the taker stops.
 #[inline(always)]
 pub fn take_run<T: Taker>(
     layout: Layout,

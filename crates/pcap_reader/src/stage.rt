@@ -1,4 +1,4 @@
-//! How far a reader has come, and what it found.
+//! How far a reader has come, and the header of a packet record.
 
 use crate::layout::Layout;
 use timing_base::FileNote;
@@ -6,18 +6,19 @@ use timing_base::FileNote;
 /// How far a reader has come.
 #[derive(Clone, Copy, Debug)]
 pub enum Stage {
-    /// Before the file header.
+    /// The file header wasn't read yet.
     Header,
-    /// At a record.
+    /// The file header was read; the next is a packet record.
     Records(Layout),
-    /// All was answered, and the records ended so.
+    /// The records have ended in this way.
     Ended(FileNote),
 }
 
-/// What the head of a record says: the stamp, in nanoseconds since 1970-01-01 00:00:00, and how
-/// many bytes were captured.
+/// The header of a packet record.
 #[derive(Clone, Copy, Debug)]
 pub struct Head {
+    /// The capture timestamp, in nanoseconds since 1970-01-01 00:00:00.
     pub at: u64,
+    /// The captured length, in bytes.
     pub captured: usize,
 }

@@ -1,24 +1,25 @@
-//! What takes the records of a capture.
+//! Takers, which packet records are passed to.
 
 ghost use Rattle.std.specs.Prelude.{◌≤◌, ◌+◌, ◌++◌, ◌∷◌, [], ℕ, List, IfErr, IfOk, length};
 ghost use Rattle.timing_base.specs.Captures.{IsStamp, Record};
 
-/// What takes the records of a capture, one after the other, and may stop before they end.
+/// A consumer of the packet records of a capture, in order. It may stop before they end.
 pub trait Taker {
-    /// Why it stops.
+    /// The reason why it stops.
     type Stop;
 
-    /// By these records and no others the first became the second.
+    /// These records and no others changed the first into the second.
     ghost takes: { Self → Self → List Record → Type 0 };
 
-    /// At the last of these records, whatever others follow it, the first stopped for this cause and
-    /// is now the second.
+    /// The first stopped for this reason at one of these records, whatever follows that one, and is
+    /// now the second.
     ghost stops: { Self → Self → Self.Stop → List Record → Type 0 };
 
-    /// It has room for so many records more, of which the first has this number.
+    /// It has room for this many further records, of which the first has this number.
     ghost room: { (number count : ℕ) → Self → Type 0 };
 
-    /// Takes the next record: its number from 1, its stamp in nanoseconds, and its frame.
+    /// Takes the next packet record: its number, counted from 1, its capture timestamp in
+    /// nanoseconds, and its captured bytes. Returns `Err` if it stops.
     fn take(&mut self, number: u64, at: u64, frame: &[u8]) -> Result<(), Self::Stop>
         requires stamp { IsStamp at }
         requires short { length frame.now ≤ 262144 }
@@ -30,22 +31,22 @@ pub trait Taker {
         ensures stops { IfErr result (λ stop. stops self.old self.new stop
             (record { number = number; stamp = at; bytes = frame.now } ∷ [])) };
 
-    /// No record changes nothing.
+    /// Without a record nothing changes.
     ghost none: { (x : Self) → takes x x [] };
 
-    /// Some records, and then others.
+    /// Two lists of records, one after the other, are taken as one list.
     ghost more: { (x y z : Self) (a b : List Record) → takes x y a → takes y z b
         → takes x z (a ++ b) };
 
-    /// Some records, and then others at which it stops.
+    /// Some records were taken, and it stopped at one of those after them.
     ghost ends: { (x y z : Self) (stop : Self.Stop) (a b : List Record) → takes x y a
         → stops y z stop b → stops x z stop (a ++ b) };
 
-    /// Where it stopped, what follows counts for nothing.
+    /// Records after the one at which it stopped have no effect.
     ghost halts: { (x y : Self) (stop : Self.Stop) (a b : List Record) → stops x y stop a
         → stops x y stop (a ++ b) };
 
-    /// Room for many records is room for few.
+    /// Room for many records is room for fewer.
     ghost less: { (number few many : ℕ) (x : Self) → few ≤ many → room number many x
         → room number few x };
 }

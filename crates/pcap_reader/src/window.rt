@@ -1,4 +1,4 @@
-//! The part of a capture that is held in the buffer.
+//! The part of a capture that is in the buffer.
 
 ghost use Rattle.pcap_reader.specs.Stages.{is_begun, stage_note};
 ghost use Rattle.pcap_reader.specs.declared.stage.Stage.TheVariants as stage;
@@ -11,25 +11,26 @@ use std::alloc::{AllocError, Global};
 use timing_base::{FileNote, PcapFault};
 use timing_outside::{Failed, Source};
 
-/// The capacity of the buffer: a page, a whole record of the greatest length, and then a whole read.
+/// The capacity of the buffer, in bytes: a page, the largest packet record, and a full read.
 const ROOM: usize = 331_792;
 
 /// The most bytes that one read asks for.
 const READ: u64 = 65_536;
 
-/// The bytes of a capture that are held, from `start` to `filled` of a buffer, and where they stand
-/// in the capture.
+/// The buffered bytes of a capture, from `start` to `filled` of the buffer, and their place in the
+/// capture.
 #[derive(Drop)]
 pub struct Window {
     buf: Vec<u8>,
     start: usize,
     filled: usize,
-    /// The place in the capture of the first held byte, counted from 0.
+    /// The place in the capture of the first buffered byte, counted from 0.
     pub place: u64,
-    /// The records that were let go.
+    /// The number of packet records that were consumed.
     pub count: u64,
-    /// The greatest length of a capture.
+    /// The greatest length of a capture, in bytes.
     pub most: u64,
+    /// How far the capture was read.
     pub stage: Stage,
     ghost ordered: { start ≤ filled },
     ghost within: { filled ≤ vec_len buf },
@@ -50,7 +51,8 @@ impl Window {
     ghost use Rattle.pcap_reader.specs.Records.{OnReadFault};
     ghost use Rattle.timing_base.specs.declared.capture.FileNote.TheVariants as file_note;
 
-    /// A window at the start of a capture.
+    /// Returns a window at the start of a capture, for captures of at most `most` bytes. Returns
+    /// `Err` if memory runs out.
     pub fn new(alloc: Global, most: u64) -> Result<Window, AllocError>
         requires least { 24 ≤ most }
         requires greatest { most ≤ 2 ^ 40 }
@@ -72,7 +74,7 @@ impl Window {
         })
     }
 
-    /// How all ended, where it has.
+    /// Returns how the records ended, if they have.
     pub fn note(&self) -> Option<FileNote>
         ensures note { result ≡ stage_note self.now.stage }
     {
@@ -82,21 +84,21 @@ impl Window {
         }
     }
 
-    /// How many bytes are held.
+    /// Returns the number of buffered bytes.
     pub fn len(&self) -> usize
         ensures { result ≡ length (held_bytes self.now) }
     {
         self.filled - self.start
     }
 
-    /// What is held.
+    /// Returns the buffered bytes.
     pub fn peek(&self) -> &[u8]
         ensures { result.now ≡ held_bytes self.now }
     {
         &self.buf[self.start..self.filled]
     }
 
-    /// The bytes that were let go last.
+    /// Returns the last `count` bytes that were consumed.
     pub fn last(&self, count: usize) -> &[u8]
         requires { count ≤ self.now.start }
         ensures { result.now ≡ last_bytes count self.now }
@@ -104,7 +106,7 @@ impl Window {
         &self.buf[self.start - count..self.start]
     }
 
-    /// Lets the file header go.
+    /// Consumes the file header.
     pub fn pass_header(&mut self, layout: Layout)
         requires held { 24 ≤ length (held_bytes self.old) }
         requires first { self.old.place ≡ 0 }
@@ -121,7 +123,7 @@ impl Window {
         self.stage = Stage::Records(layout);
     }
 
-    /// Says how all ended.
+    /// Sets how the records ended.
     pub fn settle(&mut self, note: FileNote)
         ensures held { held_bytes self.new ≡ held_bytes self.old }
         ensures taken { taken_length self.new ≡ taken_length self.old }
@@ -133,7 +135,7 @@ impl Window {
         self.stage = Stage::Ended(note);
     }
 
-    /// What is held, as far as it stands within the greatest length of a capture.
+    /// Returns the buffered bytes, without those past the greatest length of a capture.
     pub fn within(&self) -> &[u8]
         ensures { result.now ≡ take (self.now.most - self.now.place) (held_bytes self.now) }
     {
@@ -142,8 +144,9 @@ impl Window {
         &bytes[..bytes.len().min(room)]
     }
 
-    /// Looks at the head of the record at the front of what is held. The first fault wins: the
-    /// fraction, the captured length, the greatest length of a capture.
+    /// Reads the header of the packet record at the start of the buffered bytes. Of several faults
+    /// the first in this order is returned: the fraction of the capture timestamp, the captured
+    /// length, the greatest length of a capture.
     pub fn head(&self, layout: Layout) -> Result<Head, FileNote>
         requires { 16 ≤ length (held_bytes self.now) }
         ensures head { IfOk result (IsHead layout self.now) }
@@ -163,7 +166,8 @@ impl Window {
         }
     }
 
-    /// Lets a record with so many captured bytes go, which still stand behind what is held.
+    /// Consumes a packet record with this many captured bytes. They stay in the buffer, directly
+    /// before the buffered bytes.
     pub fn pass_record(&mut self, captured: usize)
         requires held { 16 + captured ≤ length (held_bytes self.old) }
         requires most { self.old.place + 16 + captured ≤ self.old.most }
@@ -183,7 +187,7 @@ impl Window {
         self.count += 1;
     }
 
-    /// Lets so many records go, which have so many bytes with their heads.
+    /// Consumes this many packet records, which have `size` bytes with their headers.
     pub fn pass_records(&mut self, records: u64, size: usize)
         requires held { size ≤ length (held_bytes self.old) }
         requires most { self.old.place + size ≤ self.old.most }
@@ -201,7 +205,7 @@ impl Window {
         self.count += records;
     }
 
-    /// Moves what is held down near the front of the buffer, so that it ends where a page does.
+    /// Moves the buffered bytes near the start of the buffer, so that they end at a page boundary.
     fn compact(&mut self)
         ensures bytes { held_bytes self.new ≡ held_bytes self.old }
         ensures start { self.new.start ≤ 4095 }
@@ -215,8 +219,8 @@ impl Window {
         self.filled = place + held;
     }
 
-    /// How many bytes the next read asks for: no more than a capture of the greatest length and the
-    /// head of a record behind it have.
+    /// Returns how many bytes the next read asks for. All reads together take at most 16 bytes, the
+    /// size of a packet record's header, more than the greatest length of a capture.
     fn want(&self) -> usize
         requires { self.now.place + (self.now.filled - self.now.start) < self.now.most + 16 }
         ensures some { 0 < result }
@@ -228,7 +232,8 @@ impl Window {
         READ.min(self.most + 16 - taken) as usize
     }
 
-    /// Lets the buffer reach to `end`, within its capacity. What was never read into is not written before.
+    /// Makes the buffer at least `end` bytes long, within its capacity. Bytes beyond the furthest
+    /// read so far aren't written.
     fn reach(&mut self, end: usize)
         requires { end ≤ 331792 }
         ensures bytes { held_bytes self.new ≡ held_bytes self.old }
@@ -244,7 +249,7 @@ impl Window {
         }
     }
 
-    /// Reads once behind what is held.
+    /// Reads once behind the buffered bytes, and returns the number of bytes read, 0 at the end.
     fn read_more<S: Source>(&mut self, source: &mut S) -> Result<usize, Failed>
         requires room { self.old.filled + 65536 ≤ 331792 }
         requires taken { self.old.place + (self.old.filled - self.old.start) < self.old.most + 16 }
@@ -264,8 +269,8 @@ impl Window {
         Ok(got)
     }
 
-    /// Moves what is held down near the front of the buffer, reads until so many bytes are held, and
-    /// answers whether there are so many.
+    /// Moves the buffered bytes near the start of the buffer, and reads until `need` bytes are
+    /// buffered. Returns whether there are that many.
     pub fn fill<S: Source>(&mut self, source: &mut S, need: usize) -> Result<bool, Failed>
         requires need { need ≤ 262160 }
         requires most { self.old.place + need ≤ self.old.most + 16 }

@@ -1,8 +1,8 @@
--- what is promised
+-- definitions that the crate's clauses cite
 pub mod Bytes
 pub mod Classic
 pub mod Sources
--- these serve the reader alone
+-- used within this crate only
 pub mod Converting
 pub mod Described
 pub mod Examples

@@ -3,7 +3,7 @@ use Rattle.std.specs.Prelude.{ℕ, Bool, true, false}
 use Rattle.pcapng_reader.specs.declared.stage.Stage.{Stage}
 use Rattle.pcapng_reader.specs.declared.stage.Stage.TheVariants.{Start, Through, Block, Options, Passing, Over}
 
--- nothing is known of the file yet
+-- the first bytes of the file aren't known yet
 abbrev pub is_start : Stage → Bool
 is_start Start = true
 is_start Through = false
@@ -12,7 +12,7 @@ is_start (Options body found) = false
 is_start (Passing body content) = false
 is_start Over = false
 
--- what is kept is to be given
+-- the output bytes of the window are to be given
 abbrev pub is_due : Stage → Bool
 is_due Start = false
 is_due Through = true
@@ -21,7 +21,7 @@ is_due (Options body found) = false
 is_due (Passing body content) = false
 is_due Over = true
 
--- a bound of the steps to the next stage that no byte is let go for
+-- the part of a stage in the bound on steps (`work` in `Texts`)
 abbrev pub rank : Stage → ℕ
 rank Start = 100
 rank Through = 0

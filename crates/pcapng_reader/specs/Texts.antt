@@ -1,5 +1,5 @@
--- What a converter has still to give, by the bytes that its source has left, and what its steps leave
--- of that.
+-- The output that a converter still has to give, by the bytes that its source has left, and the effect of its steps
+-- on that output.
 use Rattle.std.specs.Prelude.{◌≡◌, ◌≤◌, ◌<◌, ℕ, ◌+◌, ◌*◌, true, if◌then◌else◌, List, [], ◌∷◌, ◌++◌, length, take}
 use Rattle.pcap_reader.specs.WrittenHeads.{file_head}
 use Rattle.pcapng_reader.specs.declared.block.Order.{Order}
@@ -19,11 +19,11 @@ use Rattle.pcapng_reader.specs.Described.{list_of}
 use Rattle.pcapng_reader.specs.Stages.{is_due, rank}
 use Rattle.pcapng_reader.specs.Windows.{kept_bytes, held_bytes}
 
--- what is known of the section in which a converter stands
+-- the state of the section that a converter is in
 abbrev pub section_of : Converter → Section
 section_of c = record { order = c.order; interfaces = list_of c.interfaces }
 
--- the bytes that follow, as far as they count
+-- the bytes that follow, up to the limit of a pcapng file
 abbrev pub ahead : Converter → (left : List ℕ) → List ℕ
 ahead c left = held_bytes c.window ++ take c.budget left
 
@@ -31,7 +31,8 @@ ahead c left = held_bytes c.window ++ take c.budget left
 abbrev pub whole : Converter → (left : List ℕ) → List ℕ
 whole c left = held_bytes c.window ++ left
 
--- the text that comes at a stage of the bytes that follow, of which those of `near` count
+-- the output at a stage; `near` is the bytes that follow within the limit of a pcapng file, `far` all bytes that
+-- follow
 unfoldable pub text_by : Stage → Section → (kept near far : List ℕ) → List ℕ
 text_by stage.Start section kept near far =
     if begins_section near then file_head ++ blocks no_section near else far
@@ -43,11 +44,11 @@ text_by (stage.Passing body content) section kept near far =
     after body near (content_given content body.order kept section)
 text_by stage.Over section kept near far = kept
 
--- the text that a converter has still to give
+-- the output that a converter still has to give
 abbrev pub text_of : Converter → (left : List ℕ) → List ℕ
 text_of c left = text_by c.stage (section_of c) (kept_bytes c.window) (ahead c left) (whole c left)
 
--- a bound of the steps that need no read
+-- a bound on the number of steps without a read
 abbrev pub work : Converter → ℕ
 work c = 100 * length (held_bytes c.window) + rank c.stage + length (kept_bytes c.window)
 
@@ -55,20 +56,20 @@ work c = 100 * length (held_bytes c.window) + rank c.stage + length (kept_bytes 
 abbrev pub HasRoom : Converter → Type 0
 HasRoom c = length (kept_bytes c.window) + length (held_bytes c.window) + 65536 ≤ 327708
 
--- what a step answers: it went on, or must not before a read, or all is given
+-- the result of a step: it went on; or a read is needed; or only the rest of the source is left to give; or nothing
 abbrev pub Tells : (old new : Converter) → Step → Type 0
 Tells old new step.Moved = work new < work old
 Tells old new step.Hungry = (0 < new.budget) × HasRoom new
 Tells old new step.Through = (left : List ℕ) → text_of new left ≡ left
 Tells old new step.Over = (left : List ℕ) → text_of new left ≡ []
 
--- a step leaves the text
+-- a step doesn't change the output
 pub record Steps (old new : Converter) (answer : Step) : Type 0 where
   pub text : (left : List ℕ) → text_of new left ≡ text_of old left
   pub tells : Tells old new answer
   pub budget : new.budget ≡ old.budget
 
--- where more is wanted than is held, it is read, or the file ends within a block
+-- if too few bytes are buffered, more are read, or the file ends within a block
 abbrev pub Waits : (old new : Converter) → Step → Type 0
 Waits old new step.Moved =
     (old.budget ≡ 0) × ((left : List ℕ) → text_of new left ≡ 0 ∷ []) × (work new ≤ 1)
@@ -77,20 +78,20 @@ Waits old new step.Hungry = (new ≡ old) × (0 < new.budget)
 Waits old new step.Through = ⊥
 Waits old new step.Over = ⊥
 
--- the text is that of a block of this order, kind and total length
+-- the output is that of a block of this order, kind and total length
 abbrev pub IsHead : Order → Kind → (total : ℕ) → Converter → Type 0
 IsHead order kind total c =
     (left : List ℕ) → text_of c left ≡ head_text order kind total (section_of c) (ahead c left)
 
--- a block of this order, kind and total length begins, and nothing is kept
+-- at the start of a block of this order, kind and total length, without output bytes
 pub record AtBlock (order : Order) (kind : Kind) (total : ℕ) (c : Converter) : Type 0 where
   pub head : IsHead order kind total c
   pub total_is : is_length kind total ≡ true
   pub stage_is : c.stage ≡ stage.Block
   pub given : kept_bytes c.window ≡ []
 
--- an option begins among those of an interface's description, with this code and a value of so many bytes, and nothing
--- is kept
+-- at the start of an option of an interface description, with this code and a value of `size` bytes, without output
+-- bytes
 pub record AtOption (body : Body) (found : Found) (code size : ℕ) (c : Converter) : Type 0 where
   pub stage_is : c.stage ≡ stage.Options body found
   pub given : kept_bytes c.window ≡ []
@@ -100,7 +101,7 @@ pub record AtOption (body : Body) (found : Found) (code size : ℕ) (c : Convert
   pub size_is : size ≡ number body.order 2 2 (held_bytes c.window)
   pub some : 0 < code
 
--- bytes of the text are put behind those before `at`, within the same stage
+-- bytes of the output are put behind those before `at`, within the same stage
 pub record Fills (at : ℕ) (before now : List ℕ) (old new : Converter) (count : ℕ) : Type 0 where
   pub same_length : length now ≡ length before
   pub least : at ≤ count
@@ -111,18 +112,19 @@ pub record Fills (at : ℕ) (before now : List ℕ) (old new : Converter) (count
   pub budget : new.budget ≡ old.budget
   pub work : work new ≤ work old
 
--- as many are put as there are to be given
+-- as many output bytes are put as there are and fit
 pub record Pours (at : ℕ) (before now : List ℕ) (old new : Converter) (count : ℕ) : Type 0 where
   pub fills : Fills at before now old new count
   pub given : count < length now → is_due new.stage ≡ true → kept_bytes new.window ≡ []
 
--- they are the records of packets that are held whole, and their blocks go
+-- the bytes put are packet records of complete packet blocks, which are consumed
 pub record Puts (at : ℕ) (before now : List ℕ) (old new : Converter) (count : ℕ) : Type 0 where
   pub fills : Fills at before now old new count
   pub order : new.order ≡ old.order
   pub kept : kept_bytes new.window ≡ kept_bytes old.window
 
--- a gift takes its bytes off the text, and is none only where there is no room, or where it says why
+-- the result of a call takes its bytes off the output; there are none only if `out` is empty or for the returned
+-- reason
 abbrev pub GiftTells : (out : List ℕ) → (old new : Converter) → Gift → Type 0
 GiftTells out old new (gift.Bytes count) =
     (count ≤ length out) × (0 < length out → 0 < count)
@@ -134,7 +136,7 @@ GiftTells out old new gift.Through =
 GiftTells out old new gift.Over =
     ((left : List ℕ) → text_of old left ≡ []) × ((left : List ℕ) → text_of new left ≡ [])
 
--- the same, and what does not change
+-- a call takes its result off the output, and reads nothing
 pub record Gives (out : List ℕ) (old new : Converter) (answer : Gift) : Type 0 where
   pub tells : GiftTells out old new answer
   pub budget : new.budget ≡ old.budget

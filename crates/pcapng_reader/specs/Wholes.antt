@@ -1,4 +1,4 @@
--- A packet's block of which all bytes are held, at their front.
+-- A packet block that is completely in the buffer, at its start.
 use Rattle.std.specs.Prelude.{◌≡◌, ◌≤◌, ℕ, ◌-◌, ◌%◌, false, List, length, slice_get}
 use Rattle.pcapng_reader.specs.declared.block.Interface.{Interface}
 use Rattle.pcapng_reader.specs.declared.block.Order.{Order}
@@ -8,8 +8,8 @@ use Rattle.pcapng_reader.specs.declared.packet.Whole.{Whole}
 use Rattle.pcapng_reader.specs.Classic.{number, begins_section, kind_of}
 use Rattle.pcapng_reader.specs.Converting.{fate_by, IsFate}
 
--- the block at the front of what is held is a packet's, in a section of this byte order with these interfaces; it is
--- held to its end, and gives this record
+-- the buffered bytes begin with a complete packet block, in a section of this byte order with these interfaces, and
+-- the block gives this packet record
 pub record IsWhole (order : Order) (interfaces : List Interface) (held : List ℕ) (packet : Whole) : Type 0 where
   pub inside : begins_section held ≡ false
   pub kind_is : kind_of order held ≡ kind.Packet

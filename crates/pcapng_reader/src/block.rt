@@ -1,55 +1,59 @@
-//! The blocks of a pcapng file: their kinds, and how their numbers are laid out.
+//! The blocks of a pcapng file: their types, and the layout of their numbers.
 
 ghost use Rattle.std.specs.Prelude.{◌≡◌, ◌≤◌, ◌+◌, length, drop};
 ghost use Rattle.pcapng_reader.specs.Classic.{number, begins_section, kind_of, least_length, is_length, order_of, order_by};
 
 use byteorder::{BigEndian, ByteOrder, LittleEndian};
 
-/// The type of a block that begins a section, which reads the same in both orders.
+/// The type of a section header block. Its bytes are a palindrome, so the byte order doesn't
+/// matter.
 const SECTION: u32 = 0x0a0d_0d0a;
 
-/// The type of a block that describes an interface.
+/// The type of an interface description block.
 const INTERFACE: u32 = 1;
 
 /// The type of an enhanced packet block.
 const PACKET: u32 = 6;
 
-/// The magic of a section, which tells its byte order.
+/// The byte-order magic of a section.
 const MAGIC: u32 = 0x1a2b_3c4d;
 
-/// The order of the bytes of a number.
+/// The byte order of numbers.
 #[derive(Clone, Copy, Debug)]
 pub enum Order {
+    /// The most significant byte is first (big-endian).
     Big,
+    /// The least significant byte is first (little-endian).
     Little,
 }
 
-/// What a block is.
+/// The kind of a block.
 #[derive(Clone, Copy, Debug)]
 pub enum Kind {
-    /// The head of a section.
+    /// A section header.
     Section,
-    /// The description of an interface.
+    /// An interface description.
     Interface,
     /// An enhanced packet.
     Packet,
-    /// Any other block, which is passed over.
+    /// Any other block, which is ignored.
     Other,
 }
 
-/// What a block says of an interface.
+/// The contents of an interface description.
 #[derive(Clone, Copy, Debug)]
 pub struct Interface {
-    /// What is to be added to each stamp, in seconds: 64 bits, of which the highest is a sign.
+    /// The offset of all timestamps, in seconds, as a 64-bit number in two's complement.
     pub offset: u64,
     /// The link type.
     pub link: u16,
-    /// The unit of stamps is a second by 10 to this, or, from 128, by 2 to the low seven bits.
+    /// The unit of timestamps: 10^-n seconds for a value n below 128, otherwise 2^-(n - 128)
+    /// seconds.
     pub resolution: u8,
 }
 
 impl Order {
-    /// The number of 16 bits at a place.
+    /// Returns the 16-bit number at a place, in bytes from the start.
     pub fn read_u16(self, bytes: &[u8], place: usize) -> u16
         requires { place + 2 ≤ length bytes.now }
         ensures { result ≡ number self 2 place bytes.now }
@@ -60,7 +64,7 @@ impl Order {
         }
     }
 
-    /// The number of 32 bits at a place.
+    /// Returns the 32-bit number at a place, in bytes from the start.
     pub fn read_u32(self, bytes: &[u8], place: usize) -> u32
         requires { place + 4 ≤ length bytes.now }
         ensures { result ≡ number self 4 place bytes.now }
@@ -71,7 +75,7 @@ impl Order {
         }
     }
 
-    /// The number of 64 bits at a place.
+    /// Returns the 64-bit number at a place, in bytes from the start.
     pub fn read_u64(self, bytes: &[u8], place: usize) -> u64
         requires { place + 8 ≤ length bytes.now }
         ensures { result ≡ number self 8 place bytes.now }
@@ -82,7 +86,7 @@ impl Order {
         }
     }
 
-    /// The byte order that the magic of a section tells.
+    /// Returns the byte order that the magic of a section gives, or `None` if that is invalid.
     fn of_section(bytes: &[u8]) -> Option<Order>
         requires { 12 ≤ length bytes.now }
         ensures { result ≡ order_of bytes.now }
@@ -96,7 +100,8 @@ impl Order {
         }
     }
 
-    /// The byte order of the block at the front of these bytes, in a section of this order.
+    /// Returns the byte order of the block at the start of these bytes, in a section of this order.
+    /// A section header has its own order.
     pub fn of_block(self, bytes: &[u8]) -> Option<Order>
         requires { 12 ≤ length bytes.now }
         ensures { result ≡ order_by self bytes.now }
@@ -110,7 +115,7 @@ impl Order {
 }
 
 impl Kind {
-    /// The kind of the block at the front of these bytes.
+    /// Returns the kind of the block at the start of these bytes.
     pub fn of_block(order: Order, bytes: &[u8]) -> Kind
         requires { 4 ≤ length bytes.now }
         ensures { result ≡ kind_of order bytes.now }
@@ -123,7 +128,7 @@ impl Kind {
         }
     }
 
-    /// The fewest bytes of a block of this kind.
+    /// Returns the least length of a block of this kind, in bytes.
     fn least_length(self) -> u32
         ensures { result ≡ least_length self }
     {
@@ -135,7 +140,7 @@ impl Kind {
         }
     }
 
-    /// Whether a block of this kind may have so many bytes.
+    /// Returns whether a block of this kind can have this total length, in bytes.
     pub fn is_length(self, total: u32) -> bool
         ensures { result ≡ is_length self total }
     {
@@ -143,7 +148,7 @@ impl Kind {
     }
 }
 
-/// Whether these bytes begin a section.
+/// Returns whether these bytes begin with a section header.
 pub fn begins_section(bytes: &[u8]) -> bool
     ensures { result ≡ begins_section bytes.now }
 {

@@ -1,4 +1,4 @@
-//! From the bytes of a file to its classic text, as far as they are held.
+//! The conversion of a file to its classic form, step by step.
 
 ghost use Rattle.std.specs.Prelude.{◌≡◌, ◌≤◌, ◌<◌, ◌+◌, ◌-◌, ◌*◌, ◌^◌, ℕ, List, [], ◌++◌, ◌==◌, if◌then◌else◌, IfOk, IfSome, true, length, take, drop, slice_get};
 ghost use Rattle.std.specs.Io.{ReadsAtMost};
@@ -29,22 +29,23 @@ use pcap_reader::record_head;
 use std::alloc::{AllocError, Global};
 use timing_outside::Failed;
 
-/// The most bytes of a pcapng file that count.
+/// The most bytes of a pcapng file that are read.
 const MOST: u64 = 1 << 41;
 
 /// The most bytes that one read asks for.
 const READ: u64 = 65_536;
 
-/// What stands for a block that is cut: less than the head of a record.
+/// The output for a truncated block: less than the header of a packet record.
 const CUT: [u8; 1] = [0];
 
-/// What stands for a block that is broken: the head of a record with 2^32 - 1 captured bytes.
+/// The output for a malformed block: the header of a packet record with 2^32 - 1 captured bytes.
 const BROKEN: [u8; 16] = [0, 0, 0, 0, 0, 0, 0, 0, 255, 255, 255, 255, 0, 0, 0, 0];
 
-/// What stands for a stamp that can't be told: the head of a record with 2^32 - 1 nanoseconds.
+/// The output for a timestamp that a classic capture can't represent: the header of a packet record
+/// with 2^32 - 1 nanoseconds.
 const LATE: [u8; 16] = [0, 0, 0, 0, 255, 255, 255, 255, 0, 0, 0, 0, 0, 0, 0, 0];
 
-/// What a section gives whose head is this: only the major version 1 is known.
+/// Returns the result of a section header with this start. Only the major version 1 is known.
 fn section_content(order: Order, head: &[u8]) -> Content
     requires { 16 ≤ length head.now }
     ensures { result ≡ (if number order 2 12 head.now == 1 then content.Section else content.Broken) }
@@ -56,7 +57,7 @@ fn section_content(order: Order, head: &[u8]) -> Content
     }
 }
 
-/// So many bytes and what pads them to a multiple of 4.
+/// Returns a size in bytes, rounded up to a multiple of 4.
 fn padded(size: u16) -> u32
     ensures value { result ≡ padded size }
     ensures some { size ≤ result }
@@ -66,14 +67,14 @@ fn padded(size: u16) -> u32
     size + (4 - size % 4) % 4
 }
 
-/// The classic text of a file, which comes from the bytes that are held.
+/// A converter of a file to its classic form.
 #[derive(Drop)]
 pub struct Converter {
     window: Window,
     interfaces: Interfaces,
     /// The byte order of the section.
     order: Order,
-    /// How many bytes may still be read; none where the source has ended.
+    /// The number of bytes that may still be read, 0 if the source has ended.
     budget: u64,
     stage: Stage,
     ghost begins: { is_start stage ≡ true → kept_bytes window ≡ file_head },
@@ -82,7 +83,7 @@ pub struct Converter {
 impl Converter {
     ghost use Rattle.pcapng_reader.specs.Texts.{section_of, ahead, text_of, work, HasRoom, Steps, Waits, IsHead, AtBlock, AtOption, Pours, Puts, Gives};
 
-    /// A converter at the start of a file.
+    /// Returns a converter at the start of a file. Returns `Err` if memory runs out.
     pub fn new(alloc: Global) -> Result<Converter, AllocError>
         ensures { IfOk result (λ c. (left : List ℕ) → text_of c left ≡ classic left) }
     {
@@ -97,7 +98,7 @@ impl Converter {
         })
     }
 
-    /// Gives these bytes as the last.
+    /// Ends the output with these bytes.
     fn end(&mut self, bytes: &[u8])
         requires { length bytes.now ≤ 16 }
         ensures text { (left : List ℕ) → text_of self.new left ≡ bytes.now }
@@ -108,7 +109,8 @@ impl Converter {
         self.window.keep_only(bytes);
     }
 
-    /// More bytes are wanted than are held.
+    /// Handles the case that too few bytes are buffered: more have to be read, or the file is
+    /// truncated.
     fn wait(&mut self) -> Step
         ensures { Waits self.old self.new result }
     {
@@ -119,7 +121,7 @@ impl Converter {
         Step::Moved
     }
 
-    /// Lets the first bytes of a block go, and passes over the others.
+    /// Consumes the first `count` bytes of a block, and ignores the others up to its end.
     fn enter(&mut self, order: Order, total: u32, count: u32, content: Content)
         requires some { 0 < count }
         requires held { count ≤ length (held_bytes self.old.window) }
@@ -143,7 +145,7 @@ impl Converter {
         self.window.pass(count as usize);
     }
 
-    /// Looks at the first four bytes of a file.
+    /// Checks the first four bytes of a file.
     fn begin(&mut self) -> Step
         requires { self.old.stage ≡ stage.Start }
         ensures { Steps self.old self.new result }
@@ -162,7 +164,7 @@ impl Converter {
         Step::Moved
     }
 
-    /// Hands a file of another layout through.
+    /// Passes a file of another format through.
     fn hand_through(&mut self) -> Step
         requires stage { self.old.stage ≡ stage.Through }
         requires given { kept_bytes self.old.window ≡ [] }
@@ -175,7 +177,7 @@ impl Converter {
         Step::Moved
     }
 
-    /// Looks at the head of a section.
+    /// Reads the start of a section header.
     fn section(&mut self, order: Order, total: u32) -> Step
         requires block { AtBlock order kind.Section total self.old }
         ensures { Steps self.old self.new result }
@@ -188,7 +190,7 @@ impl Converter {
         Step::Moved
     }
 
-    /// Looks at the head of an interface's description.
+    /// Reads the start of an interface description.
     fn interface(&mut self, order: Order, total: u32) -> Step
         requires block { AtBlock order kind.Interface total self.old }
         ensures { Steps self.old self.new result }
@@ -211,7 +213,7 @@ impl Converter {
         Step::Moved
     }
 
-    /// Keeps the record of a packet, once its data are held.
+    /// Makes the packet record of a packet the output, once its data are buffered.
     fn record(&mut self, order: Order, total: u32, at: u64, len: u32) -> Step
         requires block { AtBlock order kind.Packet total self.old }
         requires held { 28 ≤ length (held_bytes self.old.window) }
@@ -235,7 +237,7 @@ impl Converter {
         Step::Moved
     }
 
-    /// Looks at the head of a packet.
+    /// Reads the start of a packet block.
     fn packet(&mut self, order: Order, total: u32) -> Step
         requires block { AtBlock order kind.Packet total self.old }
         ensures { Steps self.old self.new result }
@@ -258,7 +260,7 @@ impl Converter {
         }
     }
 
-    /// Looks at the head of a block that is passed over.
+    /// Reads the start of a block that is ignored.
     fn other(&mut self, order: Order, total: u32) -> Step
         requires block { AtBlock order kind.Other total self.old }
         requires held { 12 ≤ length (held_bytes self.old.window) }
@@ -268,7 +270,7 @@ impl Converter {
         Step::Moved
     }
 
-    /// Looks at the kind and the length of a block of this byte order.
+    /// Reads the kind and the total length of a block of this byte order.
     fn head(&mut self, order: Order) -> Step
         requires head { IsHead order (kind_of order (held_bytes self.old.window))
             (number order 4 4 (held_bytes self.old.window)) self.old }
@@ -291,7 +293,7 @@ impl Converter {
         }
     }
 
-    /// Looks at a block.
+    /// Reads the start of a block.
     fn block(&mut self) -> Step
         requires stage { self.old.stage ≡ stage.Block }
         requires given { kept_bytes self.old.window ≡ [] }
@@ -317,7 +319,7 @@ impl Converter {
         }
     }
 
-    /// Lets an option go that was read.
+    /// Consumes an option that was read, of `count` bytes.
     fn pass_option(&mut self, body: Body, found: Found, count: u32)
         requires held { count ≤ length (held_bytes self.old.window) }
         requires some { 0 < count }
@@ -338,7 +340,7 @@ impl Converter {
         self.window.pass(count as usize);
     }
 
-    /// Passes over what is left of a block, which gives this.
+    /// Ignores the rest of a block that has this result.
     fn settle(&mut self, body: Body, content: Content)
         requires { rank self.old.stage ≡ 42 }
         ensures text { (left : List ℕ) → text_of self.new left
@@ -350,7 +352,7 @@ impl Converter {
         self.stage = Stage::Passing(body, content);
     }
 
-    /// Reads an option of this code, which has so many bytes.
+    /// Reads an option with this code and a value of `size` bytes.
     fn option(&mut self, body: Body, found: Found, code: u16, size: u16) -> Step
         requires option { AtOption body found code size self.old }
         ensures { Steps self.old self.new result }
@@ -371,7 +373,7 @@ impl Converter {
         Step::Moved
     }
 
-    /// Looks at an option of an interface's description, or at the end of the options.
+    /// Reads an option of an interface description, or the end of the options.
     fn options(&mut self, body: Body, found: Found) -> Step
         requires stage { self.old.stage ≡ stage.Options body found }
         requires given { kept_bytes self.old.window ≡ [] }
@@ -393,7 +395,8 @@ impl Converter {
         self.option(body, found, code, size)
     }
 
-    /// Goes on to the next block, in a section of this order, where the block gave nothing.
+    /// Continues with the next block, in a section of this byte order, after a block without
+    /// output.
     fn go_on(&mut self, order: Order)
         requires { rank self.old.stage ≡ 41 }
         ensures text { (left : List ℕ) → text_of self.new left
@@ -407,7 +410,7 @@ impl Converter {
         self.window.forget();
     }
 
-    /// Goes on behind a block that stands, by what it gives.
+    /// Applies the result of a block after its end was read, and continues with the next block.
     fn finish(&mut self, order: Order, content: Content)
         requires { rank self.old.stage ≡ 41 }
         ensures text { (left : List ℕ) → text_of self.new left
@@ -437,7 +440,7 @@ impl Converter {
         }
     }
 
-    /// Looks at the second total length of a block.
+    /// Checks the second total length of a block.
     fn close(&mut self, body: Body, content: Content) -> Step
         requires stage { self.old.stage ≡ stage.Passing body content }
         requires left { body.left ≡ 0 }
@@ -455,7 +458,7 @@ impl Converter {
         Step::Moved
     }
 
-    /// Passes over bytes of a block.
+    /// Consumes bytes of a block that are ignored.
     fn pass(&mut self, body: Body, content: Content) -> Step
         requires { self.old.stage ≡ stage.Passing body content }
         ensures { Steps self.old self.new result }
@@ -478,7 +481,7 @@ impl Converter {
         Step::Moved
     }
 
-    /// Goes a step on, where nothing is to be given.
+    /// Does one step, if there is no output to give first.
     fn step(&mut self) -> Step
         requires { is_due self.old.stage ≡ true → kept_bytes self.old.window ≡ [] }
         ensures { Steps self.old self.new result }
@@ -496,7 +499,7 @@ impl Converter {
         }
     }
 
-    /// Whether what is kept is to be given.
+    /// Returns whether the output bytes of the window are to be given at this stage.
     fn is_due(&self) -> bool
         ensures { result ≡ is_due self.now.stage }
     {
@@ -506,7 +509,7 @@ impl Converter {
         }
     }
 
-    /// Gives what is to be given, behind so many bytes of `out`. Answers how many bytes it has then.
+    /// Copies output bytes to `out` from the place `at` on, and returns the place after them.
     fn pour(&mut self, out: &mut [u8], at: usize) -> usize
         requires { at ≤ length out.old }
         ensures { Pours at out.old out.new self.old self.new result }
@@ -517,7 +520,8 @@ impl Converter {
         at + self.window.give(&mut out[at..])
     }
 
-    /// The packet at the front, of a section of this byte order, where its whole block is held and gives a record.
+    /// Returns the packet at the start of the buffered bytes, if its whole block is there and gives
+    /// a packet record. The section has this byte order.
     #[inline(always)]
     fn whole(&self, order: Order) -> Option<Whole>
         ensures { IfSome result (IsWhole order (list_of self.now.interfaces) (held_bytes self.now.window)) }
@@ -525,8 +529,8 @@ impl Converter {
         whole_packet(order, &self.interfaces, self.window.peek())
     }
 
-    /// Puts the record of a packet that is held whole behind so many bytes of `out`, and goes on behind its
-    /// block. Answers how many bytes `out` has then.
+    /// Writes the packet record of a packet to `out` from the place `at` on, and consumes its
+    /// block. Returns the place after the record.
     #[inline(always)]
     fn put_record(&mut self, packet: Whole, out: &mut [u8], at: usize) -> usize
         requires stage { self.old.stage ≡ stage.Block }
@@ -549,8 +553,8 @@ impl Converter {
         at + 16 + captured
     }
 
-    /// Puts the records of the packets at the front, of a section of this byte order, as long as they are held
-    /// whole and have room, behind so many bytes of `out`. Answers how many bytes it has then.
+    /// Writes the packet records of the packets at the start to `out` from the place `at` on, as
+    /// long as their blocks are complete and the records fit. Returns the place after them.
     #[inline(always)]
     fn put_records(&mut self, order: Order, out: &mut [u8], at: usize) -> usize
         requires order { order ≡ self.old.order }
@@ -569,8 +573,8 @@ impl Converter {
         end
     }
 
-    /// The same at any stage: it puts records where the next block begins and nothing is kept. The loop is
-    /// compiled once for each byte order, so that no packet asks for it.
+    /// Does the work of `put_records` if the next byte begins a block, and otherwise nothing. The
+    /// loop is compiled once for each byte order, so that it needn't be checked for each packet.
     fn put_whole(&mut self, out: &mut [u8], at: usize) -> usize
         requires given { is_due self.old.stage ≡ true → kept_bytes self.old.window ≡ [] }
         requires room { at ≤ length out.old }
@@ -585,8 +589,8 @@ impl Converter {
         }
     }
 
-    /// Gives what is to be given, and then the records of the packets that are held whole, as most of a file are, as far
-    /// as there is room, behind so many bytes of `out`. Answers how many bytes it has then.
+    /// Gives the output bytes, and then the packet records of packets that are completely buffered,
+    /// which most are, to `out` from the place `at` on. Returns the place after them.
     fn fill(&mut self, out: &mut [u8], at: usize) -> usize
         requires { at ≤ length out.old }
         ensures { Pours at out.old out.new self.old self.new result }
@@ -598,8 +602,8 @@ impl Converter {
         end
     }
 
-    /// Gives the next bytes of the text into `out`, as many as it answers, from what is held. Where it
-    /// gives none it says why.
+    /// Writes the next bytes of the output to the start of `out`, from what is buffered. Returns
+    /// their number, or why there are none.
     pub fn give(&mut self, out: &mut [u8]) -> Gift
         ensures { Gives out.new self.old self.new result }
     {
@@ -617,7 +621,7 @@ impl Converter {
         }
     }
 
-    /// Reads once.
+    /// Reads once from the source.
     pub fn read_more<S: Reads>(&mut self, source: &mut S) -> Result<(), Failed>
         requires some { 0 < self.old.budget }
         requires room { HasRoom self.old }
@@ -641,7 +645,8 @@ impl Converter {
         }
     }
 
-    /// Gives the next bytes of the text, and reads where there are none.
+    /// Writes the next bytes of the output to the start of `buf`, and reads the source if there are
+    /// none.
     pub fn give_read<S: Reads>(&mut self, source: &mut S, buf: &mut [u8]) -> Result<usize, Failed>
         ensures same_name { S.name source.new ≡ S.name source.old }
         ensures bound { ReadsAtMost result buf.new }

@@ -1,4 +1,4 @@
-//! The interfaces that a section describes.
+//! The interfaces of a section.
 
 ghost use Rattle.std.specs.Prelude.{◌≡◌, ◌≤◌, ◌<◌, ◌++◌, [], ◌∷◌, IfOk, vec_len, vec_capacity, length, nat_lt, slice_get};
 
@@ -19,7 +19,8 @@ pub struct Interfaces {
 impl Interfaces {
     ghost use Rattle.pcapng_reader.specs.Described.{list_of};
 
-    /// No interface, and room for as many as a section may have.
+    /// Returns an empty list with room for as many interfaces as a section may have. Returns `Err`
+    /// if memory runs out.
     pub fn new(alloc: Global) -> Result<Interfaces, AllocError>
         ensures { IfOk result (λ s. list_of s ≡ []) }
     {
@@ -27,14 +28,14 @@ impl Interfaces {
         Ok(Interfaces { items })
     }
 
-    /// Whether there is room for one more.
+    /// Returns whether there is room for one more.
     pub fn has_room(&self) -> bool
         ensures { result ≡ nat_lt (length (list_of self.now)) 1024 }
     {
         self.items.len() < MOST_INTERFACES
     }
 
-    /// The interface with this number, from 0.
+    /// Returns the interface with this number, counted from 0.
     pub fn get(&self, number: u32) -> Option<Interface>
         ensures { result ≡ slice_get (list_of self.now) number }
     {
@@ -46,14 +47,14 @@ impl Interfaces {
         }
     }
 
-    /// Forgets all.
+    /// Removes all interfaces.
     pub fn clear(&mut self)
         ensures { list_of self.new ≡ [] }
     {
         self.items.clear();
     }
 
-    /// Adds an interface at the end.
+    /// Appends an interface. There has to be room for it.
     pub fn push(&mut self, interface: Interface)
         requires { length (list_of self.old) < 1024 }
         ensures { list_of self.new ≡ list_of self.old ++ interface ∷ [] }

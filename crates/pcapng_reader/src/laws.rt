@@ -1,5 +1,5 @@
-//! What holds of the definition of a classic text, and the definition tried on numbers worked by hand.
-//! Each function is a theorem: it does nothing, and its clauses are proved.
+//! Theorems about the definition of the classic form, and examples of it worked by hand. Each
+//! function does nothing; its clauses are what is proved.
 #![tactic(auto, unfolding(crate::specs::Classic::classic, crate::specs::Classic::blocks, crate::specs::Classic::options))]
 
 ghost use Rattle.std.specs.Prelude.{◌≡◌, ◌^◌, ℕ, List, [], ◌∷◌, ◌++◌, length, take, drop, map, All, true, Option, Some, None};
@@ -12,35 +12,36 @@ ghost use Rattle.pcapng_reader.specs.Examples.{micro_interface, micro_packet, na
 ghost use Rattle.pcapng_reader.specs.Examples.{big_interface_with, big_resolution, big_offset, big_comment, big_nano_packet};
 ghost use Rattle.pcapng_reader.specs.Examples.{little_section, big_section, little_interface, big_interface, interface_with, resolution, offset, comment, last_option, nano_interface, packet_at, little_packet, big_packet, other_block, nano_record, micro_record, bad, untold, changed, Gives};
 
-/// Worked by hand: whole files.
+/// Worked by hand: complete files.
 pub fn worked_whole()
     ensures little { Gives (little_section ++ (nano_interface ++ little_packet)) nano_record }
     ensures big { Gives (big_section ++ (big_interface ++ big_packet)) micro_record }
     ensures two { Gives (little_section ++ (nano_interface ++ (little_packet ++ little_packet)))
         (nano_record ++ nano_record) }
 
-    // Any other block gives nothing, and a section alone nothing either.
+    // Any other block gives nothing, and neither does a section without packets.
     ensures other { Gives (little_section ++ (nano_interface ++ (other_block ++ little_packet)))
         nano_record }
     ensures section { Gives little_section [] }
 
-    // A section in the other order: the next blocks are in its order.
+    // After a section header of the other byte order, the blocks are in that order.
     ensures orders { Gives (little_section ++ (nano_interface ++ (little_packet
         ++ (big_section ++ (big_interface ++ big_packet))))) (nano_record ++ micro_record) }
 
-    // What isn't a pcapng file is its own text, a front of the first four bytes too.
+    // A file that isn't pcapng is its own classic form. So are fewer than the first four bytes of
+    // one.
     ensures classic { classic nano_record ≡ nano_record }
     ensures front { classic (take 3 little_section) ≡ take 3 little_section }
     ensures none { classic [] ≡ [] }
 
-    // A name without a text stays one.
+    // A name without contents has none in classic form.
     ensures texts { (texts : List ℕ → Option (List ℕ)) (name : List ℕ) → texts name ≡ None
         → classic_texts texts name ≡ None }
     ensures text { (texts : List ℕ → Option (List ℕ)) (name text : List ℕ)
         → texts name ≡ Some text → classic_texts texts name ≡ Some (classic text) }
 {}
 
-/// Worked by hand: files that are cut give one byte more.
+/// Worked by hand: truncated files end with one byte more.
 pub fn worked_cut()
     ensures head { Gives (little_section ++ take 11 little_interface) (0 ∷ []) }
     ensures body { Gives (little_section ++ (nano_interface ++ take 35 little_packet)) (0 ∷ []) }
@@ -48,13 +49,14 @@ pub fn worked_cut()
     ensures behind { Gives (little_section ++ (nano_interface ++ (little_packet ++ take 1 little_packet)))
         (nano_record ++ 0 ∷ []) }
 
-    // A cut comes before what is broken behind the length, and after a length that no block has.
+    // A missing end of a block comes before an invalid version, and after an invalid length or byte
+    // order.
     ensures version { Gives (take 27 (changed 12 2 little_section)) (0 ∷ []) }
     ensures length { Gives (take 27 (changed 4 29 little_section)) bad }
     ensures order { Gives (take 27 (changed 8 0x4c little_section)) bad }
 {}
 
-/// Worked by hand: byte orders and total lengths, at both sides of their limits.
+/// Worked by hand: byte orders and total lengths, on both sides of their limits.
 pub fn worked_lengths()
     ensures order { Gives (changed 8 0x4c little_section) bad }
     ensures multiple { Gives (little_section ++ changed 4 21 little_interface) bad }
@@ -70,7 +72,7 @@ pub fn worked_lengths()
     ensures packet_short { Gives (little_section ++ (nano_interface ++ changed 4 28 little_packet)) bad }
 {}
 
-/// Worked by hand: blocks that stand whole and are broken.
+/// Worked by hand: complete blocks that are malformed.
 pub fn worked_broken()
     ensures ends { Gives (little_section ++ (nano_interface ++ changed 32 40 little_packet)) bad }
     ensures section_ends { Gives (changed 24 32 little_section) bad }
@@ -83,7 +85,8 @@ pub fn worked_broken()
     ensures fits { Gives (little_section ++ (nano_interface ++ changed 20 4 little_packet))
         (changed 8 4 (changed 12 4 nano_record) ++ 0 ∷ []) }
 
-    // A section forgets the interfaces before it, and nothing comes behind a broken block.
+    // A section header removes the interfaces before it. After a malformed block there is no
+    // output.
     ensures forgets { Gives (little_section ++ (nano_interface ++ (little_section ++ little_packet))) bad }
     ensures ended { Gives (little_section ++ (little_packet ++ little_section)) bad }
 {}
@@ -97,7 +100,7 @@ pub fn worked_options()
     ensures ended { Gives (little_section ++ (interface_with 32 (resolution 9 ++ last_option) ++ little_packet))
         nano_record }
 
-    // The first of its kind counts, up to the last option.
+    // The first option of its kind counts, if it is before the end of the options.
     ensures first { Gives (little_section ++ (interface_with 36 (resolution 9 ++ resolution 6) ++ little_packet))
         nano_record }
     ensures behind { Gives (little_section ++ (interface_with 32 (last_option ++ resolution 9)
@@ -105,7 +108,7 @@ pub fn worked_options()
     ensures first_offset { Gives (little_section
         ++ (interface_with 52 (resolution 9 ++ (offset 0 ++ offset 1)) ++ little_packet)) nano_record }
 
-    // Lengths, and an option that passes the end; behind the last option nothing is looked at.
+    // Lengths, and an option that exceeds the block. After the end of the options nothing is read.
     ensures resolution { Gives (little_section ++ interface_with 28 (changed 2 2 (resolution 9))) bad }
     ensures second_resolution { Gives (little_section
         ++ interface_with 36 (resolution 9 ++ changed 2 2 (resolution 9))) bad }
@@ -115,8 +118,8 @@ pub fn worked_options()
     ensures last { Gives (little_section ++ interface_with 24 (changed 2 9 last_option)) [] }
 {}
 
-/// Worked by hand: two interfaces in one section, of which each has its own unit and link type. Of one
-/// instant, 3 seconds and 5 microseconds, both give one record.
+/// Worked by hand: two interfaces in one section, each with its own unit and link type. One
+/// instant, 3 seconds and 5 microseconds, gives equal packet records for both.
 pub fn worked_interfaces()
     ensures units { Gives (little_section ++ (nano_interface ++ (micro_interface
         ++ (nano_packet ++ of_second micro_packet)))) (micro_record ++ micro_record) }
@@ -125,11 +128,12 @@ pub fn worked_interfaces()
     ensures changed_round { Gives (little_section ++ (micro_interface ++ (nano_interface
         ++ (micro_packet ++ of_second nano_packet)))) (micro_record ++ micro_record) }
 
-    // A power of two, 2^-10 seconds, can't be told; what comes before it stands.
+    // A unit of 2^-10 seconds can't be represented. The packet records before it are given.
     ensures binary { Gives (little_section ++ (nano_interface ++ (interface_with 28 (resolution 0x8a)
         ++ (nano_packet ++ of_second nano_packet)))) (micro_record ++ untold) }
 
-    // Link type 257 has the low byte of Ethernet's, 1, and isn't Ethernet's; 256 is it in the other order.
+    // Link type 257 isn't Ethernet, although its low byte is 1. Neither is 256, which is 1 in the
+    // other byte order.
     ensures link { Gives (little_section ++ (changed 9 1 nano_interface ++ little_packet)) bare_nano_record }
     ensures big_link { Gives (big_section ++ (changed 8 1 big_interface ++ big_packet)) bare_micro_record }
     ensures swapped_link { Gives (big_section ++ (changed 8 1 (changed 9 0 big_interface) ++ big_packet))
@@ -154,7 +158,8 @@ pub fn worked_big_options()
     ensures little { Gives (big_section ++ big_interface_with 28 (resolution 9)) bad }
 {}
 
-/// Worked by hand: an offset of 2^32 seconds, whose low 32 bits are 0, and one of -1, can't be told.
+/// Worked by hand: offsets of 2^32 and 2^56 seconds, with zeros in the low 32 bits, and of -1
+/// second can't be represented.
 pub fn worked_offsets()
     ensures high { Gives (little_section
         ++ (interface_with 40 (resolution 9 ++ changed 8 1 (offset 0)) ++ little_packet)) untold }
@@ -166,7 +171,7 @@ pub fn worked_offsets()
         ++ 14 ∷ 0 ∷ 8 ∷ 0 ∷ 255 ∷ 255 ∷ 255 ∷ 255 ∷ 255 ∷ 255 ∷ 255 ∷ 255 ∷ []) ++ little_packet)) untold }
 {}
 
-/// Worked by hand: stamps that can't be told, at both sides of the limits.
+/// Worked by hand: timestamps that can't be represented, on both sides of the limits.
 pub fn worked_late()
     ensures last { Gives (little_section
         ++ (nano_interface ++ packet_at (0xff ∷ 0xc9 ∷ 0x9a ∷ 0x3b ∷ []) (255 ∷ 255 ∷ 255 ∷ 255 ∷ [])))
@@ -183,7 +188,7 @@ pub fn worked_late()
     ensures offset { Gives (little_section
         ++ (interface_with 40 (resolution 9 ++ offset 1) ++ little_packet)) untold }
 
-    // It comes before the link type, and behind what is broken.
+    // This fault comes before another link type, and after a malformed block.
     ensures link { Gives (little_section
         ++ (changed 8 2 (interface_with 28 (resolution 10)) ++ little_packet)) untold }
     ensures broken { Gives (little_section
@@ -195,7 +200,7 @@ pub fn worked_late()
         ∷ 0 ∷ 0 ∷ 0 ∷ 0 ∷ []) }
 {}
 
-/// Limits that are too great for a text laid out by hand.
+/// Limits that are too large for files laid out by hand.
 pub fn limits()
     ensures interfaces { (s : Section) (i : Interface) → length s.interfaces ≡ 1023
         → add_interface s (Some i)
@@ -212,7 +217,7 @@ pub fn limits()
         → classic (text ++ more) ≡ classic text }
 {}
 
-/// Bytes stay bytes: of a file whose numbers are all below 256, those of the classic text are too.
+/// If each number of a file is a byte, below 256, so is each of its classic form.
 pub fn bytes_stay_bytes()
     ensures one { (text : List ℕ) → AreBytes text → AreBytes (classic text) }
     ensures each { (texts : List (List ℕ)) → All AreBytes texts → All AreBytes (map classic texts) }

@@ -1,4 +1,4 @@
-//! What a packet's block gives, as far as its head tells.
+//! Enhanced packet blocks, and the packet records that they give.
 
 ghost use Rattle.std.specs.Prelude.{◌≡◌, ◌≤◌, ◌<◌, ◌*◌, ◌^◌, ◌-◌, None, Some, length, if◌then◌else◌, IfSome};
 ghost use Rattle.pcapng_reader.specs.Classic.{nanos, is_late};
@@ -12,36 +12,39 @@ use crate::interfaces::Interfaces;
 /// The link type of Ethernet.
 const ETHERNET: u16 = 1;
 
-/// The most bytes that a packet may have.
+/// The most captured bytes of a packet.
 const MOST_CAPTURED: u32 = 262_144;
 
-/// The end of the stamps of a classic capture, in nanoseconds since 1970-01-01 00:00:00.
+/// The end of the range of capture timestamps in a classic capture, in nanoseconds since 1970-01-01
+/// 00:00:00.
 const STAMPS_END: u64 = 4_294_967_296_000_000_000;
 
-/// What the head of a packet's block tells.
+/// The result of reading the start of a packet block.
 #[derive(Clone, Copy, Debug)]
 pub enum Fate {
-    /// The block is broken.
+    /// The block is malformed.
     Broken,
-    /// Its stamp can't be told.
+    /// A classic capture can't represent the timestamp.
     Late,
-    /// A record with this stamp, in nanoseconds since 1970-01-01 00:00:00, of so many bytes.
+    /// A packet record with the capture timestamp `at`, in nanoseconds since 1970-01-01 00:00:00,
+    /// and `len` captured bytes.
     Record { at: u64, len: u32 },
 }
 
-/// A packet whose whole block is held, and which gives a record.
+/// A packet block that is completely in the buffer and gives a packet record.
 #[derive(Clone, Copy, Debug)]
 pub struct Whole {
-    /// Its stamp, in nanoseconds since 1970-01-01 00:00:00.
+    /// The capture timestamp, in nanoseconds since 1970-01-01 00:00:00.
     pub at: u64,
-    /// The bytes of its data that the record has.
+    /// The number of data bytes in the packet record.
     pub len: u32,
-    /// The bytes of its block.
+    /// The total length of the block, in bytes.
     pub total: u32,
 }
 
 impl Interface {
-    /// The nanoseconds of its unit, to a unit of 10^-9 seconds.
+    /// Returns the unit of timestamps in nanoseconds. The unit has to be decimal, and at least a
+    /// nanosecond.
     fn unit(self) -> u64
         requires { self.resolution ≤ 9 }
         ensures { result ≡ 10 ^ (9 - self.resolution) }
@@ -60,7 +63,8 @@ impl Interface {
         }
     }
 
-    /// A stamp in nanoseconds since 1970-01-01 00:00:00; none where a classic capture can't tell it.
+    /// Returns a timestamp in nanoseconds since 1970-01-01 00:00:00, or `None` if a classic capture
+    /// can't represent it.
     pub fn nanos(self, stamp: u64) -> Option<u64>
         ensures value { result ≡ (if is_late self stamp then None else Some (nanos self stamp)) }
         ensures below { IfSome result (λ at. at < 2 ^ 32 * 10 ^ 9) }
@@ -75,7 +79,8 @@ impl Interface {
     }
 }
 
-/// What the head of a packet's block tells, which has so many bytes.
+/// Returns the result of reading the start of a packet block of `total` bytes. `found` is its
+/// interface, if the section has that.
 #[inline(always)]
 pub fn fate_of(order: Order, total: u32, found: Option<Interface>, head: &[u8]) -> Fate
     requires whole { 28 ≤ length head.now }
@@ -106,8 +111,8 @@ pub fn fate_of(order: Order, total: u32, found: Option<Interface>, head: &[u8]) 
     }
 }
 
-/// The packet at the front of what is held, of a section of this byte order with these interfaces, where its
-/// whole block is held and gives a record, as that of most does.
+/// Returns the packet at the start of the buffered bytes, if its whole block is there and gives a
+/// packet record. The section has this byte order and these interfaces.
 #[inline(always)]
 pub fn whole_packet(order: Order, interfaces: &Interfaces, held: &[u8]) -> Option<Whole>
     ensures { IfSome result (IsWhole order (list_of interfaces.now) held.now) }

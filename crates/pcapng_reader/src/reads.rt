@@ -1,4 +1,4 @@
-//! What a converter reads from.
+//! The input of a converter.
 
 ghost use Rattle.std.specs.Prelude.{◌≡◌, ◌≤◌, List, ℕ, Option};
 ghost use Rattle.std.specs.Io.{ReadsAtMost};
@@ -7,14 +7,19 @@ ghost use Rattle.timing_outside.specs.Causes.{HasCause};
 
 use timing_outside::{Failed, Source};
 
-/// What is read of a source.
+/// The reads of a source, without its other functions.
 pub trait Reads {
+    /// The bytes of the name, which a read doesn't change.
     ghost name: { Self → List ℕ };
 
+    /// The bytes that are left, if they are known.
     ghost left: { Self → Option (List ℕ) };
 
+    /// The number of reads that failed. It never decreases.
     ghost faults: { Self → ℕ };
 
+    /// Reads the next bytes into the start of `buf`, and returns their number, as `read` of
+    /// [`Source`].
     fn read_bytes(&mut self, buf: &mut [u8]) -> Result<usize, Failed>
         ensures same_name { name self.new ≡ name self.old }
         ensures bound { ReadsAtMost result buf.new }

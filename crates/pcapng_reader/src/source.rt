@@ -1,4 +1,4 @@
-//! A source whose bytes are the classic text of another's.
+//! A source that gives another one's bytes in classic form.
 
 ghost use Rattle.std.specs.Prelude.{◌≡◌, IfOk, IfErr};
 ghost use Rattle.std.specs.Option.{option_map};
@@ -8,7 +8,8 @@ use crate::converter::Converter;
 use std::alloc::Global;
 use timing_outside::{Failed, Source};
 
-/// The bytes of another source as a classic capture. What isn't a pcapng file is given as it is.
+/// A source that gives the bytes of another one as a classic capture. A file that isn't pcapng is
+/// passed through unchanged.
 #[derive(Drop)]
 pub struct Classic<S: Source> {
     pub(crate) source: S,
@@ -18,9 +19,8 @@ pub struct Classic<S: Source> {
 impl<S: Source> Classic<S> {
     ghost use Rattle.pcapng_reader.specs.Sources.{under, left_of};
 
-    /// The classic text of what this source has left. It takes all memory that it ever has, two
-    /// pieces of 331,804 and 16,384 bytes, and reads nothing. `Err` is want of memory, and hands the
-    /// source back as it was.
+    /// Wraps a source. Allocates all memory that it ever uses, 331,804 and 16,384 bytes, and reads
+    /// nothing. If memory runs out, returns the unchanged source as `Err`.
     pub fn wrap(alloc: Global, source: S) -> Result<Classic<S>, S>
         ensures left { IfOk result (λ c. left_of S.left c ≡ option_map classic (S.left source)) }
         ensures source { IfOk result (λ c. under c ≡ source) }
@@ -32,7 +32,7 @@ impl<S: Source> Classic<S> {
         }
     }
 
-    /// The source, with what it has left.
+    /// Returns the wrapped source, with the bytes it has left.
     pub fn into_inner(self) -> S
         ensures { result ≡ under self }
     {
@@ -53,8 +53,8 @@ impl<S: Source> Source for Classic<S> {
 
     ghost faults = { λ c. S.faults (under c) };
 
-    /// Gives the next bytes of the classic text. It reads the other source only as long as it has no
-    /// byte to give in this call; a read that fails is the answer, and the next call goes on at the
+    /// Reads the next bytes of the classic form. Reads the wrapped source only until there is a
+    /// byte to return. If that read fails, returns `Failed`, and the next call continues at the
     /// same byte.
     fn read(&mut self, buf: &mut [u8]) -> Result<usize, Failed> {
         self.converter.give_read(&mut self.source, buf)

@@ -5,70 +5,74 @@ ghost use Rattle.pcapng_reader.specs.Converting.{found_with, found_interface};
 
 use crate::block::{Interface, Order};
 
-/// The bytes of an option's value that are read: of a resolution, and of an offset.
+/// The code of the option with the unit of timestamps (if_tsresol).
 const RESOLUTION: u16 = 9;
 
-/// The option with the offset of an interface.
+/// The code of the option with the offset of timestamps (if_tsoffset).
 const OFFSET: u16 = 14;
 
-/// The unit of stamps where a block doesn't say: microseconds.
+/// The unit of timestamps if there is no such option: microseconds.
 const MICROSECONDS: u8 = 6;
 
-/// A block in which the converter stands.
+/// The block that the converter is in.
 #[derive(Clone, Copy, Debug)]
 pub struct Body {
-    /// The byte order of its section.
+    /// The byte order of the section.
     pub order: Order,
-    /// How many bytes it has, as its head says.
+    /// The total length of the block, in bytes, as at its start.
     pub total: u32,
-    /// How many bytes are left before the second total length.
+    /// The number of bytes left before the second total length.
     pub left: u32,
 }
 
-/// What the options of an interface said so far; the first of each kind counts.
+/// The contents of an interface description so far. Of several options of one kind the first
+/// counts.
 #[derive(Clone, Copy, Debug)]
 pub struct Found {
+    /// The offset of timestamps, in seconds, if an option has set it.
     pub offset: Option<u64>,
+    /// The link type.
     pub link: u16,
+    /// The unit of timestamps, if an option has set it.
     pub resolution: Option<u8>,
 }
 
-/// What a block gives, once its end stands.
+/// The result of a block, which applies once its end was read.
 #[derive(Clone, Copy, Debug)]
 pub enum Content {
-    /// It is broken.
+    /// The block is malformed.
     Broken,
-    /// Its stamp can't be told.
+    /// A classic capture can't represent the timestamp.
     Late,
-    /// It begins a section.
+    /// The block begins a section.
     Section,
-    /// It describes an interface.
+    /// The block describes an interface.
     Interface(Interface),
-    /// The record that is kept.
+    /// The packet record that the window keeps.
     Record,
-    /// Nothing.
+    /// The block is ignored.
     Nothing,
 }
 
-/// Where a converter stands in a file.
+/// The place of a converter in a file.
 #[derive(Clone, Copy, Debug)]
 pub enum Stage {
-    /// Before its first four bytes are known.
+    /// At the start; the first four bytes aren't known yet.
     Start,
-    /// In a file that isn't a pcapng file, which is given as it is.
+    /// In a file that isn't pcapng, which is passed through unchanged.
     Through,
-    /// At a block.
+    /// At the start of a block.
     Block,
-    /// At an option of an interface.
+    /// At an option of an interface description.
     Options(Body, Found),
-    /// In a block of which no byte is read any more but its end.
+    /// In a block of which only the end is still to be checked.
     Passing(Body, Content),
-    /// Behind the last block that counts.
+    /// After the last block that is read.
     Over,
 }
 
 impl Found {
-    /// The same, and what this option says; none where it hasn't its length.
+    /// Returns these contents with an option added, or `None` if the length of its value is wrong.
     pub fn with(self, order: Order, code: u16, value: &[u8]) -> Option<Found>
         ensures { result ≡ found_with order (record { code = code; value = value.now }) self }
     {
@@ -97,7 +101,7 @@ impl Found {
         }
     }
 
-    /// The interface, where no option is left.
+    /// Returns the interface, after the last option.
     pub fn interface(self) -> Interface
         ensures { result ≡ found_interface self }
     {

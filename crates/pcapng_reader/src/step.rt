@@ -1,36 +1,36 @@
-//! What a step of a converter answers, and what it gives.
+//! The results of a converter.
 
 ghost use Rattle.std.specs.Prelude.{◌≡◌, ◌<◌};
 ghost use Rattle.pcapng_reader.specs.Gifts.{gift_of};
 
-/// What a step of a converter answers.
+/// The result of one step of a converter.
 #[derive(Clone, Copy, Debug)]
 pub enum Step {
-    /// It went on.
+    /// The converter went on.
     Moved,
-    /// Bytes have to be read before it goes on.
+    /// More bytes have to be read first.
     Hungry,
-    /// What the source has left is the rest of the text.
+    /// The rest of the output is what the source has left.
     Through,
-    /// All was given.
+    /// All output was given.
     Over,
 }
 
-/// What a converter gives.
+/// The output of a call of a converter.
 #[derive(Clone, Copy, Debug)]
 pub enum Gift {
-    /// So many bytes.
+    /// This many bytes.
     Bytes(usize),
-    /// None before bytes are read.
+    /// Nothing, until more bytes are read.
     Hungry,
-    /// None, as what the source has left is the rest of the text.
+    /// Nothing, because the rest of the output is what the source has left.
     Through,
-    /// None, as all was given.
+    /// Nothing, because all output was given.
     Over,
 }
 
 impl Gift {
-    /// What is given where so many bytes were poured before a step answered this.
+    /// Returns the output of a call that gave `at` bytes before a step had this result.
     pub fn of(at: usize, step: Step) -> Gift
         ensures { result ≡ gift_of at step }
     {

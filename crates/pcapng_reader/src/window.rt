@@ -1,4 +1,4 @@
-//! The bytes of a file that are held in the buffer.
+//! The buffer between a file and its classic form.
 
 ghost use Rattle.std.specs.Prelude.{◌≡◌, ◌≤◌, ◌<◌, ◌+◌, ◌-◌, ◌++◌, ℕ, List, [], IfOk, IfErr, vec_len, vec_capacity, length, min, take, drop};
 ghost use Rattle.std.specs.Io.KnownBytes.{Keeps, Consumes, IsAtEnd};
@@ -10,22 +10,23 @@ use pcap_reader::{before_page, file_head};
 use std::alloc::{AllocError, Global};
 use timing_outside::Failed;
 
-/// The capacity of the buffer: a page, the head of a packet's block and its data, and then a whole read.
+/// The capacity of the buffer, in bytes: a page, the start of a packet block with its data, and a
+/// full read.
 const ROOM: usize = 331_804;
 
-/// The bytes of the head of a packet's block, up to its data.
+/// The length of a packet block up to its data, in bytes.
 const PACKET_HEAD: usize = 28;
 
-/// The most bytes that are kept: a record.
+/// The most output bytes that are kept: a packet record with its header.
 const MOST_KEPT: usize = 262_160;
 
-/// The bytes of the head of a classic capture.
+/// The size of the file header of a classic capture, in bytes.
 const FILE_HEAD: usize = 24;
 
-/// The bytes of the head of a record.
+/// The size of a packet record's header, in bytes.
 const RECORD_HEAD: usize = 16;
 
-/// Writes these bytes at a place.
+/// Copies these bytes to a place of `buf`.
 fn put_at(buf: &mut [u8], place: usize, bytes: &[u8])
     requires { place + length bytes.now ≤ length buf.old }
     ensures value { buf.new ≡ take place buf.old ++ (bytes.now ++ drop (place + length bytes.now) buf.old) }
@@ -34,7 +35,7 @@ fn put_at(buf: &mut [u8], place: usize, bytes: &[u8])
     buf[place..place + bytes.len()].copy_from_slice(bytes);
 }
 
-/// Moves the bytes between two places down to another.
+/// Moves the bytes from `from` to `to` down to `place`.
 fn shift(buf: &mut [u8], from: usize, to: usize, place: usize)
     requires down { place ≤ from }
     requires ordered { from ≤ to }
@@ -45,7 +46,8 @@ fn shift(buf: &mut [u8], from: usize, to: usize, place: usize)
     buf.copy_within(from..to, place);
 }
 
-/// Reads once, so many bytes at most, to a place.
+/// Reads once, at most `most` bytes, to a place of `buf`. Returns the number of bytes read, 0 at
+/// the end.
 fn read_at<S: Reads>(
     source: &mut S,
     buf: &mut [u8],
@@ -67,8 +69,8 @@ fn read_at<S: Reads>(
     source.read_bytes(&mut buf[place..place + most])
 }
 
-/// A buffer with two parts: the bytes from `kept` to `kept_end` are kept to be given out, those from
-/// `start` to `filled` were read and not let go.
+/// A buffer with two parts. From `kept` to `kept_end` are output bytes that wait to be given, from
+/// `start` to `filled` are buffered bytes that were read and not consumed.
 #[derive(Drop)]
 pub struct Window {
     buf: Vec<u8>,
@@ -89,7 +91,8 @@ pub struct Window {
 impl Window {
     ghost use Rattle.pcapng_reader.specs.Windows.{kept_bytes, held_bytes};
 
-    /// A window that keeps the head of a classic capture, and holds nothing.
+    /// Returns a window with the file header of a classic capture as output, and no buffered bytes.
+    /// Returns `Err` if memory runs out.
     pub fn new(alloc: Global) -> Result<Window, AllocError>
         ensures kept { IfOk result (λ w. kept_bytes w ≡ file_head) }
         ensures held { IfOk result (λ w. held_bytes w ≡ []) }
@@ -105,21 +108,21 @@ impl Window {
         })
     }
 
-    /// How many bytes are held.
+    /// Returns the number of buffered bytes.
     pub fn len(&self) -> usize
         ensures { result ≡ length (held_bytes self.now) }
     {
         self.filled - self.start
     }
 
-    /// What is held.
+    /// Returns the buffered bytes.
     pub fn peek(&self) -> &[u8]
         ensures { result.now ≡ held_bytes self.now }
     {
         &self.buf[self.start..self.filled]
     }
 
-    /// Gives out what is kept, as far as there is room. Answers how many bytes these are.
+    /// Copies as many output bytes to the start of `out` as fit, and returns their number.
     pub fn give(&mut self, out: &mut [u8]) -> usize
         ensures count { result ≡ min (length out.old) (length (kept_bytes self.old)) }
         ensures bytes { kept_bytes self.old ≡ take result out.new ++ kept_bytes self.new }
@@ -132,7 +135,7 @@ impl Window {
         count
     }
 
-    /// Lets so many held bytes go.
+    /// Consumes this many buffered bytes.
     pub fn pass(&mut self, count: usize)
         requires { count ≤ length (held_bytes self.old) }
         ensures kept { kept_bytes self.new ≡ kept_bytes self.old }
@@ -141,7 +144,7 @@ impl Window {
         self.start += count;
     }
 
-    /// Keeps the front of what is held, in the place of what was kept.
+    /// Turns the first buffered bytes into output, at most 262,160, in place of any output bytes.
     pub fn keep_front(&mut self)
         ensures held { held_bytes self.old ≡ kept_bytes self.new ++ held_bytes self.new }
         ensures some { 0 < length (held_bytes self.old) → 0 < length (kept_bytes self.new) }
@@ -151,7 +154,7 @@ impl Window {
         self.start = self.kept_end;
     }
 
-    /// Forgets what was kept.
+    /// Drops the output bytes.
     pub fn forget(&mut self)
         ensures kept { kept_bytes self.new ≡ [] }
         ensures held { held_bytes self.new ≡ held_bytes self.old }
@@ -159,7 +162,7 @@ impl Window {
         self.kept = self.kept_end;
     }
 
-    /// Keeps these bytes, in the place of all that was kept and held.
+    /// Makes these bytes the output, and drops all output bytes and buffered bytes.
     pub fn keep_only(&mut self, bytes: &[u8])
         requires { length bytes.now ≤ 16 }
         ensures kept { kept_bytes self.new ≡ bytes.now }
@@ -172,8 +175,8 @@ impl Window {
         self.filled = bytes.len();
     }
 
-    /// Lets the head of a packet's block and so many bytes of data go, and keeps a record, in the
-    /// place of what was kept: its head and the data.
+    /// Consumes the start of a packet block and `captured` bytes of data, and makes a packet record
+    /// of this header and these data the output, in place of any output bytes.
     pub fn keep_record(&mut self, head: &[u8; 16], captured: usize)
         requires held { 28 + captured ≤ length (held_bytes self.old) }
         requires few { captured ≤ 262144 }
@@ -187,8 +190,8 @@ impl Window {
         self.start = self.kept_end;
     }
 
-    /// Lets a packet's block of so many bytes go, and puts a record behind so many bytes of `out`: its head, and
-    /// so many bytes of the packet's data.
+    /// Consumes a packet block of `total` bytes, and writes a packet record to `out` from the place
+    /// `at` on: this header, and the first `captured` bytes of the packet's data.
     #[inline(always)]
     pub fn give_record(
         &mut self,
@@ -216,7 +219,8 @@ impl Window {
         self.start += total;
     }
 
-    /// Moves what is kept to the front of the buffer, and what is held behind it, so that it ends where a page does.
+    /// Moves the output bytes to the start of the buffer, and the buffered bytes behind them, so
+    /// that they end at a page boundary.
     fn compact(&mut self)
         ensures kept { kept_bytes self.new ≡ kept_bytes self.old }
         ensures held { held_bytes self.new ≡ held_bytes self.old }
@@ -233,7 +237,8 @@ impl Window {
         self.filled = start + held;
     }
 
-    /// Lets the buffer reach to `end`, within its capacity. What was never read into is not written before.
+    /// Makes the buffer at least `end` bytes long, within its capacity. Bytes beyond the furthest
+    /// read so far aren't written.
     fn reach(&mut self, end: usize)
         requires { end ≤ 331804 }
         ensures kept { kept_bytes self.new ≡ kept_bytes self.old }
@@ -248,8 +253,8 @@ impl Window {
         }
     }
 
-    /// Makes room for so many bytes behind what is held: moves what is kept and held near the front
-    /// where that is no more than what was let go, or where there is no room.
+    /// Makes room for `most` bytes behind the buffered ones. Moves the contents to the start if
+    /// they are no more than the free bytes before them, or if there is no room otherwise.
     fn make_room(&mut self, most: usize)
         requires { length (kept_bytes self.old) + length (held_bytes self.old) + most ≤ 327708 }
         ensures kept { kept_bytes self.new ≡ kept_bytes self.old }
@@ -264,7 +269,8 @@ impl Window {
         self.reach(self.filled + most);
     }
 
-    /// Reads once behind what is held, so many bytes at most.
+    /// Reads once behind the buffered bytes, at most `most` bytes. Returns the number of bytes
+    /// read, 0 at the end.
     pub fn read<S: Reads>(&mut self, source: &mut S, most: usize) -> Result<usize, Failed>
         requires some { 0 < most }
         requires room { length (kept_bytes self.old) + length (held_bytes self.old) + most ≤ 327708 }

@@ -2,5 +2,5 @@ pub mod Stands
 pub mod Between
 -- the reads of a grid
 pub mod Parts
--- what is worked by hand
+-- a video for values worked by hand
 pub mod Worked

@@ -1,4 +1,4 @@
--- A video on which the definitions are tried by hand.
+-- A video for values worked by hand.
 use Rattle.std.specs.Prelude.{false, Some, None}
 use Rattle.timing_base.specs.Media.{Media}
 use Rattle.timing_base.specs.declared.media.Kind.TheVariants.{N}

@@ -2,20 +2,20 @@
 
 ghost use Rattle.std.specs.Prelude.{◌≡◌, ◌≤◌, ◌<◌, ◌+◌, ◌^◌, ◌↔◌, ℕ, ℤ, Bool, IsTrue};
 
-/// The whole nanoseconds of TAI from one read of a schedule on and up to another one, for so many
-/// packets: with each of them both go on to the next read.
+/// Whole nanoseconds of TAI from one read of a schedule on and before another read, for `lasts` packets. With each
+/// packet both reads go on to the next.
 ///
-/// It may lack some of these instants, and has no others. Since it goes on by whole nanoseconds, the last
-/// ones are lacking from the first packet on, one for each packet.
+/// Some of these instants may be missing; there are no others. Since both ends go on by a whole number of nanoseconds,
+/// the last instants are left out from the first packet on, one for each packet.
 #[derive(Clone, Copy, Debug, PartialEq, Eq)]
 pub struct Between {
-    /// The first of them.
+    /// First of the instants.
     from: u64,
-    /// How many there are.
+    /// Number of instants.
     wide: u64,
-    /// So much later the first one is with each read: a nanosecond or less above T_RS.
+    /// Nanoseconds by which the first instant goes on with each read: above T_RS by a nanosecond or less.
     step: u64,
-    /// The packets for which it was made.
+    /// Number of packets for which it was made.
     pub lasts: u64,
     ghost from_small: { from < 2 ^ 63 },
     ghost wide_small: { wide ≤ 2 ^ 63 },
@@ -26,7 +26,7 @@ impl Between {
     ghost use Rattle.timing_base.specs.Media.{Media};
     ghost use Rattle.read_schedule.specs.Between.{Holds, IsFrom, IsUpTo};
 
-    /// No instants.
+    /// Returns an empty set of instants.
     pub fn nothing() -> Between
         ensures { (at : ℕ) → Holds result at → ⊥ }
     {
@@ -38,8 +38,8 @@ impl Between {
         }
     }
 
-    /// So many instants from one on, of which the first is so much later with each read, for so many
-    /// packets.
+    /// Returns `wide` instants from `from` on, for `lasts` packets. With each packet the first instant goes on by
+    /// `step` nanoseconds.
     pub(crate) fn of(from: u64, wide: u64, step: u64, lasts: u64) -> Between
         requires from { from < 2 ^ 63 }
         requires wide { wide ≤ 2 ^ 63 }
@@ -57,10 +57,10 @@ impl Between {
         }
     }
 
-    /// Whether `at` is one of them.
+    /// Returns whether `at` is one of the instants.
     ///
-    /// One comparison serves for both ends: for an instant before the first one the difference wraps, to
-    /// more than 2^63, and there are no more instants than that.
+    /// One comparison is enough for both ends: for an instant before the first one, the difference wraps to more than
+    /// 2^63, and there are at most 2^63 instants.
     #[inline(always)]
     pub fn holds(&self, at: u64) -> bool
         ensures { IsTrue result ↔ Holds self.now at }
@@ -68,7 +68,7 @@ impl Between {
         at.wrapping_sub(self.from) < self.wide
     }
 
-    /// Goes on from both reads to the next ones, where it held the stamp of a packet.
+    /// Goes on from both reads to the next ones, after a packet at `at`, which must be one of the instants.
     #[inline(always)]
     pub fn go_on(&mut self, at: u64)
         requires held { Holds self.old at }

@@ -5,25 +5,25 @@ ghost use Rattle.std.specs.Prelude.{pos, negsuc, ◌≤ℤ◌, ◌+ℤ◌};
 
 use sender_params::{Params, sizes_of};
 
-/// Instants are counted from so many nanoseconds before 0 of TAI, and no read is before that.
+/// Nanoseconds before 0 of TAI from which the instants of a grid are counted. No read is earlier.
 pub const BEFORE: u64 = 1 << 49;
 
-/// The groups that a first read may be before 0 of TAI.
+/// Maximum number of frames or fields by which the first read may be before 0 of TAI.
 const GROUPS_BEFORE: u32 = 480;
 
-/// The reads in parts of 1 / `den` nanoseconds: read k * `n` + j is at
-/// `start + k * group + j * step`.
+/// Reads of one schedule, in parts of 1 / `den` nanoseconds. Read k * `n` + j is at `start + k * group + j * step`; it
+/// is read j of frame or field k after the first.
 #[derive(Clone, Copy, Debug, PartialEq, Eq)]
 pub struct Grid {
-    /// The parts of a nanosecond.
+    /// Number of parts in a nanosecond.
     pub den: u64,
-    /// The reads of one group.
+    /// Reads per frame or field.
     pub n: u64,
-    /// From one read of a group to the next.
+    /// Time from one read of a frame or field to the next, in parts.
     pub step: u64,
-    /// From one group to the next.
+    /// Time from one frame or field to the next, in parts.
     pub group: u128,
-    /// The first read.
+    /// Instant of read 0, in parts.
     pub start: u128,
     ghost den_some: { 1 ≤ den },
     ghost den_small: { den < 2 ^ 48 },
@@ -41,7 +41,8 @@ pub struct Grid {
 impl Grid {
     ghost use Rattle.read_schedule.specs.Parts.{IsGridOf, IsGridWithout, parts_at};
 
-    /// The reads of one schedule, where read 0 is of group `n0`.
+    /// Returns the reads of the gapped or the linear schedule. Read 0 is of frame or field `n0`, counted from the
+    /// epoch.
     pub fn of(params: &Params, gapped: bool, n0: i128) -> Grid
         requires low { negsuc 479 ≤ℤ n0 }
         requires high { n0 ≤ℤ pos (2 ^ 42) }
@@ -50,7 +51,8 @@ impl Grid {
         Grid::begun(params, gapped, n0, true)
     }
 
-    /// The reads of one schedule with the offset 0, where read 0 is of group `n0`.
+    /// Returns the reads of the gapped or the linear schedule with the offset 0. Read 0 is of frame or field `n0`,
+    /// counted from the epoch.
     pub fn without_offset(params: &Params, gapped: bool, n0: i128) -> Grid
         requires low { negsuc 479 ≤ℤ n0 }
         requires high { n0 ≤ℤ pos (2 ^ 42) }
@@ -59,7 +61,7 @@ impl Grid {
         Grid::begun(params, gapped, n0, false)
     }
 
-    /// The reads of one schedule with TR_OFFSET or with the offset 0.
+    /// Returns the reads of one schedule, with TR_OFFSET or with the offset 0.
     fn begun(params: &Params, gapped: bool, n0: i128, has_offset: bool) -> Grid
         requires low { negsuc 479 ≤ℤ n0 }
         requires high { n0 ≤ℤ pos (2 ^ 42) }
@@ -77,7 +79,7 @@ impl Grid {
         }
     }
 
-    /// Where read x is.
+    /// Returns the instant of read `x`, in parts.
     pub(crate) fn instant(&self, x: u64) -> u128
         ensures value { result ≡ parts_at self.now x }
         ensures small { result < 2 ^ 116 }
@@ -87,7 +89,7 @@ impl Grid {
         self.start + group + place
     }
 
-    /// The reads up to the whole nanosecond `t`.
+    /// Returns the number of reads up to the whole nanosecond `t`, counted from [`BEFORE`].
     pub(crate) fn count(&self, t: u64) -> u64
         requires in_time { t < 2 ^ 63 }
         ensures due { (x : ℕ) → x < result → parts_at self.now x ≤ t * self.now.den }
@@ -102,7 +104,7 @@ impl Grid {
         (since / self.group) as u64 * self.n + place.min(self.n - 1) + 1
     }
 
-    /// From the last read of a group to the first of the next.
+    /// Returns the time from the last read of a frame or field to the first of the next, in parts.
     pub fn turn(&self) -> u128
         ensures value { result + (self.now.n - 1) * self.now.step ≡ self.now.group }
         ensures low { self.now.step ≤ result }
@@ -112,14 +114,14 @@ impl Grid {
     }
 }
 
-/// The offset, or none.
+/// Returns the offset if `has_offset` is set, else 0.
 fn offset_if(has_offset: bool, offset: u128) -> u128
     ensures { result ≡ cond has_offset offset 0 }
 {
     if has_offset { offset } else { 0 }
 }
 
-/// The number of a group, counted from the earliest one that there may be.
+/// Returns the number of a frame or field, counted from the earliest that is possible.
 fn lifted(n0: i128) -> u128
     requires low { negsuc 479 ≤ℤ n0 }
     requires high { n0 ≤ℤ pos (2 ^ 42) }

@@ -1,5 +1,4 @@
-//! What holds of the reads themselves, for every video. Each function is a theorem: it does nothing,
-//! and its clauses are proved.
+//! Theorems about the reads, for every video. Each function does nothing; its clauses are the theorem.
 
 ghost use Rattle.std.specs.Prelude.{◌≡◌, ◌≤◌, ◌<◌, ◌+◌, ◌-◌, ℕ, ℤ, pos, negsuc, Bool, true, false};
 ghost use Rattle.std.specs.Prelude.{List, slice_index};
@@ -11,7 +10,7 @@ ghost use Rattle.sender_params.specs.Worked.{hd_25_interlaced, hd_50};
 ghost use Rattle.read_schedule.specs.Stands.{is_on_time};
 ghost use Rattle.read_schedule.specs.Worked.{with_troff};
 
-/// Each read is before the next one, also across the end of a group.
+/// Each read is before the next one, also across the end of a frame or field.
 pub fn reads_rise()
     ensures { (m : Media) (n : ℕ) (anchor : ℤ) (gapped : Bool) (x : ℕ) → IsMedia m → 1 ≤ n
         → Below (read_of m n anchor gapped x) (read_of m n anchor gapped (x + 1)) }
@@ -25,8 +24,7 @@ pub fn one_count()
         → AreDue m n anchor gapped t a → AreDue m n anchor gapped t b → a ≡ b }
 {}
 
-/// The packets that a buffer holds just after packet i came are those up to it, less the reads
-/// that are due.
+/// Just after packet i the buffer holds the packets up to i, less the reads that are due.
 pub fn held_is_less_reads()
     ensures { (m : Media) (n : ℕ) (stamps : List ℕ) (gapped : Bool) (i count : ℕ)
         → AreDue m n (anchor_of m (slice_index stamps 0)) gapped (whole (slice_index stamps i)) count

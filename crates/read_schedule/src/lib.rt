@@ -1,8 +1,8 @@
-//! When the virtual receiver buffer of SMPTE ST 2110-21 reads its packets.
+//! The instants at which the virtual receiver buffer of SMPTE ST 2110-21 reads its packets.
 //!
-//! A [`Schedule`] counts the reads that are due for stamps that never fall, and divides only where it is
-//! many reads behind. A [`Grid`] has the reads themselves, as whole numbers. Instants are nanoseconds of
-//! TAI; reads are counted from 0.
+//! A [`Schedule`] counts the reads that are due, for capture timestamps that never go back. It divides only if it is
+//! many reads behind. A [`Grid`] has the reads themselves, as whole numbers. Instants are in nanoseconds of TAI; reads
+//! count from 0.
 #![tactic(auto)]
 
 mod between;

@@ -1,4 +1,4 @@
-//! The reads that are due, carried along stamps that never fall.
+//! The reads that are due, counted on along capture timestamps that never go back.
 
 ghost use Rattle.std.specs.Prelude.{◌≡◌, ◌≤◌, ◌<◌, ◌+◌, ◌-◌, ◌*◌, ◌/◌, ◌%◌, ◌^◌, ◌↔◌, ℕ, IsTrue, false};
 ghost use Rattle.read_schedule.specs.Parts.{ArePast, parts_at};
@@ -7,62 +7,63 @@ use crate::between::Between;
 use crate::grid::{BEFORE, Grid};
 use sender_params::Params;
 
-/// The instant of a read that is never due, and of no read: no stamp is as late.
+/// An instant later than every capture timestamp: that of a read that is never due, and of the last due read if none is
+/// due.
 const NEVER: u64 = 1 << 63;
 
-/// The reads that a schedule passes one by one. Where more are due it divides.
+/// Number of reads that a schedule counts one by one. If more are due, it divides.
 const FEW: u64 = 64;
 
-/// A span of time, in nanoseconds and parts of one.
+/// A duration, in nanoseconds and parts of one.
 #[derive(Clone, Copy, Debug, PartialEq, Eq)]
 struct Span {
     whole: u64,
     part: u64,
 }
 
-/// An instant, rounded up to whole nanoseconds, and by how many parts.
+/// An instant, rounded up to whole nanoseconds, and the number of parts by which it was rounded up.
 #[derive(Clone, Copy, Debug, PartialEq, Eq)]
 struct Rounded {
     at: u64,
     slack: u64,
 }
 
-/// What is due at an instant.
+/// The reads that are due at an instant.
 #[derive(Clone, Copy, Debug, PartialEq, Eq)]
 pub struct Due {
-    /// The reads that are due. One at the very instant counts.
+    /// Number of reads that are due. A read exactly at the instant counts.
     pub count: u64,
-    /// Whether the last of them is at the very instant.
+    /// Whether the last of them is exactly at the instant.
     pub on_time: bool,
 }
 
 /// The first read that isn't due yet.
 #[derive(Clone, Copy, Debug, PartialEq, Eq)]
 pub struct NextRead {
-    /// Its number: so many reads are due.
+    /// Number of the read, counted from 0, which is the number of reads that are due.
     pub number: u64,
-    /// The whole nanosecond of TAI from which on it is due. One that is 2^62 or more only says that
-    /// the read is no earlier than 2^62.
+    /// First whole nanosecond of TAI at which it is due. A value of 2^62 or more only means that it isn't due before
+    /// 2^62.
     pub at: u64,
 }
 
-/// The reads of one schedule that are due, for stamps that never fall.
+/// The due reads of one schedule, for capture timestamps that never go back.
 #[derive(Clone, Copy, Debug, PartialEq, Eq)]
 pub struct Schedule {
     grid: Grid,
-    /// From one read of a group to the next.
+    /// Time from one read of a frame or field to the next.
     step: Span,
-    /// From the last read of a group to the first of the next.
+    /// Time from the last read of a frame or field to the first of the next.
     turn: Span,
-    /// The time of a few reads.
+    /// About the time of `FEW` reads, in whole nanoseconds.
     long: u64,
-    /// The reads that are due.
+    /// Number of reads that are due.
     passed: u64,
-    /// The place of the next one in its group.
+    /// Position of the next read in its frame or field, counted from 0.
     place: u64,
-    /// The next one.
+    /// Instant of the next read, which isn't due yet.
     next: Rounded,
-    /// The last one that is due.
+    /// Instant of the last due read.
     last: Rounded,
     ghost step_some: { 1 ≤ step.whole },
     ghost step_small: { step.whole < 2 ^ 51 },
@@ -91,7 +92,8 @@ impl Schedule {
     ghost use Rattle.read_schedule.specs.Between.{IsFrom, IsUpTo};
     ghost use Rattle.read_schedule.specs.Stands.{CatchesUp, IsDueAt, IsNextAfter, LeadsTo, MovesTo, StandsBy, Tells, left_of};
 
-    /// The reads of a sender, gapped or linear, where read 0 is of group `n0`. None is due yet.
+    /// Returns the gapped or the linear schedule of a sender. Read 0 is of frame or field `n0`, counted from the epoch.
+    /// No read is due yet.
     pub fn new(params: &Params, gapped: bool, n0: i128) -> Schedule
         requires low { negsuc 479 ≤ℤ n0 }
         requires high { n0 ≤ℤ pos (2 ^ 42) }
@@ -100,9 +102,10 @@ impl Schedule {
         Schedule::start(Grid::of(params, gapped, n0))
     }
 
-    /// What is due at `at`, in nanoseconds of TAI. It divides only where it is many reads behind.
+    /// Returns the reads that are due at `at`, in nanoseconds of TAI. Divides only if the schedule is many reads
+    /// behind.
     ///
-    /// Ask for stamps that never fall: the clauses say nothing of others.
+    /// The caller must pass capture timestamps that never go back: for others the result is not guaranteed.
     #[inline(always)]
     pub fn advance(&mut self, at: u64) -> Due
         requires { at < 2 ^ 62 }
@@ -118,10 +121,10 @@ impl Schedule {
         }
     }
 
-    /// The first read that isn't due at `at`, in nanoseconds of TAI. It divides only where it is many
-    /// reads behind.
+    /// Returns the first read that isn't due at `at`, in nanoseconds of TAI. Divides only if the schedule is many reads
+    /// behind.
     ///
-    /// Ask for stamps that never fall: the clauses say nothing of others.
+    /// The caller must pass capture timestamps that never go back: for others the result is not guaranteed.
     #[inline(always)]
     pub fn next_after(&mut self, at: u64) -> NextRead
         requires { at < 2 ^ 62 }
@@ -135,10 +138,11 @@ impl Schedule {
         }
     }
 
-    /// The instants from one read on and up to another one, for packets of which the last came at `last`.
+    /// Returns the instants from read `early` on and before read `late`, for packets after one that came at `last`.
     ///
-    /// It lasts as long as no read leaves its group, and no longer than it holds packets that come T_RS
-    /// after one another: of the time that they have left, a quarter is for those that come later.
+    /// They last until one of the two reads reaches the end of its frame or field. Each packet costs one nanosecond of
+    /// them, so they last for at most three quarters as many packets as there are nanoseconds between the next packet,
+    /// if it comes T_RS after the last, and read `late`. The other quarter is left for packets that come later.
     pub fn between(&self, early: u64, late: u64, last: u64) -> Between
         ensures lasts { result.lasts ≤ left_of self.now early }
         ensures from { (m : Media) (n : ℕ) (anchor : ℤ) (gapped : Bool) (at left : ℕ)
@@ -164,7 +168,7 @@ impl Schedule {
         )
     }
 
-    /// The instants from one read on, as long as that doesn't leave its group.
+    /// Returns the instants from read `early` on, until that read reaches the end of its frame or field.
     pub fn after(&self, early: u64) -> Between
         ensures lasts { result.lasts ≤ left_of self.now early }
         ensures from { (m : Media) (n : ℕ) (anchor : ℤ) (gapped : Bool) (at left : ℕ)
@@ -175,15 +179,15 @@ impl Schedule {
         Between::of(self.first_due(early), NEVER, step, self.reads_left(early))
     }
 
-    /// The reads of a group from this one on.
+    /// Returns the number of reads of the frame or field from this one on.
     fn reads_left(&self, read: u64) -> u64
         ensures { result ≡ left_of self.now read }
     {
         self.grid.n - read % self.grid.n
     }
 
-    /// The first whole nanosecond of TAI at which a read is due, and 0 where that is one before; one
-    /// that is 2^62 or more only says that the read is no earlier than 2^62.
+    /// Returns the first whole nanosecond of TAI at which a read is due, or 0 if it is due before 0. A result of 2^62
+    /// or more only means that the read isn't due before 2^62.
     fn first_due(&self, read: u64) -> u64
         ensures due { (at : ℕ) → at < 2 ^ 62 → result ≤ at
             → parts_at self.now.grid read ≤ (result + 2 ^ 49) * self.now.grid.den }
@@ -196,7 +200,7 @@ impl Schedule {
             .saturating_sub(BEFORE)
     }
 
-    /// The schedule at its start, with no read due.
+    /// Returns the schedule with no read due.
     fn start(grid: Grid) -> Schedule
         ensures grid { result.grid ≡ grid }
         ensures passed { result.passed ≡ 0 }
@@ -218,7 +222,7 @@ impl Schedule {
         }
     }
 
-    /// From the next read to the one after it, in its group.
+    /// Returns the time from the next read to the one after it, in the same frame or field.
     #[inline(always)]
     fn step_ahead(&self) -> Span
         requires few { self.now.passed < 2 ^ 63 }
@@ -228,7 +232,7 @@ impl Schedule {
         self.step
     }
 
-    /// From the next read, which is the last of its group, to the one after it.
+    /// Returns the time from the next read, which is the last of its frame or field, to the one after it.
     #[inline(always)]
     fn turn_ahead(&self) -> Span
         requires few { self.now.passed < 2 ^ 63 }
@@ -238,7 +242,7 @@ impl Schedule {
         self.turn
     }
 
-    /// The next read passes; `t` is at it or after.
+    /// Counts the next read as due. `t` is its instant or later.
     #[inline(always)]
     fn pass(&mut self, t: u64)
         requires due { self.old.next.at ≤ t }
@@ -257,7 +261,7 @@ impl Schedule {
         self.passed += 1;
     }
 
-    /// The next read passes, the last one of its group.
+    /// Counts the next read, the last of its frame or field, as due.
     #[cold]
     #[inline(never)]
     fn pass_last(&mut self, t: u64)
@@ -275,7 +279,7 @@ impl Schedule {
         self.passed += 1;
     }
 
-    /// All reads up to `t` pass, by way of a division.
+    /// Counts all reads up to `t` as due, by a division.
     #[cold]
     #[inline(never)]
     fn seek(&mut self, t: u64)
@@ -297,7 +301,7 @@ impl Schedule {
         };
     }
 
-    /// Where many reads are due at `t`, all of them pass.
+    /// Counts all reads up to `t` as due if they are many; else does nothing.
     fn hurry(&mut self, t: u64)
         requires in_time { t < 2 ^ 63 }
         ensures grid { self.new.grid ≡ self.old.grid }
@@ -310,7 +314,7 @@ impl Schedule {
         }
     }
 
-    /// All reads up to `t` pass, many or few.
+    /// Counts all reads up to `t` as due, many or few.
     #[inline(never)]
     fn race(&mut self, t: u64)
         requires in_time { t < 2 ^ 63 }
@@ -322,7 +326,7 @@ impl Schedule {
         }
     }
 
-    /// All reads up to `t` pass: mostly none or one.
+    /// Counts all reads up to `t` as due, which mostly are none or one.
     #[inline(always)]
     fn catch_up(&mut self, t: u64)
         requires in_time { t < 2 ^ 63 }
@@ -338,7 +342,7 @@ impl Schedule {
         self.race(t);
     }
 
-    /// Whether the last read that is due is at `t`.
+    /// Returns whether the last due read is exactly at `t`.
     fn is_at(&self, t: u64) -> bool
         requires in_time { t < 2 ^ 63 }
         ensures none { self.now.passed ≡ 0 → result ≡ false }
@@ -349,7 +353,7 @@ impl Schedule {
     }
 }
 
-/// So many parts.
+/// Returns a number of parts as a duration. A nanosecond has `den` parts.
 fn spread(parts: u128, den: u64) -> Span
     requires some { 1 ≤ den }
     requires den_small { den < 2 ^ 48 }
@@ -367,7 +371,8 @@ fn spread(parts: u128, den: u64) -> Span
     }
 }
 
-/// So many parts after 0, or never.
+/// Returns the instant so many parts after 0, rounded up to whole nanoseconds. If that is 2^63 or later, returns
+/// `NEVER`.
 fn rounded_up(parts: u128, den: u64) -> Rounded
     requires some { 1 ≤ den }
     requires den_small { den < 2 ^ 48 }
@@ -391,7 +396,7 @@ fn rounded_up(parts: u128, den: u64) -> Rounded
     }
 }
 
-/// The instant a span later. No branch is taken on the parts.
+/// Returns the instant `span` later. The code has no branch that depends on the parts.
 fn later(before: Rounded, span: Span, den: u64) -> Rounded
     requires slack { before.slack < den }
     requires part { span.part < den }

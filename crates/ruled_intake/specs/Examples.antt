@@ -1,4 +1,4 @@
--- Messages of two senders, laid out by hand.
+-- Messages of two senders, for values worked by hand.
 use Rattle.std.specs.Prelude.{ℕ, List, [], ◌∷◌, Err}
 use Rattle.timing_base.specs.declared.capture.FileNote.TheVariants.{Cut}
 use Rattle.timing_base.specs.declared.packet.PacketFault.TheVariants.{Short}
@@ -8,7 +8,7 @@ use Rattle.ruled_intake.specs.declared.rule.Entry.{Entry}
 use Rattle.ruled_intake.specs.Lanes.{entry}
 use Rattle.ruled_intake.specs.Packets.{Packet}
 
--- the end of a file that is cut at this byte
+-- the end of a file that is truncated at this byte
 abbrev pub cut_at : (file at : ℕ) → Message
 cut_at file at = End record { file = file; note = Cut at; records = 0 }
 

@@ -1,12 +1,12 @@
--- what is promised
+-- definitions that the clauses of the public functions use
 pub mod Packets
 pub mod Messages
 pub mod Lanes
 pub mod Halts
--- the rule that the lane keeps at each step
+-- rule that the lane keeps at each step
 pub mod Rule
--- messages that are laid out by hand
+-- messages for values worked by hand
 pub mod Examples
--- these only serve proofs
+-- definitions for proofs only
 pub mod Knows
 pub mod Readings

@@ -6,7 +6,7 @@ use crate::lane::Lane;
 use std::marker::Model;
 use std::sync::{OnceLock, OnceToken, Wait};
 
-/// Tells workers that a reader of a capture ran out of memory. Nothing is promised of when a worker
+/// A flag by which a reader of a capture that ran out of memory stops the workers. It isn't guaranteed when a worker
 /// sees it.
 #[derive(Drop)]
 pub struct Halt {
@@ -21,8 +21,8 @@ impl Model for Halt {
     ghost view = { λ halt. halt.raised.id };
 }
 
-/// That a halt was raised: only who raised it, or saw it raised, has one. It shows the lanes whose
-/// workers were woken for it: none, where it was only seen.
+/// Evidence that a halt was raised: only a thread that raised it, or saw it raised, has one. It has the lanes with the
+/// workers that were woken for it; none if the halt was only seen raised.
 #[derive(Drop)]
 pub struct Raised<'a> {
     token: OnceToken<'a, ()>,
@@ -38,15 +38,15 @@ impl<'a> Model for Raised<'a> {
 }
 
 impl Halt {
-    /// A flag that isn't raised.
+    /// Returns a flag that isn't raised.
     pub fn new() -> Halt {
         Halt {
             raised: OnceLock::new(),
         }
     }
 
-    /// Raises the flag, for good, and wakes the workers that sleep at these lanes. The call may wait for
-    /// another thread that is raising it.
+    /// Raises the flag for good, and wakes the workers that sleep at these lanes. The call may wait for another thread
+    /// that is raising it.
     pub fn raise<'a, R: Wait>(&'a self, rt: &R, lanes: &'a [Lane]) -> Raised<'a>
         ensures halt { result.halt ≡ self.now }
         ensures woken { result.woken ≡ lanes.now }
@@ -61,7 +61,7 @@ impl Halt {
         }
     }
 
-    /// Whether the flag was seen raised.
+    /// Returns evidence if the flag was seen raised, else `None`.
     pub fn raised(&self) -> Option<Raised<'_>>
         ensures { IfSome result (λ raised. raised.halt ≡ self.now) }
     {

@@ -1,4 +1,4 @@
-//! Lanes.
+//! Lanes from senders to a worker.
 
 ghost use Rattle.std.specs.Prelude.{◌≡◌, ◌≤◌, ◌<◌, ◌+◌, ◌^◌, ◌++◌, ◌∷◌, [], ℕ, length, sum_by, IfErr, IfNone, IfOk, IfSome, OnOk};
 ghost use Rattle.crossbeam_queue.specs.SegTies.{IsSegPassOf};
@@ -20,32 +20,32 @@ use std::sync::Wait;
 use std::sync::atomic::{AtomicBool, AtomicU64, Ordering};
 use std::thread;
 
-/// How often a sender's thread yields the processor at most, for one message, where the worker hasn't begun.
+/// Maximum number of times that a sender's thread yields the processor for one message if the worker hasn't begun.
 const PATIENCE: u32 = 100;
 
-/// A lane of so many messages is long.
+/// Number of messages from which on a lane is long.
 pub(crate) const LONG: u64 = 64;
 
-/// A lane of fewer messages is short: senders that sleep are woken. It is less than [`LONG`], so that a
-/// sender that was woken sends many before it sleeps again.
+/// Number of messages below which a lane is short, and sleeping senders are woken. It is less than [`LONG`], so that a
+/// woken sender sends many messages before it sleeps again.
 const SHORT: u64 = 32;
 
 /// A lane from 1 to 16 senders to one worker.
 pub struct Lane {
     queue: LaneQueue,
-    /// How many messages were sent and how many were taken, about: nothing but waiting rests on them. A
-    /// message is counted before it can be taken.
+    /// Approximate numbers of messages sent and taken. Only waiting depends on them. A message is counted before it can
+    /// be taken.
     sent: CachePadded<AtomicU64>,
     taken: CachePadded<AtomicU64>,
-    /// Wakes the worker.
+    /// Event on which the worker sleeps.
     news: EventCount,
     /// Whether the worker takes messages: it has begun, and hasn't ended.
     working: AtomicBool,
-    /// Wakes the senders.
+    /// Event on which senders sleep.
     room: EventCount,
 }
 
-/// The worker of a lane takes messages, until this is dropped.
+/// Guard of a worker that takes messages. When it is dropped, the worker has ended.
 pub struct Working<'a> {
     lane: &'a Lane,
 }
@@ -72,11 +72,12 @@ impl Drop for Lane {
     }
 }
 
-/// How many messages went into a lane, and how many were taken out of it.
+/// Numbers of messages that were sent to a lane and taken from it.
 #[derive(Clone, Copy, Debug, PartialEq, Eq)]
 pub struct Closed {
-    /// By all senders.
+    /// Messages sent by all senders.
     pub sent: u64,
+    /// Messages taken.
     pub taken: u64,
 }
 
@@ -84,9 +85,9 @@ impl Lane {
     ghost use Rattle.ruled_intake.specs.Lanes.{HasTaken, IsPrefix, IsWithin, messages, of, with_sent};
     ghost use Rattle.ruled_intake.specs.Rule.{HeldNothing, MayLearn};
 
-    /// Puts a message at the back, and wakes the worker. `Err` is want of memory, and hands the message back.
+    /// Appends a message, and wakes the worker. Returns `Err` with the message if memory runs out.
     ///
-    /// The call may wait for another thread's step in flight, and promises if it returns.
+    /// The call may wait for a step of another thread. Its contract holds if it returns.
     pub fn send<R: Wait>(
         &self,
         rt: &R,
@@ -120,39 +121,38 @@ impl Lane {
 
     /// Wakes the worker, so that it sees a halt that was raised.
     pub(crate) fn wake(&self) {
-        // Writes the count that `wait_for_message` reads between its word that it will sleep and its look at
-        // the halt: either it reads this write, and then sees the halt, or the next line sees its word.
+        // Writes the count that `wait_for_message` reads after it announced its sleep and before it reads the halt.
+        // Either it reads this write, and then sees the halt, or the next line sees its announcement.
         self.sent.fetch_add(0, Ordering::SeqCst);
         self.news.notify_one();
     }
 
-    /// Lets the worker's thread sleep while the lane holds nothing and the halt isn't raised, and else
-    /// yields the processor. Nothing is promised of how long that is. One thread at a time sleeps at a lane.
+    /// Lets the worker's thread sleep while the lane is empty and the halt isn't raised; else yields the processor. It
+    /// isn't guaranteed how long that takes. Only one thread at a time may sleep at a lane.
     pub fn wait_for_message<R: Wait>(&self, rt: &R, pass: &mut TakePass, halt: &Halt)
         requires lane { pass.old.lane ≡ self.now }
         ensures same { pass.new ≡ pass.old }
     {
         let sleep = self.news.prepare_wait();
-        // The lane is looked at first, and then the halt: `wake` counts on it.
+        // The lane is read first, and then the halt: `wake` depends on it.
         if self.ahead() == 0 && halt.raised().is_none() {
             sleep.wait(rt);
         } else {
-            // A sender that stands between its count and its push may need this processor.
+            // A sender between its count and its push may need this processor.
             drop(sleep);
             thread::yield_now();
         }
     }
 
-    /// The worker takes messages from now on: senders may wait for it.
+    /// Notes that the worker takes messages from now on, so that senders may wait for it.
     pub fn begin(&self) -> Working<'_> {
         self.working.store(true, Ordering::SeqCst);
         Working { lane: self }
     }
 
-    /// Lets the worker's thread take messages, where the lane is long. The sender sleeps until the lane is
-    /// short or the worker has ended. For a worker that hasn't begun it doesn't sleep, since that may be
-    /// waiting for the sender's thread: it only yields the processor a while. Nothing is promised of how
-    /// long the lane is.
+    /// Waits while the lane is long, so that the worker can take messages. The sender sleeps until the lane is short or
+    /// the worker has ended. If the worker hasn't begun, it may be waiting for the sender's thread, so the sender
+    /// doesn't sleep but yields the processor a limited number of times. The length of the lane isn't guaranteed.
     pub fn wait_for_room<R: Wait>(&self, rt: &R, pass: &mut SendPass)
         ensures same { pass.new ≡ pass.old }
     {
@@ -163,19 +163,19 @@ impl Lane {
         }
     }
 
-    /// Whether a sender has to wait: the lane is long, and the worker takes.
+    /// Returns whether a sender has to wait: the lane is long, and the worker takes messages.
     fn is_held_up(&self) -> bool {
         self.working.load(Ordering::SeqCst) && self.ahead() >= LONG
     }
 
-    /// Sleeps while the lane is long and the worker takes.
+    /// Sleeps while the lane is long and the worker takes messages.
     fn sleep_while_long<R: Wait>(&self, rt: &R) {
         for _ in rt.forever() {
             if !self.is_held_up() {
                 break;
             }
             let sleep = self.room.prepare_wait();
-            // There may be room since before the word that this thread will sleep: then nothing wakes it.
+            // There may have been room before this thread announced its sleep: then nothing would wake it.
             if !self.is_held_up() {
                 break;
             }
@@ -183,8 +183,8 @@ impl Lane {
         }
     }
 
-    /// Yields the processor while the lane is long, a bounded number of times. Each call in vain, in which
-    /// the worker took nothing, halves that number for the next one.
+    /// Yields the processor while the lane is long, a limited number of times. After each call in which the worker took
+    /// nothing, that number is halved.
     fn yield_while_long(&self, pass: &mut SendPass)
         ensures same { pass.new ≡ pass.old }
     {
@@ -197,7 +197,7 @@ impl Lane {
         };
     }
 
-    /// Yields the processor at most so many times, until the lane isn't long.
+    /// Yields the processor at most `turns` times, until the lane isn't long. Returns whether it isn't.
     fn gets_short(&self, turns: u32) -> bool {
         for _ in 0..turns {
             if self.ahead() < LONG {
@@ -208,7 +208,7 @@ impl Lane {
         false
     }
 
-    /// Counts a message that was taken, and wakes the senders where the lane is short.
+    /// Counts a message that was taken, and wakes the senders if the lane is short.
     fn count_taken(&self) {
         self.taken.fetch_add(1, Ordering::SeqCst);
         if self.ahead() < SHORT {
@@ -216,18 +216,16 @@ impl Lane {
         }
     }
 
-    /// About how many messages the lane holds.
+    /// Returns approximately how many messages the lane holds.
     pub(crate) fn ahead(&self) -> u64 {
         let sent = self.sent.load(Ordering::SeqCst);
         sent.saturating_sub(self.taken.load(Ordering::SeqCst))
     }
 
-    /// Takes the message at the front. `None` comes where the lane held nothing at one step of this
-    /// call: of what it held then, nothing, the caller learns what its lesson says. It does not say that
-    /// no message will come.
+    /// Takes the first message. Returns `None` if the lane was empty at one step of this call; the caller then learns
+    /// what its lesson states of an empty lane. `None` doesn't mean that no message will come.
     ///
-    /// The call may wait for another thread's step in flight, and promises if it returns. It takes
-    /// no memory.
+    /// The call may wait for a step of another thread. Its contract holds if it returns. It allocates no memory.
     pub fn take<L: Lesson<Entry, View>, R: Wait>(
         &self,
         rt: &R,
@@ -245,7 +243,8 @@ impl Lane {
         Some(entry.message)
     }
 
-    /// A lane with so many senders, and its passes: sender f has the f-th. `Err` is want of memory.
+    /// Returns a lane for this number of senders, and its passes: sender f, counted from 0, has the pass at position f.
+    /// Returns `Err` if memory runs out.
     pub fn new(alloc: Global, senders: u32) -> Result<(Lane, Vec<SendPass>, TakePass), OutOfMemory>
         requires some { 1 ≤ senders }
         requires few { senders ≤ 16 }
@@ -276,7 +275,7 @@ impl Lane {
         }
     }
 
-    /// The queue of a lane that ends.
+    /// Returns the queue of a lane that ends.
     fn into_queue(self) -> LaneQueue
         ensures { result ≡ self }
     {
@@ -291,9 +290,9 @@ impl Lane {
         queue
     }
 
-    /// Ends the lane, and compares what its passes took and sent: of each sender, what was taken is
-    /// the first part of what it sent; where as many were taken as were sent, it is all. Takes no
-    /// memory. The call may wait, though no other thread has the lane any more.
+    /// Ends the lane, and compares what its passes took and sent. For each sender, what was taken is a prefix of what
+    /// it sent; if as many messages were taken as sent, it is all of it. Allocates no memory. The call may wait, though
+    /// no other thread has the lane any more.
     pub fn close<R: Wait>(self, rt: &R, senders: Vec<SendPass>, taker: TakePass) -> Closed
         requires senders { AreSenders self senders.items × (length senders.items ≡ taker.senders) }
         requires taker { taker.lane ≡ self }
@@ -312,7 +311,7 @@ impl Lane {
     }
 }
 
-/// Makes the senders' passes of a new lane.
+/// Makes the senders' passes of a new lane. Returns `Err` if memory runs out.
 fn make_senders(
     alloc: Global,
     queue: &LaneQueue,
@@ -342,7 +341,7 @@ fn make_senders(
     Ok(passes)
 }
 
-/// Takes in all senders, which have ended, and returns how many messages they have sent.
+/// Takes back the passes of all senders, which have ended, and returns how many messages they have sent.
 fn take_in(queue: &LaneQueue, taker: &mut LanePass, senders: Vec<SendPass>) -> u64
     requires pass { IsSegPassOf queue.now taker.old }
     requires view { taker.old.me.view.client

@@ -1,12 +1,11 @@
-//! Lanes from the readers of captures to a judging worker: of each sender all messages come in
-//! order, each once.
+//! Lanes from the readers of captures to a judging worker. All messages of a sender come in order, each once.
 //!
-//! A [`Lane`] is shared by reference. It is made with a [`SendPass`] for each sender and one
-//! [`TakePass`], which show contracts what was sent and taken by them. [`Lane::close`], which takes
-//! them all back, ties the two together. Files, media and senders count from 0 here, records from
-//! 1; stamps are nanoseconds since 1970-01-01 00:00:00.
+//! A [`Lane`] is shared by reference. It is made with a [`SendPass`] for each sender and one [`TakePass`]. In contracts
+//! a pass has the list of what was sent or taken with it. [`Lane::close`] takes all passes back and compares them.
+//! Files, media and senders count from 0, packet records from 1. Capture timestamps are in nanoseconds since 1970-01-01
+//! 00:00:00.
 //!
-//! Nothing is promised of how long a lane gets, nor of who waits for whom.
+//! The length of a lane isn't guaranteed, nor which thread waits for which.
 #![tactic(auto)]
 
 mod halt;

@@ -1,14 +1,15 @@
-//! What a lane carries.
+//! The messages of a lane.
 
 use crate::packet::Packet;
 use std::marker::Model;
 use timing_base::{FileNote, Items};
 
-/// Packets of one file, in the order of its records: 1 to 256.
+/// Packets of one file, in the order of its packet records: 1 to 256.
 #[derive(Debug, Drop)]
 pub struct Batch {
-    /// The file, counted from 0.
+    /// File, counted from 0.
     pub file: u32,
+    /// Packets of the batch.
     pub packets: Items<Packet>,
 }
 
@@ -22,14 +23,14 @@ impl Model for Batch {
     ghost invariant = { λ batch. IsBatch (record { file = batch.file; packets = batch.packets }) };
 }
 
-/// The end of one file.
+/// End of one file.
 #[derive(Debug, Drop)]
 pub struct FileEnd {
-    /// The file, counted from 0.
+    /// File, counted from 0.
     pub file: u32,
-    /// How its records end.
+    /// How its packet records end.
     pub note: FileNote,
-    /// The number of its records, or where a read failed that of the records before: below 2^37.
+    /// Number of its packet records, or if a read failed, of those before that: below 2^37.
     pub records: u64,
 }
 
@@ -43,10 +44,12 @@ impl Model for FileEnd {
     ghost invariant = { λ end. IsFileEnd (record { file = end.file; note = end.note; records = end.records }) };
 }
 
-/// What a sender hands to the worker of a lane.
+/// Message from a sender to the worker of a lane.
 #[derive(Debug, Drop)]
 pub enum Message {
+    /// Packets of a file.
     Batch(Batch),
+    /// The end of a file.
     End(FileEnd),
 }
 
@@ -54,7 +57,7 @@ impl Message {
     ghost use Rattle.std.specs.Prelude.{◌≡◌, ◌≤◌};
     ghost use Rattle.ruled_intake.specs.Lanes.{count_of};
 
-    /// How many packets it has: at most 256.
+    /// Returns the number of packets in the message: at most 256.
     pub fn packets(&self) -> u64
         ensures value { result ≡ count_of self.now }
         ensures few { result ≤ 256 }

@@ -7,14 +7,16 @@ ghost use Rattle.ruled_intake.specs.Packets.{IsReading, flow_packet, packet_of};
 use std::marker::Model;
 use timing_base::{FlowPacket, PacketFault, Rtp};
 
-/// Why a packet could not be read.
+/// Reason why a packet couldn't be parsed.
 #[derive(Clone, Copy, Debug, PartialEq, Eq)]
 enum Unread {
+    /// The payload ends before the extended sequence number does.
     Short,
+    /// The RTP version isn't 2.
     Version,
 }
 
-/// A packet of one media of a capture. It has 40 bytes: its fields lie in this order.
+/// Packet of one media of a capture. It takes 40 bytes: its fields lie in this order.
 #[derive(Clone, Copy, Debug)]
 pub struct Packet {
     rec: u64,
@@ -40,8 +42,8 @@ impl Model for Packet {
 }
 
 impl Packet {
-    /// The packet of this media, counted from 0. The record's number is below 2^37, and what is
-    /// wrong with the reading is `Short` or `Version`.
+    /// Returns the packet of a media, counted from 0. The packet record must be below 2^37, and a parse fault must be
+    /// `Short` or `Version`.
     pub fn new(media: u32, packet: FlowPacket) -> Packet
         requires rec { packet.rec < 2 ^ 37 }
         requires at { IsStamp packet.at }
@@ -61,14 +63,14 @@ impl Packet {
         }
     }
 
-    /// The media, counted from 0.
+    /// Returns the media, counted from 0.
     pub fn media(&self) -> u32
         ensures value { result ≡ self.now.media }
     {
         self.media
     }
 
-    /// The packet as its flow has it.
+    /// Returns the packet as its flow has it.
     pub fn flow_packet(&self) -> FlowPacket
         ensures value { result ≡ flow_packet self.now }
         ensures rec { result.rec < 2 ^ 37 }

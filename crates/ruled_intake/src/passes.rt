@@ -6,18 +6,21 @@ use crate::message::Message;
 use crate::rule::LanePass;
 use std::marker::Model;
 
-/// The most messages of one sender, and the most packets in them: 2^37.
+/// Maximum number of messages of one sender, and of the packets in them: 2^37.
 const MOST: u64 = 137_438_953_472;
 
-/// The pass of one sender. Contracts see its lane, the sender's number, and what it has sent.
+/// Pass of one sender. In contracts it has its lane, the sender's number, and what was sent with it.
 #[derive(Drop)]
 pub struct SendPass {
+    /// Number of the sender, counted from 0.
     pub(crate) from: u32,
+    /// Pass of the queue.
     pub(crate) pass: LanePass,
-    /// The messages that it has sent, and the packets in them.
+    /// Number of messages that it has sent.
     pub(crate) sent: u64,
+    /// Number of packets in these messages.
     pub(crate) packets: u64,
-    /// How often its thread yields the processor, where the lane is long and the worker hasn't begun.
+    /// Number of times that its thread yields the processor if the lane is long and the worker hasn't begun.
     pub(crate) patience: u32,
 }
 
@@ -42,8 +45,7 @@ impl Model for SendPass {
 impl SendPass {
     ghost use Rattle.ruled_intake.specs.Lanes.{IsWithin};
 
-    /// Whether this message keeps the limits of one sender: at most 2^37 messages, and as many
-    /// packets.
+    /// Returns whether the limits of one sender are kept with this message: at most 2^37 messages, and as many packets.
     pub fn has_room(&self, message: &Message) -> bool
         ensures { IsTrue result → IsWithin (2 ^ 37) (self.now.sent ++ message.now ∷ []) }
     {
@@ -51,11 +53,12 @@ impl SendPass {
     }
 }
 
-/// The pass of the taker. Contracts see its lane, the number of its senders, and what was taken.
+/// Pass of the taker. In contracts it has its lane, the number of its senders, and what was taken with it.
 #[derive(Drop)]
 pub struct TakePass {
+    /// Pass of the queue.
     pub(crate) pass: LanePass,
-    /// The messages that were taken.
+    /// Number of messages taken.
     pub(crate) taken: u64,
 }
 

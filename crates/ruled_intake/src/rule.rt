@@ -1,4 +1,5 @@
-//! What each pass of a lane knows, and the steps that change it. No value of it is made.
+//! The entries of a lane, the proof state of each of its passes, and the steps that change it. No value of a proof
+//! state or of a step exists at run time.
 
 use crate::message::Message;
 use crossbeam_queue::protocol::{Join, Lesson, Outcome, Protocol, Split};
@@ -6,32 +7,34 @@ use crossbeam_queue::{RuledSegQueue, SegPass};
 use std::collections::LinkedList;
 use std::marker::PhantomData;
 
-/// A message, with the number of its sender.
+/// Message with the number of its sender.
 #[derive(Debug, Drop)]
 pub struct Entry {
+    /// Number of the sender, counted from 0.
     pub from: u32,
+    /// Message that it sent.
     pub message: Message,
 }
 
-/// What a pass knows.
+/// Proof state of a pass.
 pub enum View {
     /// Of a sender: its number, and what it has sent.
     Sends {
         from: u64,
         put: LinkedList<Message>,
     },
-    /// Of the taker: what it has taken, how many senders were made, and what each of the first ones
-    /// has sent that were taken in.
+    /// Of the taker: what it has taken, how many senders were made, and what each of the senders has sent that were
+    /// taken back, in order.
     Takes {
         got: LinkedList<Entry>,
         made: u64,
         known: LinkedList<LinkedList<Message>>,
     },
-    /// Of a sender that was taken in.
+    /// Of a sender that was taken back.
     Spent,
 }
 
-/// Of each sender, what was taken and then what the lane holds is what it sent.
+/// Rule of a lane: for each sender, what was taken and then what the lane holds is what it sent.
 pub struct InOrder;
 
 impl Protocol<Entry, View> for InOrder {
@@ -42,7 +45,7 @@ impl Protocol<Entry, View> for InOrder {
     ghost first = { new_taker };
 }
 
-/// A sender is made.
+/// Step that makes a sender.
 pub struct OneMore;
 
 impl Split<View> for OneMore {
@@ -53,7 +56,7 @@ impl Split<View> for OneMore {
     ghost right = { new_sender };
 }
 
-/// A sender is taken in, once it has ended.
+/// Step that takes back a sender once it has ended.
 pub struct TakeIn;
 
 impl Join<View> for TakeIn {
@@ -65,7 +68,7 @@ impl Join<View> for TakeIn {
     ghost spent = { Spent };
 }
 
-/// A message is sent.
+/// Step that sends a message.
 pub struct Puts;
 
 impl Outcome<Entry, View> for Puts {
@@ -74,7 +77,7 @@ impl Outcome<Entry, View> for Puts {
     ghost then = { HasPut };
 }
 
-/// A message is taken, or the lane held none, and of that moment the taker learns what the caller's lesson says.
+/// Step that takes a message. If the lane was empty, the taker learns what the caller's lesson states of that moment.
 pub struct Gets<L> {
     _lesson: PhantomData<L>,
 }
@@ -91,7 +94,7 @@ impl<L: Lesson<Entry, View>> Lesson<Entry, View> for Gets<L> {
     ghost fact = { λ v items. HasFew v × L.fact v items };
 }
 
-/// The lesson of a caller that asks nothing of a lane that held nothing.
+/// Lesson of a caller that asks nothing about an empty lane.
 pub struct NoLesson;
 
 impl Lesson<Entry, View> for NoLesson {
@@ -100,7 +103,7 @@ impl Lesson<Entry, View> for NoLesson {
     ghost fact = { λ v items. ⊤ };
 }
 
-/// What was taken is compared with what was sent.
+/// Step that compares what was taken with what was sent.
 pub struct Compares;
 
 impl Lesson<Entry, View> for Compares {
@@ -109,6 +112,8 @@ impl Lesson<Entry, View> for Compares {
     ghost fact = { HasCompared };
 }
 
+/// Queue of a lane.
 pub type LaneQueue = RuledSegQueue<Entry, View, InOrder>;
 
+/// Pass of the queue.
 pub type LanePass = SegPass<Entry, View>;

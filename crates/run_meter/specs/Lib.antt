@@ -1,3 +1,3 @@
--- what is promised
+-- definitions that the clauses of the public functions use
 pub mod Levels
 pub mod Runs

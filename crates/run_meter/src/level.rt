@@ -1,14 +1,14 @@
-//! What the two models hold just after a packet.
+//! The state of the two models of SMPTE ST 2110-21 just after a packet.
 
 use vrx_buffer::Held;
 
-/// What the two models of SMPTE ST 2110-21 hold just after a packet came.
+/// State of the bucket and of the virtual receiver buffer just after a packet arrived (SMPTE ST 2110-21).
 #[derive(Clone, Copy, Debug, PartialEq, Eq)]
 pub struct Level {
-    /// The packets in the bucket of the network compatibility model.
+    /// Packets in the leaky bucket of the network compatibility model.
     pub bucket: u64,
-    /// The packets in the virtual receiver buffer by the gapped reads.
+    /// State of the virtual receiver buffer with the gapped reads (N).
     pub gapped: Held,
-    /// The same by the linear reads.
+    /// State of the virtual receiver buffer with the linear reads (NL and W).
     pub linear: Held,
 }

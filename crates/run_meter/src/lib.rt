@@ -1,15 +1,18 @@
-//! What measures a judged run, packet by packet, while it is judged.
+//! Meters that follow a judged run packet by packet while it is judged.
 //!
-//! A [`RunMeter`] is told each packet of a run behind its first marker, with its [`Level`]: what the bucket and the
-//! receiver buffer hold just after it. At the end of each whole group it is told to commit: the packets so far are
-//! judged, whatever follows. What it makes of them goes to an output that the meters of a flow's runs share.
+//! A [`RunMeter`] gets each packet of a run after the run's first marker, with its [`Level`]: the occupancy of the
+//! bucket and of the receiver buffer just after the packet. At the end of each frame or field it gets a commit: the
+//! packets so far are judged, whatever follows. A meter writes its results to an output that the meters of all runs of
+//! a flow share.
 #![tactic(auto)]
 
 pub mod laws;
 mod level;
 mod meter;
+mod pair;
 mod run;
 
 pub use level::Level;
 pub use meter::RunMeter;
+pub use pair::Pair;
 pub use run::{RunHead, RunPacket};

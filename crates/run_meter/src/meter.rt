@@ -1,4 +1,4 @@
-//! The meter of a run.
+//! The trait of a meter of judged runs.
 
 ghost use Rattle.std.specs.Prelude.{◌≡◌, ◌<◌, ◌^◌, ◌++◌, ◌∷◌, [], ℕ, ⊤, Bool, false, List, Option, None, Some, IfOk, length};
 ghost use Rattle.sender_params.specs.Ticks.{NeverFall};
@@ -13,33 +13,34 @@ use sender_params::Params;
 use std::alloc::{AllocError as OutOfMemory, Global};
 use timing_base::Judged;
 
-/// What measures one judged run, packet by packet.
+/// A meter of one judged run, which gets the run's packets one by one.
 ///
-/// What it was fed since the last commit isn't judged yet, and never is where the run ends there: what it tells goes by
-/// the packets that were committed. `Err` is want of memory: then nothing is said of the meter and of its output. All
-/// calls on one meter have one `Params`.
+/// Packets fed since the last commit aren't judged yet. If the run ends there, they never are: the output depends only
+/// on committed packets. A call returns `Err` if memory runs out; the state of the meter and of its output is then
+/// unspecified. All calls on one meter must get the same `Params`.
 pub trait RunMeter: Drop {
-    /// What the meters of a flow's runs put out, one after the other.
+    /// Output that the meters of a flow's runs write, one after the other.
     type Out;
 
-    /// Whether the meter is fed packets: one that only stands for the verdict isn't, and costs nothing.
+    /// Whether the meter needs the packets and their levels. If `false`, the caller doesn't feed it.
     const WANTS_LEVELS: bool;
 
-    /// The same.
+    /// The value of `WANTS_LEVELS` for the clauses.
     ghost WANTS_LEVELS: { Bool };
 
-    /// Of this run of a media it was fed these packets and no others, of which the latter were committed. `tai` is in
-    /// seconds.
+    /// The meter belongs to run `r` of the video `m`: exactly the packets `fed` were fed, and `committed` is the
+    /// committed part of them. `tai` is in seconds, and is added to each capture timestamp.
     ghost stands: { Self → (m : MediaValue) → (tai : ℕ) → RunOf → (fed committed : List PacketValue) → Type 0 };
 
-    /// What an output held before: whoever has it may take out what was put there while the runs go on.
+    /// What the output held before, since its owner may take results out of it while the runs go on.
     ghost Past: { Type 0 } = { Unit {0} };
 
-    /// These judged runs are over, and what was put out tells of them, and of the one that isn't over, where it has a
-    /// whole group.
+    /// The output contains the results of exactly these runs: the judged runs `over`, which have ended, and the open
+    /// run if it has a complete frame or field.
     ghost tells: { Past → Self.Out → (m : MediaValue) → (tai : ℕ) → List JudgedPart → Option OpenPart → Type 0 };
 
-    /// Before the first packet of a run. The packets of its first group, which is whole, are fed next.
+    /// Returns the meter of a run, before the run's first packet. The packets of the first frame or field, which is
+    /// complete, are fed next. Returns `Err` if memory runs out.
     fn begin(
         alloc: Global,
         params: &Params,
@@ -49,8 +50,8 @@ pub trait RunMeter: Drop {
         ensures { IfOk result (λ meter. (tai : ℕ) (r : RunOf) → IsHeadOf r run.now → r.n ≡ params.now.n
             → stands meter params.now.media tai r [] []) };
 
-    /// Takes the next packet, with what the models hold just after it. What it says of the packets is so where no stamp
-    /// is below the one before.
+    /// Feeds the next packet with its level: the state of the models just after it. The results are right only if no
+    /// capture timestamp is below the one before. Returns `Err` if memory runs out.
     fn feed(&mut self, params: &Params, packet: RunPacket, level: Level) -> Result<(), OutOfMemory>
         requires { packet.at < 2 ^ 62 }
         ensures { IfOk result (λ _. (tai : ℕ) (r : RunOf) (fed committed : List PacketValue) (p : PacketValue)
@@ -60,7 +61,7 @@ pub trait RunMeter: Drop {
             → stands self.old params.now.media tai r fed committed
             → stands self.new params.now.media tai r (fed ++ p ∷ []) committed) };
 
-    /// The last packet ended its group: all packets so far are judged.
+    /// Commits all packets fed so far, since the last one ended its frame or field. Returns `Err` if memory runs out.
     fn commit(&mut self, params: &Params, out: &mut Self::Out) -> Result<(), OutOfMemory>
         ensures stands { IfOk result (λ _. (tai : ℕ) (r : RunOf) (fed committed : List PacketValue)
             → r.n ≡ params.now.n → AreWhole r.n fed
@@ -72,7 +73,7 @@ pub trait RunMeter: Drop {
             → tells past out.old params.now.media tai over (Some (record { run = r; packets = committed }))
             → tells past out.new params.now.media tai over (Some (record { run = r; packets = fed }))) };
 
-    /// The run is over, and this is judged of the packets that were committed.
+    /// Ends the run. `judged` is the result for the committed packets. Returns `Err` if memory runs out.
     fn close(self, params: &Params, judged: &Judged, out: &mut Self::Out) -> Result<(), OutOfMemory>
         ensures { IfOk result (λ _. (past : Past) (tai : ℕ) (r : RunOf) (over : List JudgedPart)
             (fed committed : List PacketValue) → r.n ≡ params.now.n
@@ -81,12 +82,12 @@ pub trait RunMeter: Drop {
             → tells past out.old params.now.media tai over (Some (record { run = r; packets = committed }))
             → tells past out.new params.now.media tai (over ++ part_of r judged.now committed ∷ []) None) };
 
-    /// A run that begins has no packet to be told yet.
+    /// A run that begins adds nothing to the output.
     ghost opens: { (past : Past) (out : Self.Out) (m : MediaValue) (tai : ℕ) (over : List JudgedPart) (r : RunOf)
         → tells past out m tai over None → tells past out m tai over (Some (record { run = r; packets = [] })) };
 }
 
-/// No meter: a flow that is judged, and nothing more.
+/// A meter that does nothing, for a flow that is only judged.
 impl RunMeter for () {
     type Out = ();
 

@@ -1,23 +1,23 @@
-//! What a meter is told of a run.
+//! The input of a meter: the head of a run, and its packets.
 
-/// A run of a flow, by its first packet.
+/// A run of a flow, identified by its first packet.
 #[derive(Clone, Copy, Debug, PartialEq, Eq)]
 pub struct RunHead {
-    /// Which of the flow's runs it is, judged or not, counted from 1.
+    /// Position among all runs of the flow, judged or not, counted from 1.
     pub run: u64,
-    /// The record of its first packet, counted from 1.
+    /// Packet record of the run's first packet, counted from 1.
     pub rec: u64,
-    /// The number of that packet.
+    /// Packet number of that packet: the extended sequence number times 65,536, plus RTP's own.
     pub number: u32,
 }
 
-/// A packet of a run, behind its first marker.
+/// A packet of a run after the run's first marker.
 #[derive(Clone, Copy, Debug, PartialEq, Eq)]
 pub struct RunPacket {
-    /// Its record, counted from 1.
+    /// Packet record, counted from 1.
     pub rec: u64,
-    /// When it came, in nanoseconds of TAI.
+    /// Capture timestamp, in nanoseconds of TAI.
     pub at: u64,
-    /// Its RTP timestamp, in ticks of 90 kHz.
+    /// RTP timestamp, in ticks of 90 kHz.
     pub timestamp: u32,
 }

@@ -1,4 +1,4 @@
--- Lines, parameters and parts that the laws work on by hand.
+-- Lines, parameters and parts for examples worked by hand.
 use Rattle.std.specs.Prelude.{ℕ, false, List, ◌++◌, map, Option, Some, None, codes}
 use Rattle.timing_base.specs.Media.{Media}
 use Rattle.timing_base.specs.declared.media.Kind.{Kind}
@@ -25,19 +25,19 @@ item name value = record { line = 7; name = name; value = value }
 abbrev pub causes : Name → List (List ℕ) → List (Option SdpCause)
 causes name values = map (λ value. cause_of name (item name (Some value))) values
 
--- a part that begins on a line, and where its packets go
+-- the destination of a part that begins on this line
 abbrev pub part : ℕ → ℕ → ℕ → Destination
 part line address port = record { line = line; target = Some (record { address = address; port = port }) }
 
--- a part that begins on a line, and has no good address
+-- a part that begins on this line and has no valid address
 abbrev pub lost_part : ℕ → Destination
 lost_part line = record { line = line; target = None }
 
--- two lines of a raw part of format 0 after its first line, with these parameters
+-- two lines that follow the first line of a raw part of format 0, with these parameters
 abbrev pub raw_0 : List ℕ → List ℕ
 raw_0 list = codes "\na=rtpmap:0 raw/90000\na=fmtp:0 " ++ list
 
--- the media of the part below
+-- the media of `one_part`
 abbrev pub one_media : Option Kind → Media
 one_media declared = record {
   line = 3;
@@ -54,7 +54,7 @@ one_media declared = record {
   cmax = None;
 }
 
--- a session's lines 1 and 2, and the lines 3 to 5 of a part to port 9, whose parameters end with these
+-- a session section of lines 1 and 2, and a part of the lines 3 to 5 to port 9, with more text appended
 abbrev pub one_part : List ℕ → List ℕ
 one_part more =
     codes "v=0\nc=IN IP4 1.2.3.4\nm=video 9 RTP/AVP 96\na=rtpmap:96 raw/90000\n"

@@ -1,5 +1,5 @@
--- The faults of a session description: which comes first, and their texts.
--- Lines are counted from 1; 0 stands for the whole text.
+-- The faults of a session description: their order and printed form.
+-- Lines count from 1; 0 is the session description as a whole.
 use Rattle.std.specs.Prelude.{◌≡◌, ◌⊎◌, ℕ, ◌==◌, ◌&&◌, ◌||◌, nat_lt, Bool, if◌then◌else◌, List, [], ◌∷◌, ◌++◌, Option}
 use Rattle.std.specs.Prelude.{Some, None, codes}
 use Rattle.std.specs.Fmt.{decimal}
@@ -10,7 +10,7 @@ use Rattle.sdp_reader.specs.declared.fault.SdpCause.TheVariants.{MissingParamete
 use Rattle.sdp_reader.specs.declared.fault.SdpCause.TheVariants.{SameTarget, TooManyMedia, NoVideo, TooLarge}
 use Rattle.sdp_reader.specs.declared.fault.SdpFault.{SdpFault}
 
--- the number of a cause: of two causes on one line that with the smaller number is told
+-- the number of a cause; if a line has several causes, the one with the lowest number is reported
 abbrev pub number_of : SdpCause → ℕ
 number_of NotText = 1
 number_of NoVersion = 2
@@ -52,19 +52,18 @@ name_of TooLarge = codes "TooLarge"
 abbrev pub fault_text : SdpFault → List ℕ
 fault_text f = codes "line " ++ (decimal f.line ++ (codes " " ++ name_of f.what))
 
--- a fault comes before another where its line is less, or the line is the same and the number of its
--- cause is less
+-- a fault comes before another if it is on an earlier line, or on the same line and the number of its cause is lower
 abbrev pub comes_before : SdpFault → SdpFault → Bool
 comes_before f g =
     nat_lt f.line g.line || ((f.line == g.line) && nat_lt (number_of f.what) (number_of g.what))
 
--- the one of two that comes first
+-- the first of two possible faults
 abbrev pub first_of : Option SdpFault → Option SdpFault → Option SdpFault
 first_of None g = g
 first_of (Some f) None = Some f
 first_of (Some f) (Some g) = if comes_before g f then Some g else Some f
 
--- the first of all
+-- the first of all faults, if there is one
 abbrev pub least : List SdpFault → Option SdpFault
 least [] = None
 least (f ∷ fs) = first_of (Some f) (least fs)

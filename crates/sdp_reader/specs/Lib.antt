@@ -1,4 +1,4 @@
--- what is promised
+-- definitions that the crate's clauses cite
 pub mod Answer
 pub mod Bytes
 pub mod Fault
@@ -6,8 +6,8 @@ pub mod Lines
 pub mod Parameters
 pub mod Parts
 pub mod Session
--- texts that are worked by hand
+-- texts for examples worked by hand
 pub mod Examples
--- these only serve proofs
+-- used in proofs only
 pub mod Plain
 pub mod Summary

@@ -1,6 +1,5 @@
--- The parameters of a raw part: `a=fmtp` (RFC 4566, section 6) with the names of SMPTE ST 2110-20 and
--- ST 2110-21. Sizes are pixels and lines, the rate frames per second, TROFF microseconds, CMAX packets
--- and MAXUDP bytes.
+-- The parameters of a raw part: `a=fmtp` (RFC 4566, section 6) with the names of SMPTE ST 2110-20 and ST 2110-21.
+-- Sizes are pixels and lines, the rate is frames per second, TROFF microseconds, CMAX packets and MAXUDP bytes.
 use Rattle.std.specs.Prelude.{ℕ, ◌*◌, ◌==◌, ◌&&◌, Bool, true, false, nat_le, nat_lt, if◌then◌else◌, List, [], Option}
 use Rattle.std.specs.Prelude.{Some, None, is_some, is_none, codes, find}
 use Rattle.std.specs.Option.{option_and_then}
@@ -19,13 +18,13 @@ use Rattle.sdp_reader.specs.declared.parameter.Name.TheVariants.{Width, Height, 
 use Rattle.sdp_reader.specs.declared.parameter.Name.TheVariants.{Tp, Troff, Cmax, MaxUdp}
 use Rattle.sdp_reader.specs.declared.parameter.Rate.{Rate}
 
--- a parameter with a name of the table, on its line
+-- a known parameter, on its line
 pub record Item : Type 0 where
   pub line : ℕ
   pub name : Name
   pub value : Option (List ℕ)
 
--- the name of the table that the text is, without regard to ASCII case
+-- the known parameter of this name, ignoring ASCII case
 abbrev pub table_name : List ℕ → Option Name
 table_name text =
     if str_eq_ignore_ascii_case text (codes "width") then Some Width
@@ -39,7 +38,7 @@ table_name text =
     else if str_eq_ignore_ascii_case text (codes "MAXUDP") then Some MaxUdp
     else None
 
--- the row of a name in the table
+-- the index of a known parameter, counted from 0
 abbrev pub row_of : Name → ℕ
 row_of Width = 0
 row_of Height = 1
@@ -51,31 +50,31 @@ row_of Troff = 6
 row_of Cmax = 7
 row_of MaxUdp = 8
 
--- names that the table doesn't have are passed over
+-- an item with an unknown name is ignored
 abbrev pub named : ℕ → Option Name → Option (List ℕ) → Option Item
 named line None value = None
 named line (Some name) value = Some (record { line = line; name = name; value = value })
 
--- an item without blanks round it is `name=value`, cut at its first `=`, or `name`
+-- the parameter of an item `name=value`, which is split at its first `=`, or `name`
 abbrev pub item_of : ℕ → List ℕ → Option Item
 item_of line text =
     if holds 61 text then named line (table_name (before 61 text)) (Some (after 61 text))
     else named line (table_name text) None
 
--- an item with the blanks round it
+-- the parameter of an item with spaces and tabs around it
 abbrev pub item_at : ℕ → List ℕ → Option Item
 item_at line piece = item_of line (trim_start (trim_end piece))
 
--- the parameters of a list, which is cut at `;`
+-- the known parameters of a list, which is split at `;`
 abbrev pub items_of : ℕ → List ℕ → List Item
 items_of line list = filter_map (item_at line) (slice_split (λ x. x == 59) list)
 
--- whether there is a number, and it is this one
+-- the number is there, and it is this one
 abbrev pub is_the : ℕ → Option ℕ → Bool
 is_the n None = false
 is_the n (Some m) = m == n
 
--- what follows a format and a space, where the format is this one
+-- what follows the format and a space, if the format is this one
 abbrev pub of_format : ℕ → Option (List ℕ) → List ℕ
 of_format format None = []
 of_format format (Some rest) = if is_the format (number (before 32 rest)) then after 32 rest else []
@@ -84,43 +83,43 @@ of_format format (Some rest) = if is_the format (number (before 32 rest)) then a
 abbrev pub list_of : ℕ → TextLine → List ℕ
 list_of format l = of_format format (after_prefix (codes "a=fmtp:") l.text)
 
--- the parameters of a part's lines, in order
+-- the known parameters of a part's lines, in order
 abbrev pub parameters : ℕ → List TextLine → List Item
 parameters format body = flat_map (λ l. items_of l.number (list_of format l)) body
 
--- the value, as a number in a range
+-- the value as a number in a range
 abbrev pub value_within : ℕ → ℕ → Item → Option ℕ
 value_within low high item = option_and_then (number_within low high) item.value
 
--- the value, as a width or a height
+-- the value as a width or a height
 abbrev pub value_size : Item → Option ℕ
 value_size item = value_within 1 32767 item
 
--- the value, as an offset (TROFF)
+-- the value as an offset (TROFF)
 abbrev pub value_offset : Item → Option ℕ
 value_offset item = value_within 0 1000000 item
 
--- the value, as a limit of packets or of bytes (CMAX, MAXUDP)
+-- the value as a limit of packets or bytes (CMAX, MAXUDP)
 abbrev pub value_limit : Item → Option ℕ
 value_limit item = value_within 1 65535 item
 
--- a rate of p / q frames per second, at most 240
+-- a rate of p / q frames per second, above 0 and at most 240
 abbrev pub rate_at : Option ℕ → Option ℕ → Option Rate
 rate_at None q = None
 rate_at (Some p) None = None
 rate_at (Some p) (Some q) = if nat_le 1 p && nat_le p (240 * q) then Some (record { p = p; q = q }) else None
 
--- `P` or `P/Q`
+-- a rate `P` or `P/Q`, with Q from 1 to 1,001
 abbrev pub rate_of : List ℕ → Option Rate
 rate_of text =
     if holds 47 text then rate_at (number (before 47 text)) (number_within 1 1001 (after 47 text))
     else rate_at (number text) (Some 1)
 
--- the value, as a rate
+-- the value as a rate
 abbrev pub value_rate : Item → Option Rate
 value_rate item = option_and_then rate_of item.value
 
--- a sender type
+-- the sender type of this name
 abbrev pub kind_of : List ℕ → Option Kind
 kind_of text =
     if bytes_eq text (codes "2110TPN") then Some N
@@ -128,20 +127,20 @@ kind_of text =
     else if bytes_eq text (codes "2110TPW") then Some W
     else None
 
--- the value, as a sender type
+-- the value as a sender type
 abbrev pub value_kind : Item → Option Kind
 value_kind item = option_and_then kind_of item.value
 
--- no cause where the parameter has its form
+-- the cause, unless the parameter is valid
 abbrev pub unless : Bool → SdpCause → Option SdpCause
 unless fits cause = if fits then None else Some cause
 
--- a UDP size limit has to be the standard one, 1,460 bytes, or less
+-- the UDP size limit is at most the standard one of 1,460 bytes
 abbrev pub udp_cause : Option ℕ → Option SdpCause
 udp_cause None = Some BadParameter
 udp_cause (Some n) = if nat_lt 1460 n then Some ExtendedUdp else None
 
--- BadParameter, BadRate: the parameter hasn't its form. Segmented, ExtendedUdp: it has
+-- BadParameter, BadRate: the parameter is invalid. Segmented, ExtendedUdp: it is valid and not supported
 abbrev pub cause_of : Name → Item → Option SdpCause
 cause_of Width item = unless (is_some (value_size item)) BadParameter
 cause_of Height item = unless (is_some (value_size item)) BadParameter
@@ -153,20 +152,20 @@ cause_of Troff item = unless (is_some (value_offset item)) BadParameter
 cause_of Cmax item = unless (is_some (value_limit item)) BadParameter
 cause_of MaxUdp item = udp_cause (value_limit item)
 
--- the cause, where there is one, on the line
+-- a fault on this line, if there is a cause
 abbrev pub at_most_one : ℕ → Option SdpCause → List SdpFault
 at_most_one line None = []
 at_most_one line (Some cause) = at line cause true
 
--- the cause of an item, on its line
+-- the fault that an item has by itself
 abbrev pub item_faults : Item → List SdpFault
 item_faults item = at_most_one item.line (cause_of item.name item)
 
--- whether an item has the name with this row
+-- the item has the name with this index
 abbrev pub is_of : ℕ → Item → Bool
 is_of row item = row_of item.name == row
 
--- an item and a later one have the same name
+-- two items have the same name
 abbrev pub have_one_name : Item → Item → Bool
 have_one_name item later = is_of (row_of later.name) item
 
@@ -174,6 +173,6 @@ have_one_name item later = is_of (row_of later.name) item
 abbrev pub repeated_faults : List Item → List SdpFault
 repeated_faults items = repeats (λ item. item.line) RepeatedParameter have_one_name items
 
--- the first item of a name
+-- the first item of this name
 abbrev pub item_named : Name → List Item → Option Item
 item_named name items = find (is_of (row_of name)) items

@@ -1,7 +1,7 @@
--- Media parts (RFC 4566, section 5.14), connections (section 5.7), and the raw video parts of
--- SMPTE ST 2110-20, whose `a=rtpmap` (section 6) has the encoding raw/90000 of RFC 4175: what each says,
--- and its faults.
--- Addresses are 32-bit numbers, the first octet highest.
+-- Media sections (RFC 4566, section 5.14), connections (section 5.7), and raw parts, with their faults.
+-- A raw part is a video section of SMPTE ST 2110-20: its `a=rtpmap` (section 6) has the encoding raw/90000 of RFC
+-- 4175.
+-- Addresses are 32-bit numbers with the first octet in the most significant byte.
 use Rattle.std.specs.Prelude.{ℕ, ◌+◌, ◌*◌, ◌&&◌, ◌||◌, Bool, true, false, if◌then◌else◌, List, [], ◌∷◌, ◌++◌, Option}
 use Rattle.std.specs.Prelude.{Some, None, is_some, is_none, codes, find}
 use Rattle.std.specs.Option.{option_and_then, option_map}
@@ -20,7 +20,7 @@ use Rattle.sdp_reader.specs.declared.parameter.Name.TheVariants.{Width, Height, 
 use Rattle.sdp_reader.specs.declared.parameter.Name.TheVariants.{Cmax}
 use Rattle.sdp_reader.specs.declared.parameter.Rate.{Rate}
 
--- a media part: the line that begins `m=`, and the lines up to the next such line or the end
+-- a media section: a line that begins `m=`, and the lines up to the next such line or the end
 pub record Part : Type 0 where
   pub head : TextLine
   pub body : List TextLine
@@ -34,7 +34,7 @@ abbrev pub own_lines : List TextLine → List TextLine
 own_lines [] = []
 own_lines (l ∷ ls) = if is_head l then [] else l ∷ own_lines ls
 
--- the media parts, in order; the lines before the first are the session's
+-- the media sections, in order; the lines before the first are the session section
 abbrev pub parts : List TextLine → List Part
 parts [] = []
 parts (l ∷ ls) = if is_head l then record { head = l; body = own_lines ls } ∷ parts ls else parts ls
@@ -43,11 +43,11 @@ parts (l ∷ ls) = if is_head l then record { head = l; body = own_lines ls } �
 abbrev pub is_connection : TextLine → Bool
 is_connection l = is_some (after_prefix (codes "c=") l.text)
 
--- the first such line
+-- the first `c=` line
 abbrev pub connection_line : List TextLine → Option TextLine
 connection_line ls = find is_connection ls
 
--- the connection that counts: the part's own, or where it has none the session's
+-- the connection that applies: the part's own, or the session's if the part has none
 abbrev pub counting : Option TextLine → Option TextLine → Option TextLine
 counting None session = session
 counting (Some own) session = Some own
@@ -61,11 +61,11 @@ abbrev pub address_from : Option ℕ → Option ℕ → Option ℕ → Option �
 address_from a b c d = option_and_then (λ x. option_and_then
     (λ y. option_and_then (λ z. option_map (λ w. x * 16777216 + y * 65536 + z * 256 + w) d) c) b) a
 
--- what stands after a slash, if there is one, is a TTL
+-- there is either no slash or a valid TTL after it
 abbrev pub is_ttl : List ℕ → Bool
 is_ttl last = if holds 47 last then is_some (octet (after 47 last)) else true
 
--- three octets and dots, and a last one, maybe with a TTL
+-- three octets, and a fourth, with or without a TTL
 abbrev pub dotted : List ℕ → List ℕ → List ℕ → List ℕ → Option ℕ
 dotted a b c last = if is_ttl last then address_from (octet a) (octet b) (octet c) (octet (before 47 last)) else None
 
@@ -79,7 +79,7 @@ address_at rest =
 abbrev pub address_of : TextLine → Option ℕ
 address_of l = option_and_then address_at (after_prefix (codes "c=IN IP4 ") l.text)
 
--- `FORMAT raw/90000`, where there is such a text
+-- `FORMAT raw/90000`
 abbrev pub is_raw_map_at : ℕ → Option (List ℕ) → Bool
 is_raw_map_at format None = false
 is_raw_map_at format (Some rest) =
@@ -89,16 +89,16 @@ is_raw_map_at format (Some rest) =
 abbrev pub is_raw_map : ℕ → TextLine → Bool
 is_raw_map format l = is_raw_map_at format (after_prefix (codes "a=rtpmap:") l.text)
 
--- a raw part
+-- a raw part: a video section that maps its format to raw/90000
 pub record RawPart : Type 0 where
   -- the line that begins it
   pub line : ℕ
   pub video : Video
-  -- the connection that counts
+  -- the connection that applies
   pub connection : Option TextLine
   pub items : List Item
 
--- the raw part with this line and these lines after it; first the session's connection
+-- the raw part that begins on this line and goes on with these lines; the first argument is the session's connection
 abbrev pub raw_part : Option TextLine → ℕ → List TextLine → Video → RawPart
 raw_part session line body video = record {
   line = line;
@@ -107,41 +107,41 @@ raw_part session line body video = record {
   items = parameters video.format body;
 }
 
--- a video part is raw where it maps its format so
+-- the raw part, if the video section maps its format to raw/90000
 abbrev pub raw_with : Option TextLine → ℕ → List TextLine → Video → Option RawPart
 raw_with session line body video =
     if list_any (is_raw_map video.format) body then Some (raw_part session line body video) else None
 
--- the raw part that a part is, where it is one; first the session's connection
+-- the raw part of a media section, if it is one; the first argument is the session's connection
 abbrev pub raw_of : Option TextLine → Part → Option RawPart
 raw_of session part =
     option_and_then (raw_with session part.head.number part.body) (option_and_then video_of (media_fields part.head))
 
 -- NoConnection: neither the part nor the session has a connection.
--- BadAddress: the connection that counts hasn't the form
+-- BadAddress: the connection that applies is invalid
 abbrev pub connection_faults : ℕ → Option TextLine → List SdpFault
 connection_faults line None = at line NoConnection true
 connection_faults line (Some connection) = at connection.number BadAddress (is_none (address_of connection))
 
--- no item has the name
+-- no item has this name
 abbrev pub lacks : Name → List Item → Bool
 lacks name items = is_none (item_named name items)
 
--- MissingParameter: a name that has to stand doesn't
+-- MissingParameter: width, height or exactframerate is missing
 abbrev pub is_missing : List Item → Bool
 is_missing items = lacks Width items || lacks Height items || lacks ExactFrameRate items
 
--- the causes 5 to 12, on the lines of a raw part with this first line, connection and parameters
+-- the faults with the causes 5 to 12 of a raw part with this first line, connection and parameters
 abbrev pub faults_at : ℕ → Option TextLine → List Item → List SdpFault
 faults_at line connection items =
     connection_faults line connection ++ (at line MissingParameter (is_missing items)
     ++ (flat_map item_faults items ++ repeated_faults items))
 
--- those of a raw part
+-- the faults that a raw part has by itself
 abbrev pub part_faults : RawPart → List SdpFault
 part_faults r = faults_at r.line r.connection r.items
 
--- the address, where the connection has the form
+-- the address, if the connection is valid
 abbrev pub good_address : RawPart → Option ℕ
 good_address r = option_and_then address_of r.connection
 
@@ -162,7 +162,7 @@ media_with line video items address width height rate = record {
   cmax = option_and_then value_limit (item_named Cmax items);
 }
 
--- the stream of a part, where it has all that a stream has to have
+-- the stream of a part, if the part has all that a stream needs
 abbrev pub media_from : ℕ → Video → Option ℕ → List Item → Option Media
 media_from line video address items =
     option_and_then (λ a. option_and_then (λ w. option_and_then (λ h. option_map (media_with line video items a w h)

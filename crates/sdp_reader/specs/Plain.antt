@@ -1,4 +1,4 @@
--- What the lines and the parameters of the code say, without where they lie in memory.
+-- The contents of the code's lines and parameters, without their place in memory.
 use Rattle.std.specs.Option.{option_copied}
 use Rattle.sdp_reader.specs.Lines.{TextLine}
 use Rattle.sdp_reader.specs.Parameters.{Item}

@@ -1,5 +1,5 @@
--- The video streams of a session description, or its first fault (RFC 4566, SMPTE ST 2110-20 and
--- ST 2110-21; the limits and the numbers of the causes are this project's profile).
+-- The video streams of a session description, or its first fault (RFC 4566, SMPTE ST 2110-20 and ST 2110-21; the
+-- limits and the numbers of the causes are this project's profile).
 use Rattle.std.specs.Prelude.{ℕ, ◌==◌, ◌&&◌, nat_lt, Bool, true, false, if◌then◌else◌, List, [], ◌∷◌, ◌++◌, length}
 use Rattle.std.specs.Prelude.{drop, map, Option, Some, None, Result, Ok, Err}
 use Rattle.std.specs.Option.{option_map}
@@ -19,19 +19,19 @@ use Rattle.sdp_reader.specs.declared.part.Destination.{Destination}
 abbrev pub raw_parts : List TextLine → List RawPart
 raw_parts ls = filter_map (raw_of (connection_line (own_lines ls))) (parts ls)
 
--- the target of a part with this address, if it has a good one, and this port
+-- the target with this address, if there is one, and this port
 abbrev pub target_at : Option ℕ → ℕ → Option Target
 target_at address port = option_map (λ a. record { address = a; port = port }) address
 
--- the first line of a raw part, and where its packets go
+-- the first line of a raw part, and its target
 abbrev pub destination_of : RawPart → Destination
 destination_of r = record { line = r.line; target = target_at (good_address r) r.video.port }
 
--- the same address and port
+-- address and port are equal
 abbrev pub is_same : Target → Target → Bool
 is_same a b = (a.address == b.address) && (a.port == b.port)
 
--- there are two targets, and they are the same
+-- both targets are there and equal
 abbrev pub are_same : Option Target → Option Target → Bool
 are_same None own = false
 are_same (Some t) None = false
@@ -50,11 +50,11 @@ abbrev pub first_too_many : List Destination → List SdpFault
 first_too_many [] = []
 first_too_many (t ∷ ts) = at t.line TooManyMedia true
 
--- after 64 parts, which is on the 65th
+-- TooManyMedia: on the 65th part, if there is one
 abbrev pub too_many_faults : List Destination → List SdpFault
 too_many_faults ts = first_too_many (drop 64 ts)
 
--- the causes 5 to 14, of these raw parts
+-- the faults with the causes 5 to 14
 abbrev pub raw_faults : List RawPart → List SdpFault
 raw_faults rs = flat_map part_faults rs ++ (target_faults (map destination_of rs)
     ++ too_many_faults (map destination_of rs))
@@ -63,25 +63,25 @@ raw_faults rs = flat_map part_faults rs ++ (target_faults (map destination_of rs
 abbrev pub faults : List TextLine → List SdpFault
 faults ls = version_faults ls ++ (flat_map line_faults ls ++ raw_faults (raw_parts ls))
 
--- the cause stands on the line
+-- there is a fault of this cause on the line
 abbrev pub StandsOn : SdpCause → List TextLine → ℕ → Type 0
 StandsOn cause ls line = IsAmong (record { line = line; what = cause }) (faults ls)
 
--- where no line has a fault: NoVideo, or the streams of the raw parts in order
+-- the result if no line has a fault: the streams of the raw parts in order, or NoVideo
 abbrev pub streams : List RawPart → Result (List Media) SdpFault
 streams [] = Err (record { line = 0; what = NoVideo })
 streams (r ∷ rs) = Ok (filter_map media_of (r ∷ rs))
 
--- the first fault, or where there is none the rest
+-- the first fault, or the rest if there is none
 abbrev pub unless_fault : Option SdpFault → Result (List Media) SdpFault → Result (List Media) SdpFault
 unless_fault (Some fault) rest = Err fault
 unless_fault None rest = rest
 
--- the answer for the lines of a text that isn't too large
+-- the result for the lines of a session description that isn't too large
 abbrev pub answer : List TextLine → Result (List Media) SdpFault
 answer ls = unless_fault (least (faults ls)) (streams (raw_parts ls))
 
--- the session of a text: the video streams, or the first fault
+-- the session of a session description: its video streams, or its first fault
 abbrev pub session : List ℕ → Result (List Media) SdpFault
 session bytes = if nat_lt 1048576 (length bytes) then Err (record { line = 0; what = TooLarge })
     else answer (lines bytes)

@@ -1,4 +1,4 @@
-//! Cutting bytes, and the numbers that they spell.
+//! Splitting and trimming of bytes, and decimal numbers.
 
 ghost use Rattle.std.specs.Prelude.{◌≡◌, ◌≤◌, ◌<◌, ◌==◌, length, MatchOption, IfSome, ⊤, true, false, ◌+◌, ◌∷◌, []};
 ghost use Rattle.std.specs.Option.{option_copied};
@@ -8,7 +8,8 @@ ghost use Rattle.sdp_reader.specs.Bytes.{before, after, holds, after_prefix, tri
 
 use memchr::memchr;
 
-/// What stands before and after the first `byte`, where there is one.
+/// Splits the text at the first `byte`, and returns what is before and after it, or `None` if it
+/// isn't there.
 pub(crate) fn cut(byte: u8, text: &[u8]) -> Option<(&[u8], &[u8])>
     ensures nowhere { MatchOption result (holds byte text.now ≡ false)
         (λ parts. holds byte text.now ≡ true) }
@@ -28,7 +29,8 @@ pub(crate) fn cut(byte: u8, text: &[u8]) -> Option<(&[u8], &[u8])>
     }
 }
 
-/// The first field of a text whose fields are cut at `byte`, and what stands after it.
+/// Splits the text at the first `byte`, and returns the first field and the rest. Without that byte
+/// the field is the whole text and the rest is empty.
 pub(crate) fn field(byte: u8, text: &[u8]) -> (&[u8], &[u8])
     ensures first { result.0.now ≡ before byte text.now }
     ensures rest { result.1.now ≡ after byte text.now }
@@ -39,7 +41,7 @@ pub(crate) fn field(byte: u8, text: &[u8]) -> (&[u8], &[u8])
     }
 }
 
-/// What stands after a prefix.
+/// Returns what follows a prefix, or `None` if the text doesn't begin with it.
 pub(crate) fn strip<'a>(text: &'a [u8], prefix: &[u8]) -> Option<&'a [u8]>
     ensures { option_copied result ≡ after_prefix prefix.now text.now }
 {
@@ -58,27 +60,28 @@ pub(crate) fn strip<'a>(text: &'a [u8], prefix: &[u8]) -> Option<&'a [u8]>
     Some(rest)
 }
 
-/// Whether two texts are the same.
+/// Returns whether two texts are equal.
 pub(crate) fn is_same(one: &[u8], other: &[u8]) -> bool
     ensures { result ≡ bytes_eq one.now other.now }
 {
     one == other
 }
 
-/// Whether two texts are the same without regard to ASCII case.
+/// Returns whether two texts are equal, ignoring ASCII case.
 pub(crate) fn is_same_word(one: &[u8], other: &[u8]) -> bool
     ensures { result ≡ str_eq_ignore_ascii_case one.now other.now }
 {
     one.eq_ignore_ascii_case(other)
 }
 
+/// Returns whether the byte is a space or a tab.
 fn is_blank(byte: u8) -> bool
     ensures { result ≡ is_blank byte }
 {
     byte == b' ' || byte == b'\t'
 }
 
-/// The text without the blanks at its end.
+/// Returns the text without the spaces and tabs at its end.
 pub(crate) fn trim_end(text: &[u8]) -> &[u8]
     ensures value { result.now ≡ trim_end text.now }
     ensures shorter { length result.now ≤ length text.now }
@@ -90,7 +93,7 @@ pub(crate) fn trim_end(text: &[u8]) -> &[u8]
     &text[..end]
 }
 
-/// The text without the blanks at its front.
+/// Returns the text without the spaces and tabs at its start.
 pub(crate) fn trim_start(text: &[u8]) -> &[u8]
     ensures { result.now ≡ trim_start text.now }
 {
@@ -101,7 +104,7 @@ pub(crate) fn trim_start(text: &[u8]) -> &[u8]
     &text[begin..]
 }
 
-/// The value of one to `most` digits.
+/// Returns the value of 1 to `most` decimal digits, or `None` if the text is anything else.
 pub(crate) fn digits_of(most: usize, text: &[u8]) -> Option<u64>
     requires { most ≤ 10 }
     ensures { result ≡ digits_of most text.now }
@@ -119,14 +122,14 @@ pub(crate) fn digits_of(most: usize, text: &[u8]) -> Option<u64>
     Some(value)
 }
 
-/// A number of one to ten digits.
+/// Returns the value of 1 to 10 decimal digits, or `None` if the text is anything else.
 pub(crate) fn number(text: &[u8]) -> Option<u64>
     ensures { result ≡ number text.now }
 {
     digits_of(10, text)
 }
 
-/// A number of one to ten digits from `low` to `high`.
+/// Returns the value of 1 to 10 decimal digits if it is from `low` to `high`.
 pub(crate) fn number_within(low: u32, high: u32, text: &[u8]) -> Option<u32>
     ensures value { result ≡ number_within low high text.now }
     ensures range { IfSome result (λ n. (low ≤ n) × (n ≤ high)) }

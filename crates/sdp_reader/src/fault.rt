@@ -1,4 +1,4 @@
-//! Why a text is refused, and how it is said.
+//! The faults of a session description, and their printed form.
 
 ghost use Rattle.std.specs.Prelude.{◌≡◌};
 ghost use Rattle.sdp_reader.specs.Fault.{number_of, name_of, comes_before, first_of};
@@ -6,38 +6,39 @@ ghost use Rattle.sdp_reader.specs.Fault.{number_of, name_of, comes_before, first
 use std::alloc::AllocError;
 use std::fmt;
 
-/// Why a text is no session description of video streams. The numbers 1 to 15 and 17 of the causes
-/// are in this order.
+/// The reason why a session description is refused. The causes have the numbers 1 to 15 and 17, in
+/// this order.
 ///
-/// From `NoConnection` to `TooManyMedia` they are of raw parts alone: video parts that map their
-/// format to `raw/90000`. A parameter is one that the reader knows (width, height, exactframerate,
-/// interlace, segmented, TP, TROFF, CMAX and MAXUDP); others are passed over.
+/// `NoConnection` to `TooManyMedia` concern raw parts only: video sections that map their format to
+/// `raw/90000`. The known parameters are width, height, exactframerate, interlace, segmented, TP,
+/// TROFF, CMAX and MAXUDP; all others are ignored.
 #[derive(Clone, Copy, Debug, PartialEq, Eq)]
 pub enum SdpCause {
-    /// The line holds a byte 0, or a CR that isn't directly before a LF.
+    /// The line has a byte 0, or a CR that isn't directly before an LF.
     NotText,
-    /// The first line that isn't empty isn't `v=0`. Where there is no such line, the fault is on line
-    /// 1.
+    /// The first line that isn't empty isn't `v=0`. If all lines are empty, the fault is on line 1.
     NoVersion,
     /// The line isn't empty, and doesn't begin with a letter a to z and `=`.
     BadLine,
-    /// The first field of the `m=` line is `video`, and the line isn't `m=video PORT RTP/AVP FORMAT`.
+    /// The first field of an `m=` line is `video`, and the line isn't
+    /// `m=video PORT RTP/AVP FORMAT`.
     BadMedia,
     /// Neither the part nor the session has a `c=` line.
     NoConnection,
-    /// The `c=` line that counts isn't `c=IN IP4 A.B.C.D` or `c=IN IP4 A.B.C.D/TTL`.
+    /// The `c=` line that applies isn't `c=IN IP4 A.B.C.D` or `c=IN IP4 A.B.C.D/TTL`.
     BadAddress,
-    /// A parameter other than exactframerate hasn't its form.
+    /// A parameter other than exactframerate has an invalid value.
     BadParameter,
-    /// A parameter stands a second time, or a later one, in its part.
+    /// An earlier parameter of the part has the same name.
     RepeatedParameter,
-    /// The part has no width, height or exactframerate. One in a bad form isn't missing.
+    /// The part has no width, height or exactframerate. An invalid one isn't missing.
     MissingParameter,
-    /// The parameter exactframerate hasn't its form.
+    /// The parameter exactframerate has an invalid value.
     BadRate,
-    /// The parameter segmented stands, with interlace or without: the pictures come as segments.
+    /// The parameter segmented is there, with or without interlace: pictures are sent in segments
+    /// (PsF).
     Segmented,
-    /// MAXUDP is above 1,460 bytes.
+    /// The parameter MAXUDP is above 1,460 bytes.
     ExtendedUdp,
     /// An earlier raw part has the same address and port.
     SameTarget,
@@ -45,12 +46,13 @@ pub enum SdpCause {
     TooManyMedia,
     /// No line has a fault, and there is no raw part.
     NoVideo,
-    /// The text has more than 1,048,576 bytes.
+    /// The session description has more than 1,048,576 bytes.
     TooLarge,
 }
 
 impl SdpCause {
-    /// The number of the cause. Of two causes on one line that with the smaller number is told.
+    /// Returns the number of the cause. If a line has several causes, the one with the lowest
+    /// number is reported.
     fn number(self) -> u32
         ensures { result ≡ number_of self }
     {
@@ -74,7 +76,7 @@ impl SdpCause {
         }
     }
 
-    /// The name of the cause, as messages have it.
+    /// Returns the name of the cause, as printed in messages.
     pub fn name(self) -> &'static str
         ensures { result.now ≡ name_of self }
     {
@@ -99,11 +101,12 @@ impl SdpCause {
     }
 }
 
-/// A fault of a session description: the line that has to be mended, and why.
+/// A fault of a session description: the invalid line and the cause.
 #[derive(Clone, Copy, Debug, PartialEq, Eq)]
 pub struct SdpFault {
-    /// Counted from 1, or 0 for a fault of the whole text.
+    /// The line, counted from 1, or 0 for a fault of the session description as a whole.
     pub line: u32,
+    /// The cause.
     pub what: SdpCause,
 }
 
@@ -118,14 +121,15 @@ impl fmt::Display for SdpFault {
     }
 }
 
-/// Whether the line is less, or the line is the same and the number of the cause is less.
+/// Returns whether the first fault is on an earlier line, or on the same line and its cause has a
+/// lower number.
 fn comes_before(one: SdpFault, other: SdpFault) -> bool
     ensures { result ≡ comes_before one other }
 {
     one.line < other.line || (one.line == other.line && one.what.number() < other.what.number())
 }
 
-/// The one of two that comes first.
+/// Returns the first of two possible faults, by line and then by cause.
 pub(crate) fn first_of(one: Option<SdpFault>, other: Option<SdpFault>) -> Option<SdpFault>
     ensures { result ≡ first_of one other }
 {
@@ -136,12 +140,12 @@ pub(crate) fn first_of(one: Option<SdpFault>, other: Option<SdpFault>) -> Option
     }
 }
 
-/// Why there is no session.
+/// The reason why there is no session.
 #[derive(Clone, Copy, Debug, PartialEq, Eq)]
 pub enum SdpError {
-    /// The text is refused, for its first fault.
+    /// The session description is invalid; this is its first fault.
     Refused(SdpFault),
-    /// Memory ran out; nothing is said of the text.
+    /// Memory ran out. The session description may be valid or not.
     OutOfMemory,
 }
 

@@ -1,5 +1,5 @@
-//! What holds of the definition itself, and the definition on texts worked by hand. Each function is
-//! a theorem: it does nothing, and its clauses are proved.
+//! Theorems about the definition, and examples of it worked by hand. Each function does nothing;
+//! its clauses are what is proved.
 
 ghost use Rattle.std.specs.Prelude.{◌≡◌, ◌<◌, ◌≤◌, ℕ, List, [], ◌∷◌, ◌++◌, All, map, length, replicate, Some, None, Ok, Err, codes, true, false};
 ghost use Rattle.std.specs.Fmt.{decimal};
@@ -18,8 +18,8 @@ ghost use Rattle.sdp_reader.specs.declared.parameter.Name.TheVariants as name;
 
 use timing_base::Kind;
 
-/// The fault that is told stands on its line, and no other comes before it: none stands on a lesser
-/// line, or on the same line with a lesser number of its cause.
+/// The reported fault is on its line, and no other comes before it: none is on an earlier line, or
+/// on the same line with a cause of a lower number.
 pub fn told_fault_is_first()
     ensures stands { (ls : List TextLine) (f : SdpFault) → least (faults ls) ≡ Some f
         → StandsOn f.what ls f.line }
@@ -29,25 +29,25 @@ pub fn told_fault_is_first()
         → ¬ StandsOn g.what ls g.line }
 {}
 
-/// A text with a session has one media for each raw part, in order.
+/// A session has one media for each raw part, in order.
 pub fn each_part_has_a_media()
     ensures { (bytes : List ℕ) (media : List Media) → session bytes ≡ Ok media
         → map media_of (raw_parts (lines bytes)) ≡ map (λ m. Some m) media }
 {}
 
-/// No two media of a session have one target.
+/// No two media of a session have the same target.
 pub fn targets_are_own()
     ensures { (bytes : List ℕ) (media : List Media) → session bytes ≡ Ok media
         → HaveOwnTargets media }
 {}
 
-/// Each media of a session is within the limits of its quantities.
+/// The quantities of each media of a session are within their limits.
 pub fn media_are_within()
     ensures { (bytes : List ℕ) (media : List Media) → session bytes ≡ Ok media
         → All IsMedia media }
 {}
 
-/// A text of more than 1,048,576 bytes is too large, whatever it holds.
+/// A session description of more than 1,048,576 bytes is too large, whatever it contains.
 pub fn size_is_limited()
     ensures above { (bytes : List ℕ) → 1048576 < length bytes
         → session bytes ≡ Err (fault 0 TooLarge) }
@@ -55,7 +55,8 @@ pub fn size_is_limited()
         → session bytes ≡ answer (lines bytes) }
 {}
 
-/// Worked by hand: the numbers of the causes, which of two faults comes first, and a fault's text.
+/// Worked by hand: the numbers of the causes, which of two faults comes first, and the printed
+/// form.
 pub fn faults_by_hand()
     ensures numbers { map number_of (NotText ∷ NoVersion ∷ BadLine ∷ BadMedia ∷ NoConnection
         ∷ BadAddress ∷ BadParameter ∷ RepeatedParameter ∷ MissingParameter ∷ BadRate ∷ Segmented
@@ -69,7 +70,7 @@ pub fn faults_by_hand()
         ≡ codes "line " ++ (decimal n ++ codes " SameTarget") }
 {}
 
-/// Worked by hand: a number is one to ten digits, and cuts are at the first of a byte.
+/// Worked by hand: a number has 1 to 10 digits, and a text is split at the first of a byte.
 pub fn bytes_by_hand()
     ensures numbers { map number (codes "0" ∷ codes "0000000007" ∷ codes "9999999999" ∷ [])
         ≡ Some 0 ∷ Some 7 ∷ Some 9999999999 ∷ [] }
@@ -82,18 +83,18 @@ pub fn bytes_by_hand()
     ensures nothing { after 61 (codes "abc") ≡ [] }
 {}
 
-/// Worked by hand: a line ends with LF or CR LF, and blanks at its end are dropped.
+/// Worked by hand: a line ends with LF or CR LF, and spaces and tabs at its end are dropped.
 pub fn lines_by_hand()
     ensures several { lines (codes "v=0\r\n\n s=x \t\nt=") ≡ line 1 (codes "v=0") ∷ line 2 []
         ∷ line 3 (codes " s=x") ∷ line 4 (codes "t=") ∷ [] }
     ensures ended { lines (codes "v=0\n") ≡ line 1 (codes "v=0") ∷ [] }
 
-    // One CR directly before a LF is dropped, and no other.
+    // Only one CR directly before an LF is dropped.
     ensures kept { lines (codes "a\r\r\nb\r \nc\r") ≡ line 1 (codes "a\r") ∷ line 2 (codes "b\r")
         ∷ line 3 (codes "c\r") ∷ [] }
 {}
 
-/// Worked by hand: the causes of single lines.
+/// Worked by hand: the faults of single lines.
 pub fn line_faults_by_hand()
     ensures good { map line_faults (line 7 [] ∷ line 7 (codes "a=") ∷ line 7 (codes "z= x")
         ∷ line 7 (codes "m=audio x") ∷ line 7 (codes "m=videos") ∷ line 7 (codes "m=VIDEO")
@@ -134,7 +135,7 @@ pub fn video_lines_by_hand()
         ≡ None ∷ None ∷ None ∷ [] }
 {}
 
-/// Worked by hand: addresses, and which connection counts.
+/// Worked by hand: addresses, and which connection applies.
 pub fn connections_by_hand()
     ensures good { map address_of (line 7 (codes "c=IN IP4 0.0.0.0")
         ∷ line 7 (codes "c=IN IP4 1.2.3.4") ∷ line 7 (codes "c=IN IP4 001.2.3.4/0")
@@ -151,7 +152,7 @@ pub fn connections_by_hand()
         ∷ line 7 (codes "c=IN IP4 1.2.3.4/1/2") ∷ line 7 (codes "c=IN IP6 ::1") ∷ [])
         ≡ None ∷ None ∷ None ∷ None ∷ None ∷ None ∷ [] }
 
-    // The first `c=` line of the part, and else the session's.
+    // The first `c=` line of the part applies, otherwise that of the session.
     ensures first { connection_line (line 7 (codes "a=x") ∷ line 8 (codes "c=x")
         ∷ line 9 (codes "c=y") ∷ [])
         ≡ Some (line 8 (codes "c=x")) }
@@ -171,7 +172,7 @@ pub fn parameters_by_hand()
         ≡ item name.ExactFrameRate None ∷ item name.Interlace None ∷ item name.Segmentation None
         ∷ item name.Troff None ∷ item name.Cmax None ∷ item name.MaxUdp None ∷ [] }
 
-    // Only blanks round an item are dropped, so `width ` is no known name.
+    // Only spaces and tabs around an item are dropped, so `width ` is no known name.
     ensures blanks { items_of 7 (codes "width =5;height= 5")
         ≡ item name.Height (Some (codes " 5")) ∷ [] }
     ensures lists { map (list_of 96) (line 7 (codes "a=fmtp:096 x y")
@@ -189,7 +190,7 @@ pub fn parameters_by_hand()
         ≡ [] }
 {}
 
-/// Worked by hand: the limits of sizes, offsets and limits.
+/// Worked by hand: the ranges of sizes, offsets and limits.
 pub fn numbers_by_hand()
     ensures width { causes name.Width (codes "0" ∷ codes "1" ∷ codes "32767" ∷ codes "32768" ∷ [])
         ≡ Some BadParameter ∷ None ∷ None ∷ Some BadParameter ∷ [] }
@@ -218,7 +219,7 @@ pub fn values_by_hand()
         ∷ item name.ExactFrameRate (Some (codes "60000/1001")) ∷ [])
         ≡ Some (record { p = 50; q = 1 }) ∷ Some (record { p = 60000; q = 1001 }) ∷ [] }
 
-    // At most 240 frames per second.
+    // The rate is at most 240 frames per second.
     ensures fast { causes name.ExactFrameRate (codes "240" ∷ codes "241" ∷ codes "240240/1001"
         ∷ codes "240241/1001" ∷ [])
         ≡ None ∷ Some BadRate ∷ None ∷ Some BadRate ∷ [] }
@@ -241,7 +242,7 @@ pub fn values_by_hand()
         ≡ Some BadRate }
 {}
 
-/// Worked by hand: raw parts, what they lack, and their targets.
+/// Worked by hand: raw parts, missing parameters, and targets.
 pub fn parts_by_hand()
     ensures maps { map (is_raw_map 96) (line 7 (codes "a=rtpmap:96 raw/90000")
         ∷ line 7 (codes "a=rtpmap:096 RAW/90000") ∷ line 7 (codes "a=rtpmap:97 raw/90000")
@@ -251,7 +252,7 @@ pub fn parts_by_hand()
         ∷ line 9 (codes "a=y") ∷ [])
         ≡ line 7 (codes "a=x") ∷ [] }
 
-    // A parameter in a bad form isn't missing.
+    // An invalid parameter isn't missing.
     ensures nothing_missing { is_missing (item name.Width None ∷ item name.Height None
         ∷ item name.ExactFrameRate None ∷ [])
         ≡ false }
@@ -270,26 +271,26 @@ pub fn parts_by_hand()
         ≡ fault 7 TooManyMedia ∷ [] }
 {}
 
-/// Worked by hand: texts without a session.
+/// Worked by hand: invalid session descriptions.
 pub fn refused_by_hand()
     ensures empty { session [] ≡ Err (fault 1 NoVersion) }
     ensures no_video { session (codes "v=0") ≡ Err (fault 0 NoVideo) }
     ensures second_line { session (codes "v=0\nA=x\n") ≡ Err (fault 2 BadLine) }
 
-    // The lone CR stands on the line before the byte that is no letter.
+    // The single CR is on an earlier line than the `A=`.
     ensures first_line { session (codes "v=0\r\n\ns=\rx\nA=x\n") ≡ Err (fault 3 NotText) }
     ensures no_port { session (codes "v=0\nm=video 0 RTP/AVP 96\n") ≡ Err (fault 2 BadMedia) }
     ensures no_connection { session (codes "v=0\nm=video 1 RTP/AVP 96\na=rtpmap:96 raw/90000\n")
         ≡ Err (fault 2 NoConnection) }
 
-    // The session's connection is bad only where it counts.
+    // The session's connection is a fault only if it applies to a raw part.
     ensures bad_address { session (codes "v=0\nc=x\nm=video 1 RTP/AVP 96\na=rtpmap:96 raw/90000\n")
         ≡ Err (fault 2 BadAddress) }
     ensures passed_over { session (codes "v=0\nc=x\nm=video 1 RTP/AVP 96\n")
         ≡ Err (fault 0 NoVideo) }
 {}
 
-/// Worked by hand: texts that are refused for a raw part.
+/// Worked by hand: session descriptions with an invalid raw part.
 pub fn parts_refused_by_hand()
     ensures bad_parameter { session (one_part (codes "; TROFF=1000001"))
         ≡ Err (fault 5 BadParameter) }
@@ -306,12 +307,12 @@ pub fn parts_refused_by_hand()
         ≡ Err (fault 6 MissingParameter) }
 {}
 
-/// Worked by hand: texts with a session.
+/// Worked by hand: valid session descriptions.
 pub fn accepted_by_hand()
     ensures one { session (one_part (codes "; TP=2110TPW\n"))
         ≡ Ok (one_media (Some Kind.W) ∷ []) }
 
-    // The second part has a connection of its own; the audio part is passed over.
+    // The second raw part has a connection of its own, and the audio section is ignored.
     ensures two { session (one_part (codes "\nm=audio 1\nc=x\nm=video 9 RTP/AVP 0\nc=IN IP4 1.2.3.5"
         ++ raw_0 (codes "interlace; CMAX=4; TROFF=6; width=1; height=2; exactframerate=50")))
         ≡ Ok (one_media None ∷ record {

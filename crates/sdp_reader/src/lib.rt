@@ -1,5 +1,5 @@
-//! Session descriptions (RFC 4566) of uncompressed video (SMPTE ST 2110-20) with the timing
-//! parameters of SMPTE ST 2110-21.
+//! A reader of session descriptions (RFC 4566) of uncompressed video (SMPTE ST 2110-20) with the
+//! timing parameters of SMPTE ST 2110-21.
 #![tactic(auto)]
 
 mod bytes;

@@ -1,4 +1,4 @@
-//! The lines of a text, and the faults of single lines.
+//! The lines of a session description, and the faults of single lines.
 
 ghost use Rattle.std.specs.Prelude.{◌≡◌, ◌≤◌, length, map, IfOk, IfSome};
 ghost use Rattle.std.specs.List.{flat_map};
@@ -10,22 +10,25 @@ use crate::bytes::{cut, field, is_same, number_within, strip, trim_end};
 use crate::fault::{SdpCause, SdpFault, first_of};
 use std::alloc::{AllocError, Global};
 
-/// One line of the text, without its end and the blanks before it.
+/// One line, without its line ending and the spaces and tabs before it.
 #[derive(Clone, Copy, Debug)]
 pub(crate) struct Line<'a> {
-    // Counted from 1.
+    /// The number of the line, counted from 1.
     pub number: u32,
+    /// The text.
     pub text: &'a [u8],
 }
 
-/// What a video line says.
+/// The port and format of a video line.
 #[derive(Clone, Copy, Debug)]
 pub(crate) struct Video {
+    /// The UDP port, 1 to 65,535.
     pub port: u16,
+    /// The RTP payload type, 0 to 127.
     pub format: u8,
 }
 
-/// A piece that a LF ended, without one CR at its end.
+/// Returns a piece that an LF ended, without one CR at its end.
 fn without_cr(piece: &[u8]) -> &[u8]
     ensures value { result.now ≡ without_cr piece.now }
     ensures shorter { length result.now ≤ length piece.now }
@@ -37,7 +40,7 @@ fn without_cr(piece: &[u8]) -> &[u8]
     }
 }
 
-/// The lines of a text of at most a megabyte.
+/// Returns the lines of a text of at most 1,048,576 bytes. Returns `Err` if memory runs out.
 pub(crate) fn read_lines(alloc: Global, bytes: &[u8]) -> Result<Vec<Line<'_>>, AllocError>
     requires { length bytes.now ≤ 1048576 }
     ensures { IfOk result (λ v. map plain v.items ≡ lines bytes.now) }
@@ -62,7 +65,7 @@ pub(crate) fn read_lines(alloc: Global, bytes: &[u8]) -> Result<Vec<Line<'_>>, A
     Ok(lines)
 }
 
-/// The cause on the line, where it stands there.
+/// Returns a fault of this cause on this line, if `stands` is true.
 pub(crate) fn at(line: u32, what: SdpCause, stands: bool) -> Option<SdpFault>
     ensures { result ≡ least (at line what stands) }
 {
@@ -73,7 +76,8 @@ pub(crate) fn at(line: u32, what: SdpCause, stands: bool) -> Option<SdpFault>
     }
 }
 
-/// The port and the format of the fields of a video line.
+/// Returns the port and the format of a video line, from the text after `m=`. Returns `None` if the
+/// line isn't `m=video PORT RTP/AVP FORMAT`.
 pub(crate) fn video_of(fields: &[u8]) -> Option<Video>
     ensures value { result ≡ video_of fields.now }
     ensures ranges { IfSome result (λ v. (1 ≤ v.port) × (v.format ≤ 127)) }
@@ -97,7 +101,7 @@ pub(crate) fn video_of(fields: &[u8]) -> Option<Video>
     }
 }
 
-/// Whether the first field is `video`.
+/// Returns whether the first field is `video`.
 fn is_video(fields: &[u8]) -> bool
     ensures { result ≡ is_video fields.now }
 {
@@ -108,19 +112,21 @@ fn is_video(fields: &[u8]) -> bool
 impl Line<'_> {
     ghost use Rattle.std.specs.Option.{option_copied};
 
-    /// The fields of an `m=` line.
+    /// Returns the text after `m=`, or `None` if this isn't an `m=` line.
     pub(crate) fn media_fields(&self) -> Option<&[u8]>
         ensures { option_copied result ≡ media_fields (plain self.now) }
     {
         strip(self.text, b"m=")
     }
 
+    /// Returns whether the line has a byte 0 or a CR.
     fn is_not_text(&self) -> bool
         ensures { result ≡ is_not_text (plain self.now) }
     {
         self.text.iter().any(|b| *b == 0 || *b == b'\r')
     }
 
+    /// Returns whether the line isn't empty and doesn't begin with a letter a to z and `=`.
     fn is_bad_line(&self) -> bool
         ensures { result ≡ is_bad_line (plain self.now) }
     {
@@ -128,6 +134,7 @@ impl Line<'_> {
         !text.is_empty() && !(text.len() >= 2 && text[0].is_ascii_lowercase() && text[1] == b'=')
     }
 
+    /// Returns whether this is an `m=` line of `video` without the form of a video line.
     fn is_bad_media(&self) -> bool
         ensures { result ≡ is_bad_media (plain self.now) }
     {
@@ -137,7 +144,7 @@ impl Line<'_> {
         }
     }
 
-    /// The first cause that stands on the line whatever part it is in.
+    /// Returns the first fault that the line has by itself, in whichever section it is.
     fn fault(&self) -> Option<SdpFault>
         ensures { result ≡ least (line_faults (plain self.now)) }
     {
@@ -148,7 +155,7 @@ impl Line<'_> {
     }
 }
 
-/// The first of the faults of single lines.
+/// Returns the first fault that a line has by itself.
 pub(crate) fn line_fault(lines: &[Line]) -> Option<SdpFault>
     ensures { result ≡ least (flat_map line_faults (map plain lines.now)) }
 {
@@ -159,7 +166,7 @@ pub(crate) fn line_fault(lines: &[Line]) -> Option<SdpFault>
     fault
 }
 
-/// Whether the first line that isn't empty gives the version.
+/// Returns the fault `NoVersion`, unless the first line that isn't empty is `v=0`.
 pub(crate) fn version_fault(lines: &[Line]) -> Option<SdpFault>
     ensures { result ≡ least (version_faults (map plain lines.now)) }
 {

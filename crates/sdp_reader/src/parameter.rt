@@ -16,22 +16,31 @@ use crate::line::{Line, at};
 use std::alloc::{AllocError, Global};
 use timing_base::Kind;
 
-/// The names of the table.
+/// The known parameters.
 #[derive(Clone, Copy, Debug)]
 pub(crate) enum Name {
+    /// The width, in pixels.
     Width,
+    /// The height, in lines.
     Height,
+    /// The frame rate.
     ExactFrameRate,
+    /// The flag for pictures sent as two fields.
     Interlace,
+    /// The flag for pictures sent in segments (PsF).
     Segmentation,
+    /// The sender type.
     Tp,
+    /// The offset of the first read, in microseconds.
     Troff,
+    /// The limit of the bucket, in packets.
     Cmax,
+    /// The greatest size of UDP datagrams, in bytes.
     MaxUdp,
 }
 
 impl Name {
-    /// The row of the table.
+    /// Returns the index of the parameter in the list of known ones, counted from 0.
     fn row(self) -> usize
         ensures value { result ≡ row_of self }
         ensures inside { result < 9 }
@@ -53,19 +62,24 @@ impl Name {
 /// A frame rate of `p / q` frames per second.
 #[derive(Clone, Copy, Debug)]
 pub(crate) struct Rate {
+    /// The numerator.
     pub p: u32,
+    /// The denominator.
     pub q: u32,
 }
 
-/// A parameter with a name of the table.
+/// A known parameter.
 #[derive(Clone, Copy, Debug)]
 pub(crate) struct Parameter<'a> {
+    /// The line, counted from 1.
     pub line: u32,
+    /// Which parameter it is.
     pub name: Name,
+    /// The text after `=`, if there is one.
     pub value: Option<&'a [u8]>,
 }
 
-/// The name of the table that the text is.
+/// Returns the known parameter of this name, ignoring ASCII case.
 fn table_name(text: &[u8]) -> Option<Name>
     ensures { result ≡ table_name text.now }
 {
@@ -92,7 +106,8 @@ fn table_name(text: &[u8]) -> Option<Name>
     }
 }
 
-/// The parameter of one piece of a list.
+/// Returns the parameter of one item of a list, `name=value` or `name`, or `None` if the name isn't
+/// known.
 fn item_at(line: u32, piece: &[u8]) -> Option<Parameter<'_>>
     ensures { option_map plain_item result ≡ item_at line piece.now }
 {
@@ -105,7 +120,8 @@ fn item_at(line: u32, piece: &[u8]) -> Option<Parameter<'_>>
     Some(Parameter { line, name, value })
 }
 
-/// A rate of at most 240 frames per second.
+/// Returns the rate `P` or `P/Q` in frames per second, if Q is 1 to 1,001 and the rate is above 0
+/// and at most 240.
 fn rate_of(text: &[u8]) -> Option<Rate>
     ensures value { result ≡ rate_of text.now }
     ensures p_some { IfSome result (λ r. 1 ≤ r.p) }
@@ -123,7 +139,7 @@ fn rate_of(text: &[u8]) -> Option<Rate>
     }
 }
 
-/// A sender type.
+/// Returns the sender type with this name.
 fn kind_of(text: &[u8]) -> Option<Kind>
     ensures { result ≡ kind_of text.now }
 {
@@ -139,7 +155,7 @@ fn kind_of(text: &[u8]) -> Option<Kind>
 }
 
 impl Parameter<'_> {
-    /// The value, as a number in a range.
+    /// Returns the value as a number, if it is one from `low` to `high`.
     fn number(&self, low: u32, high: u32) -> Option<u32>
         ensures value { result ≡ value_within low high (plain_item self.now) }
         ensures low { IfSome result (λ n. low ≤ n) }
@@ -148,7 +164,7 @@ impl Parameter<'_> {
         number_within(low, high, self.value?)
     }
 
-    /// The value, as a width or a height.
+    /// Returns the value as a width or height, in pixels or lines.
     pub(crate) fn size(&self) -> Option<u32>
         ensures value { result ≡ value_size (plain_item self.now) }
         ensures some { IfSome result (λ n. 1 ≤ n) }
@@ -157,7 +173,7 @@ impl Parameter<'_> {
         self.number(1, 32_767)
     }
 
-    /// The value, as an offset in microseconds.
+    /// Returns the value as an offset, in microseconds.
     pub(crate) fn offset(&self) -> Option<u32>
         ensures value { result ≡ value_offset (plain_item self.now) }
         ensures most { IfSome result (λ n. n ≤ 1000000) }
@@ -165,7 +181,7 @@ impl Parameter<'_> {
         self.number(0, 1_000_000)
     }
 
-    /// The value, as a limit of packets or of bytes.
+    /// Returns the value as a limit, in packets or bytes.
     pub(crate) fn limit(&self) -> Option<u32>
         ensures value { result ≡ value_limit (plain_item self.now) }
         ensures some { IfSome result (λ n. 1 ≤ n) }
@@ -174,7 +190,7 @@ impl Parameter<'_> {
         self.number(1, 65_535)
     }
 
-    /// The value, as a frame rate.
+    /// Returns the value as a frame rate.
     pub(crate) fn rate(&self) -> Option<Rate>
         ensures value { result ≡ value_rate (plain_item self.now) }
         ensures p_some { IfSome result (λ r. 1 ≤ r.p) }
@@ -185,14 +201,14 @@ impl Parameter<'_> {
         rate_of(self.value?)
     }
 
-    /// The value, as a sender type.
+    /// Returns the value as a sender type.
     pub(crate) fn kind(&self) -> Option<Kind>
         ensures { result ≡ value_kind (plain_item self.now) }
     {
         kind_of(self.value?)
     }
 
-    /// What is wrong with the parameter, if anything is.
+    /// Returns the cause, if the parameter is invalid or not supported.
     fn cause(&self) -> Option<SdpCause>
         ensures { result ≡ cause_of self.now.name (plain_item self.now) }
     {
@@ -210,7 +226,7 @@ impl Parameter<'_> {
         }
     }
 
-    /// The fault on the parameter's line, if there is one.
+    /// Returns the fault on the parameter's line, if it is invalid or not supported.
     fn fault(&self) -> Option<SdpFault>
         ensures { result ≡ least (item_faults (plain_item self.now)) }
     {
@@ -222,14 +238,14 @@ impl Parameter<'_> {
     }
 }
 
-/// The cause, unless the parameter fits.
+/// Returns the cause, unless the parameter is valid.
 fn unless(fits: bool, cause: SdpCause) -> Option<SdpCause>
     ensures { result ≡ unless fits cause }
 {
     if fits { None } else { Some(cause) }
 }
 
-/// What is wrong with a UDP size limit, in bytes.
+/// Returns the cause, if the size limit of UDP datagrams isn't valid or is above 1,460 bytes.
 fn udp_cause(limit: Option<u32>) -> Option<SdpCause>
     ensures { result ≡ udp_cause limit }
 {
@@ -240,7 +256,7 @@ fn udp_cause(limit: Option<u32>) -> Option<SdpCause>
     }
 }
 
-/// The list of a line `a=fmtp:FORMAT LIST`, or nothing.
+/// Returns the list of a line `a=fmtp:FORMAT LIST`. Other lines have an empty one.
 fn list_of<'a>(line: &Line<'a>, format: u8) -> &'a [u8]
     ensures { result.now ≡ list_of format (plain line.now) }
 {
@@ -253,14 +269,14 @@ fn list_of<'a>(line: &Line<'a>, format: u8) -> &'a [u8]
     }
 }
 
-/// Whether the text is this number.
+/// Returns whether the text is this number.
 pub(crate) fn is_the(format: u8, text: &[u8]) -> bool
     ensures { result ≡ is_the format (number text.now) }
 {
     number(text) == Some(u64::from(format))
 }
 
-/// Adds a parameter, where there is one.
+/// Appends a parameter if there is one. Returns `Err` if memory runs out.
 fn add_item<'a>(
     items: &mut Vec<Parameter<'a>>,
     item: Option<Parameter<'a>>,
@@ -274,7 +290,7 @@ fn add_item<'a>(
     Ok(())
 }
 
-/// Adds the parameters of a list.
+/// Appends the known parameters of a list. Returns `Err` if memory runs out.
 fn add_items<'a>(
     items: &mut Vec<Parameter<'a>>,
     line: u32,
@@ -291,7 +307,7 @@ fn add_items<'a>(
     add_item(items, item_at(line, rest))
 }
 
-/// The parameters of a part's lines, in order.
+/// Returns the known parameters of a part's lines, in order. Returns `Err` if memory runs out.
 pub(crate) fn parameters<'a>(
     alloc: Global,
     format: u8,
@@ -306,7 +322,7 @@ pub(crate) fn parameters<'a>(
     Ok(items)
 }
 
-/// The first of the faults of single parameters.
+/// Returns the first fault that a parameter has by itself.
 pub(crate) fn item_fault(items: &[Parameter]) -> Option<SdpFault>
     ensures { result ≡ least (flat_map item_faults (map plain_item items.now)) }
 {
@@ -317,7 +333,7 @@ pub(crate) fn item_fault(items: &[Parameter]) -> Option<SdpFault>
     fault
 }
 
-/// The first of the parameters that stand a second time.
+/// Returns the fault of the first parameter with the name of an earlier one.
 pub(crate) fn repeated_fault(items: &[Parameter]) -> Option<SdpFault>
     ensures { result ≡ least (repeated_faults (map plain_item items.now)) }
 {
@@ -331,7 +347,7 @@ pub(crate) fn repeated_fault(items: &[Parameter]) -> Option<SdpFault>
     fault
 }
 
-/// The first parameter of a name.
+/// Returns the first parameter of this name.
 pub(crate) fn item_named<'a>(name: Name, items: &[Parameter<'a>]) -> Option<Parameter<'a>>
     ensures { option_map plain_item result ≡ item_named name (map plain_item items.now) }
 {

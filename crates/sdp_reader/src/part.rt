@@ -1,4 +1,4 @@
-//! Media parts: what each says, and its faults.
+//! Media sections: their contents and faults.
 
 ghost use Rattle.std.specs.Prelude.{◌≡◌, ◌+◌, ◌≤◌, ◌<◌, ◌*◌, map, IfOk, OnOk, IfSome};
 ghost use Rattle.std.specs.Option.{option_map, option_and_then};
@@ -21,36 +21,41 @@ use crate::parameter::{
 use std::alloc::{AllocError, Global};
 use timing_base::{Kind, Media, Target};
 
-/// A part's first line, and where its packets go, if it has a good address.
+/// The first line of a part, and its target, if the address is valid.
 #[derive(Clone, Copy, Debug)]
 pub(crate) struct Destination {
+    /// The first line of the part, counted from 1.
     pub line: u32,
+    /// The target, if the address is valid.
     pub target: Option<Target>,
 }
 
-/// A raw part as it is read.
+/// The result of one raw part.
 #[derive(Clone, Copy, Debug)]
 pub(crate) struct Reading {
+    /// The first line and the target.
     pub destination: Destination,
-    // The first of the part's own faults.
+    /// The first fault that the part has by itself.
     pub fault: Option<SdpFault>,
-    // The stream, where the part has all that one has to have.
+    /// The stream, if the part has all that a stream needs.
     pub media: Option<Media>,
 }
 
-/// What is kept of the raw parts, in order.
+/// The results of the raw parts so far, in order.
 #[derive(Debug, Drop)]
 pub(crate) struct Kept {
+    /// The first line and the target of each part.
     pub destinations: Vec<Destination>,
-    // The first of the faults that parts have by themselves.
+    /// The first fault that a part has by itself.
     pub fault: Option<SdpFault>,
+    /// The streams.
     pub media: Vec<Media>,
 }
 
 impl Kept {
     ghost use Rattle.sdp_reader.specs.Summary.{Adds};
 
-    /// Keeps a reading, where there is one.
+    /// Adds the result of a raw part, if there is one. Returns `Err` if memory runs out.
     pub(crate) fn add(&mut self, reading: Option<Reading>) -> Result<(), AllocError>
         ensures { OnOk result (Adds self.old reading self.new) }
     {
@@ -65,7 +70,7 @@ impl Kept {
     }
 }
 
-/// The lines before the first that begins a media part.
+/// Returns the lines before the first `m=` line.
 pub(crate) fn own_lines<'b, 'a>(lines: &'b [Line<'a>]) -> &'b [Line<'a>]
     ensures { map plain result.now ≡ own_lines (map plain lines.now) }
 {
@@ -77,7 +82,7 @@ pub(crate) fn own_lines<'b, 'a>(lines: &'b [Line<'a>]) -> &'b [Line<'a>]
     lines
 }
 
-/// The first `c=` line.
+/// Returns the first `c=` line.
 pub(crate) fn connection_line<'a>(lines: &[Line<'a>]) -> Option<Line<'a>>
     ensures { option_map plain result ≡ connection_line (map plain lines.now) }
 {
@@ -89,7 +94,7 @@ pub(crate) fn connection_line<'a>(lines: &[Line<'a>]) -> Option<Line<'a>>
     None
 }
 
-/// An octet, or a TTL.
+/// Returns the value of 1 to 3 digits if it is at most 255: an octet or a TTL.
 fn octet(text: &[u8]) -> Option<u32>
     ensures value { result ≡ octet text.now }
     ensures range { IfSome result (λ n. n ≤ 255) }
@@ -100,7 +105,7 @@ fn octet(text: &[u8]) -> Option<u32>
     }
 }
 
-/// Whether what stands after a slash, if there is one, is a TTL.
+/// Returns whether there is either no slash or a valid TTL after it.
 fn is_ttl(last: &[u8]) -> bool
     ensures { result ≡ is_ttl last.now }
 {
@@ -110,7 +115,7 @@ fn is_ttl(last: &[u8]) -> bool
     }
 }
 
-/// The address of four octets.
+/// Returns the address of four octets, the first in the most significant byte.
 fn address_from(a: &[u8], b: &[u8], c: &[u8], d: &[u8]) -> Option<u32>
     ensures { result ≡ address_from (octet a.now) (octet b.now) (octet c.now) (octet d.now) }
 {
@@ -121,7 +126,7 @@ fn address_from(a: &[u8], b: &[u8], c: &[u8], d: &[u8]) -> Option<u32>
     Some(a * 16_777_216 + b * 65_536 + c * 256 + d)
 }
 
-/// `A.B.C.D` or `A.B.C.D/TTL`.
+/// Returns the address of `A.B.C.D` or `A.B.C.D/TTL`.
 fn address_at(rest: &[u8]) -> Option<u32>
     ensures { result ≡ address_at rest.now }
 {
@@ -136,14 +141,14 @@ fn address_at(rest: &[u8]) -> Option<u32>
     }
 }
 
-/// The address of a line `c=IN IP4 ADDRESS`.
+/// Returns the address of a line `c=IN IP4 ADDRESS`.
 fn address_of(line: &Line) -> Option<u32>
     ensures { result ≡ address_of (plain line.now) }
 {
     address_at(strip(line.text, b"c=IN IP4 ")?)
 }
 
-/// Whether the line is `a=rtpmap:FORMAT raw/90000`.
+/// Returns whether the line is `a=rtpmap:FORMAT raw/90000`.
 fn is_raw_map(line: &Line, format: u8) -> bool
     ensures { result ≡ is_raw_map format (plain line.now) }
 {
@@ -156,7 +161,7 @@ fn is_raw_map(line: &Line, format: u8) -> bool
     }
 }
 
-/// Whether a line of the part maps its format so.
+/// Returns whether a line of the part maps its format to `raw/90000`.
 fn is_raw(body: &[Line], format: u8) -> bool
     ensures { result ≡ list_any (is_raw_map format) (map plain body.now) }
 {
@@ -168,7 +173,7 @@ fn is_raw(body: &[Line], format: u8) -> bool
     false
 }
 
-/// The fault of the connection that counts.
+/// Returns the fault of the connection that applies, if it is missing or invalid.
 fn connection_fault(line: u32, connection: Option<Line>) -> Option<SdpFault>
     ensures { result ≡ least (connection_faults line (option_map plain connection.entry)) }
 {
@@ -182,7 +187,7 @@ fn connection_fault(line: u32, connection: Option<Line>) -> Option<SdpFault>
     }
 }
 
-/// Whether a parameter that has to stand doesn't.
+/// Returns whether width, height or exactframerate is missing.
 fn is_missing(items: &[Parameter]) -> bool
     ensures { result ≡ is_missing (map plain_item items.now) }
 {
@@ -191,7 +196,7 @@ fn is_missing(items: &[Parameter]) -> bool
         || item_named(Name::ExactFrameRate, items).is_none()
 }
 
-/// The size that the first parameter of a name gives.
+/// Returns the size in the first parameter of this name, in pixels or lines.
 fn size_named(name: Name, items: &[Parameter]) -> Option<u32>
     ensures value { result
         ≡ option_and_then value_size (item_named name (map plain_item items.now)) }
@@ -201,7 +206,7 @@ fn size_named(name: Name, items: &[Parameter]) -> Option<u32>
     item_named(name, items)?.size()
 }
 
-/// The offset of the first parameter TROFF, in microseconds.
+/// Returns the offset in the first parameter TROFF, in microseconds.
 fn troff_named(items: &[Parameter]) -> Option<u32>
     ensures value { result
         ≡ option_and_then value_offset (item_named Name.Troff (map plain_item items.now)) }
@@ -210,7 +215,7 @@ fn troff_named(items: &[Parameter]) -> Option<u32>
     item_named(Name::Troff, items)?.offset()
 }
 
-/// The limit of the first parameter CMAX, in packets.
+/// Returns the limit in the first parameter CMAX, in packets.
 fn cmax_named(items: &[Parameter]) -> Option<u32>
     ensures value { result
         ≡ option_and_then value_limit (item_named Name.Cmax (map plain_item items.now)) }
@@ -220,14 +225,14 @@ fn cmax_named(items: &[Parameter]) -> Option<u32>
     item_named(Name::Cmax, items)?.limit()
 }
 
-/// The sender type of the first parameter TP.
+/// Returns the sender type in the first parameter TP.
 fn kind_named(items: &[Parameter]) -> Option<Kind>
     ensures { result ≡ option_and_then value_kind (item_named Name.Tp (map plain_item items.now)) }
 {
     item_named(Name::Tp, items)?.kind()
 }
 
-/// The rate of the first parameter exactframerate.
+/// Returns the rate in the first parameter exactframerate, in frames per second.
 fn rate_named(items: &[Parameter]) -> Option<Rate>
     ensures value { result
         ≡ option_and_then value_rate (item_named Name.ExactFrameRate (map plain_item items.now)) }
@@ -239,7 +244,7 @@ fn rate_named(items: &[Parameter]) -> Option<Rate>
     item_named(Name::ExactFrameRate, items)?.rate()
 }
 
-/// The stream of a part, where it has all that a stream has to have.
+/// Returns the stream of a part, if the part has all that a stream needs.
 fn media_of(line: u32, video: Video, address: Option<u32>, items: &[Parameter]) -> Option<Media>
     requires port { 1 ≤ video.port }
     requires format { video.format ≤ 127 }
@@ -269,7 +274,8 @@ fn media_of(line: u32, video: Video, address: Option<u32>, items: &[Parameter]) 
     })
 }
 
-/// What is kept of a raw part with this head and these lines; first the session's connection.
+/// Returns the result of a raw part that begins on `line` and goes on with the lines `body`.
+/// `session` is the first `c=` line of the session section. Returns `Err` if memory runs out.
 fn read_raw<'a>(
     alloc: Global,
     session: Option<Line<'a>>,
@@ -294,7 +300,7 @@ fn read_raw<'a>(
     })
 }
 
-/// The first fault of a raw part with this first line, connection and parameters.
+/// Returns the first fault of a raw part with this first line, connection and parameters.
 fn raw_fault(line: u32, connection: Option<Line>, items: &[Parameter]) -> Option<SdpFault>
     ensures { result
         ≡ least (faults_at line (option_map plain connection.entry) (map plain_item items.now)) }
@@ -307,7 +313,7 @@ fn raw_fault(line: u32, connection: Option<Line>, items: &[Parameter]) -> Option
     )
 }
 
-/// The part's own connection, or where it has none the session's.
+/// Returns the part's own connection, or the session's if the part has none.
 fn counting<'a>(own: Option<Line<'a>>, session: Option<Line<'a>>) -> Option<Line<'a>>
     ensures { option_map plain result
         ≡ counting (option_map plain own.entry) (option_map plain session.entry) }
@@ -315,14 +321,14 @@ fn counting<'a>(own: Option<Line<'a>>, session: Option<Line<'a>>) -> Option<Line
     own.or(session)
 }
 
-/// The address, where the connection has the form.
+/// Returns the address, if the connection is valid.
 fn good_address(connection: Option<Line>) -> Option<u32>
     ensures { result ≡ option_and_then address_of (option_map plain connection.entry) }
 {
     address_of(&connection?)
 }
 
-/// The target of a part with this address, if it has a good one, and this port.
+/// Returns the target with this address, if there is one, and this port.
 fn target_at(address: Option<u32>, port: u16) -> Option<Target>
     ensures { result ≡ target_at address port }
 {
@@ -330,8 +336,8 @@ fn target_at(address: Option<u32>, port: u16) -> Option<Target>
     Some(Target { address, port })
 }
 
-/// What is kept of the part that a line begins, where it is a raw part; `rest` are the lines after
-/// it.
+/// Returns the result of the part that the line `head` begins, or `None` if that isn't a raw part.
+/// `rest` are the lines after `head`. Returns `Err` if memory runs out.
 pub(crate) fn read_part<'a>(
     alloc: Global,
     session: Option<Line<'a>>,
@@ -353,7 +359,7 @@ pub(crate) fn read_part<'a>(
     Ok(Some(reading))
 }
 
-/// Port and format, where the line is a video line.
+/// Returns port and format, if the line is a video line.
 fn video_of_head(head: &Line) -> Option<Video>
     ensures value { result ≡ option_and_then video_of (media_fields (plain head.now)) }
     ensures ranges { IfSome result (λ v. (1 ≤ v.port) × (v.format ≤ 127)) }

@@ -1,4 +1,4 @@
-//! The whole description: its media, or its least fault.
+//! The whole session description: its media, or its first fault.
 
 ghost use Rattle.std.specs.Prelude.{◌≡◌, [], map, IfOk, Err, Ok};
 ghost use Rattle.std.specs.List.{filter_map, flat_map};
@@ -18,7 +18,8 @@ use std::alloc::{AllocError, Global};
 use std::collections::BTreeSet;
 use timing_base::{Items, Session, Target};
 
-/// What is kept of the raw parts, in order; first the session's connection.
+/// Returns the results of the raw parts, in order. `session` is the first `c=` line of the session
+/// section. Returns `Err` if memory runs out.
 fn read_parts<'a>(
     alloc: Global,
     session: Option<Line<'a>>,
@@ -40,7 +41,8 @@ fn read_parts<'a>(
     Ok(kept)
 }
 
-/// Whether the target is among those that were seen, which it is from now on.
+/// Returns whether the target was seen before, and adds it to those seen. Returns `Err` if memory
+/// runs out.
 fn is_taken(seen: &mut BTreeSet<Target>, target: Option<Target>) -> Result<bool, AllocError>
     ensures { IfOk result (λ taken. TakesTarget seen.old seen.new target taken) }
 {
@@ -50,7 +52,8 @@ fn is_taken(seen: &mut BTreeSet<Target>, target: Option<Target>) -> Result<bool,
     }
 }
 
-/// The first part whose target an earlier part has.
+/// Returns the fault of the first part with the target of an earlier part. Returns `Err` if memory
+/// runs out.
 fn target_fault(alloc: Global, parts: &[Destination]) -> Result<Option<SdpFault>, AllocError>
     ensures { IfOk result (λ fault. fault ≡ least (target_faults parts.now)) }
 {
@@ -63,7 +66,7 @@ fn target_fault(alloc: Global, parts: &[Destination]) -> Result<Option<SdpFault>
     Ok(fault)
 }
 
-/// The 65th part.
+/// Returns the fault of the 65th part, if there is one.
 fn too_many_fault(parts: &[Destination]) -> Option<SdpFault>
     ensures { result ≡ least (too_many_faults parts.now) }
 {
@@ -74,8 +77,8 @@ fn too_many_fault(parts: &[Destination]) -> Option<SdpFault>
     }
 }
 
-/// The first fault of all, of lines whose raw parts have these destinations, and this first fault by
-/// themselves.
+/// Returns the first fault of all, given the destinations of the raw parts and the first fault that
+/// a raw part has by itself. Returns `Err` if memory runs out.
 fn first_fault(
     alloc: Global,
     lines: &[Line],
@@ -94,7 +97,7 @@ fn first_fault(
     Ok(first_of(version_fault(lines), of_lines))
 }
 
-/// The media of the lines of a text, or the first fault.
+/// Returns the media of these lines, or their first fault.
 fn answer(alloc: Global, lines: &[Line]) -> Result<Session, SdpError>
     ensures { Tells (answer (map plain lines.now)) result }
 {
@@ -118,15 +121,16 @@ fn answer(alloc: Global, lines: &[Line]) -> Result<Session, SdpError>
     })
 }
 
-/// Reads the session description in `bytes`, which may be no text at all. The media are its video
-/// parts of raw pictures, in order; other parts and lines are passed over.
+/// Reads a session description from any bytes. The media are its raw parts, in order: the video
+/// sections that map their format to `raw/90000`. Other sections and lines are ignored.
 ///
-/// Of several faults that on the least line is told, and on it the cause with the least number.
-/// More than 1,048,576 bytes are `TooLarge` whatever they hold.
+/// If there are several faults, the one on the first invalid line is returned, and of that line the
+/// cause with the lowest number. More than 1,048,576 bytes are always `TooLarge`. Returns
+/// `OutOfMemory` if memory runs out.
 pub fn read_sdp(alloc: Global, bytes: &[u8]) -> Result<Session, SdpError>
-    // The session of the text or its first fault; nothing is said where memory ran out.
+    // The session of the text or its first fault. If memory ran out, nothing is guaranteed.
     ensures tells { Tells (session bytes.now) result }
-    // No two media have one target.
+    // No two media have the same target.
     ensures targets { IfOk result (λ session. HaveOwnTargets session) }
 {
     if bytes.len() > 1_048_576 {

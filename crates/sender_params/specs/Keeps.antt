@@ -1,7 +1,7 @@
--- When the judged packets keep the limits of a sender type (SMPTE ST 2110-21), and what shows that they
--- don't. m is the video, n the packets of one group, and the stamps are those of the judged packets, in
--- nanoseconds, counted from 0. An instant is any fraction of nanoseconds. Both models are the standard's. This
--- project's own are the fields of a fail, and that at one instant a packet has come and a read is done.
+-- The limits of a sender type for judged packets (SMPTE ST 2110-21), and violations of them. m is the video, n the
+-- packets per frame or field, and stamps the capture timestamps of the judged packets, in nanoseconds. Packets count
+-- from 0. An instant is any fraction of nanoseconds. Both models are the standard's. This project's own are the fields
+-- of a violation, and that a packet and a read count at their own instant.
 use Rattle.std.specs.Prelude.{◌≡◌, ◌+◌, ◌-◌, ◌≤◌, ◌<◌, ℕ, ℤ, pos, ◌-ℤ◌, ◌≤ℤ◌, Bool, nat_lt, List, length, slice_index}
 use Rattle.std.specs.Prelude.{count_by}
 use Rattle.std.specs.List.{range_with_len}
@@ -15,51 +15,51 @@ use Rattle.sender_params.specs.Limits.{c_max_of, vrx_full_of, gapped_of}
 use Rattle.sender_params.specs.Reads.{anchor_of, read_of}
 use Rattle.sender_params.specs.Ticks.{KeepsBucket, load_of}
 
--- the packets that came by the instant t
+-- number of packets that came by the instant t
 abbrev pub arrived : List ℕ → Fraction → ℕ
 arrived stamps t = count_by (λ at. at_most (whole at) t) stamps
 
--- the reads among the first `count` ones that are due at the instant t
+-- number of the first `count` reads that are due at the instant t
 abbrev pub due_among : Media → ℕ → ℤ → Bool → ℕ → Fraction → ℕ
 due_among m n anchor gapped count t = count_by (λ x. at_most (read_of m n anchor gapped x) t) (range_with_len 0 count)
 
--- the packets that the virtual receiver buffer holds at the instant t; below 0 where a read found none
+-- occupancy of the virtual receiver buffer at the instant t, in packets; negative if a read found no packet
 abbrev pub held_of : Media → ℕ → List ℕ → Bool → Fraction → ℤ
 held_of m n stamps gapped t =
     pos (arrived stamps t) -ℤ pos (due_among m n (anchor_of m (slice_index stamps 0)) gapped (length stamps) t)
 
--- at every instant the buffer holds between nothing and VRX_FULL of this type
+-- at every instant the buffer of this type neither underflows nor holds more than VRX_FULL
 abbrev pub KeepsBuffer : Media → ℕ → List ℕ → Kind → Type 0
 KeepsBuffer m n stamps kind = (t : Fraction) → 0 < t.den
     → (pos 0 ≤ℤ held_of m n stamps (gapped_of kind) t)
     × (held_of m n stamps (gapped_of kind) t ≤ℤ pos (vrx_full_of m n kind))
 
--- a sender of this type sends so
+-- the packets keep both limits of this type
 pub record Keeps (m : Media) (n : ℕ) (stamps : List ℕ) (kind : Kind) : Type 0 where
   pub bucket : KeepsBucket m n stamps kind
   pub buffer : KeepsBuffer m n stamps kind
 
--- the packets that the buffer holds just after packet i came: those up to i, less the reads that are due by then, and 0
--- where the reads are more. Of the reads the first i + 1 decide: where they are due, nothing is held.
+-- occupancy of the buffer just after packet i: the packets up to i, less the reads due by then, and 0 if those are
+-- more. Only the first i + 1 reads matter: if they are all due, the buffer is empty.
 abbrev pub held_at : Media → ℕ → List ℕ → Bool → ℕ → ℕ
 held_at m n stamps gapped i =
     (i + 1) - due_among m n (anchor_of m (slice_index stamps 0)) gapped (i + 1) (whole (slice_index stamps i))
 
--- when packet i comes, the buffer holds more than VRX_FULL packets
+-- just after packet i the buffer holds more than VRX_FULL packets
 abbrev pub is_over : Media → ℕ → List ℕ → Kind → ℕ → Bool
 is_over m n stamps kind i = nat_lt (vrx_full_of m n kind) (held_at m n stamps (gapped_of kind) i)
 
--- packet i comes after its own read, which found nothing
+-- packet i comes after its own read, at which the buffer underflowed
 abbrev pub is_empty : Media → ℕ → List ℕ → Kind → ℕ → Bool
 is_empty m n stamps kind i =
     below (read_of m n (anchor_of m (slice_index stamps 0)) (gapped_of kind) i) (whole (slice_index stamps i))
 
--- the packets that came by read i
+-- number of packets that came by read i
 abbrev pub arrived_by_read : Media → ℕ → List ℕ → Kind → ℕ → ℕ
 arrived_by_read m n stamps kind i =
     arrived stamps (read_of m n (anchor_of m (slice_index stamps 0)) (gapped_of kind) i)
 
--- the count of an interval is as the fail says, and breaks the limit of its model
+-- count and limit of the violation are right for its interval and model, and the limit is violated
 abbrev pub BreaksLimit : Media → ℕ → List ℕ → Kind → FailProof → Broken → Type 0
 BreaksLimit m n stamps kind f Bucket = (f.limit ≡ c_max_of m n kind)
     × (f.count ≡ load_of m n stamps f.from f.to)
@@ -73,7 +73,7 @@ BreaksLimit m n stamps kind f Empty = (f.limit ≡ f.to + 1)
     × (f.count ≡ arrived_by_read m n stamps kind f.to)
     × (f.count < f.limit)
 
--- the fail names an interval of judged packets that doesn't keep the limits of this type
+-- the violation names an interval of judged packets that doesn't keep the limits of this type
 pub record Confirms (m : Media) (n : ℕ) (stamps : List ℕ) (kind : Kind) (f : FailProof) : Type 0 where
   pub ordered : f.from ≤ f.to
   pub judged : f.to < length stamps

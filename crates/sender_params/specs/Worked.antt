@@ -1,4 +1,4 @@
--- Videos, packets and fails on which the definitions are tried by hand. Stamps are nanoseconds of TAI.
+-- Videos, packets and violations for values worked by hand. Capture timestamps are in nanoseconds of TAI.
 use Rattle.std.specs.Prelude.{◌≡◌, ◌<◌, ◌*◌, ℕ, pos, Bool, true, false, Option, Some, None, List, [], ◌∷◌, replicate}
 use Rattle.fraction128.specs.Fractions.{Fraction, AtMost, scaled}
 use Rattle.timing_base.specs.Media.{Media}
@@ -8,7 +8,7 @@ use Rattle.timing_base.specs.declared.fail.FailProof.{FailProof}
 use Rattle.timing_base.specs.declared.fail.Broken.{Broken}
 use Rattle.sender_params.specs.Limits.{c_max_of, vrx_full_of}
 
--- a video of this height at p / q frames per second, with the declared type, TROFF and CMAX that are given
+-- a video of this height at p / q frames per second, with this declared type, TROFF and CMAX
 abbrev pub described : (height : ℕ) (interlaced : Bool) (p q : ℕ) (declared : Option Kind) (troff cmax : Option ℕ)
     → Media
 described height interlaced p q declared troff cmax = record {
@@ -26,7 +26,7 @@ described height interlaced p q declared troff cmax = record {
   cmax = cmax;
 }
 
--- the same, declared narrow, without TROFF and CMAX
+-- a video of this height at p / q frames per second, declared narrow, without TROFF and CMAX
 abbrev pub video : (height : ℕ) (interlaced : Bool) (p q : ℕ) → Media
 video height interlaced p q = described height interlaced p q (Some N) None None
 
@@ -34,7 +34,7 @@ video height interlaced p q = described height interlaced p q (Some N) None None
 abbrev pub hd_50 : Media
 hd_50 = video 1080 false 50 1
 
--- so many packets at once, 764,000 ns after 1,600,000,000 s: the first read is 444 4/9 ns later
+-- `count` packets at once, 764,000 ns after 1,600,000,000 s; the first read is 444 4/9 ns later
 abbrev pub at_once : ℕ → List ℕ
 at_once count = replicate count 1600000000000764000
 
@@ -70,6 +70,6 @@ c_max_of_each m n = (c_max_of m n N, c_max_of m n NL, c_max_of m n W)
 abbrev pub vrx_full_of_each : Media → ℕ → ℕ × ℕ × ℕ
 vrx_full_of_each m n = (vrx_full_of m n N, vrx_full_of m n NL, vrx_full_of m n W)
 
--- a fail of a model: the first and the last packet, the count over them, and the limit
+-- a violation of a model: the first and the last packet, the count over them, and the limit
 abbrev pub fail : Broken → (from to count limit : ℕ) → FailProof
 fail model from to count limit = record { model = model; from = from; to = to; count = count; limit = limit }

@@ -1,5 +1,5 @@
-//! The definitions on numbers worked by hand, and what holds of every confirmed fail. Each function does
-//! nothing, and its clauses are proved.
+//! The definitions on numbers worked by hand, and theorems about confirmed violations. Each function does nothing; its
+//! clauses are the theorem.
 
 ghost use Rattle.std.specs.Prelude.{◌≡◌, ◌∷◌, [], ℕ, List, true, false, pos, negsuc, Some, None, replicate};
 ghost use Rattle.fraction128.specs.Fractions.{Below, scaled, whole};
@@ -50,9 +50,9 @@ pub fn interlaced_times_by_hand()
     ensures drain { IsTime (drain_time hd_25_interlaced 10) 20000000 11 }
 {}
 
-/// TR_OFFSET by height: 746,666 2/3 ns of all progressive pictures below 1080 lines at 50. Of
-/// interlaced ones at 25 it is 782,222 2/9 ns from 1080 lines on, 1,664,000 ns from 576 to 1079 lines and
-/// 1,523,809 11/21 ns below; with 480 lines at 30000/1001 it is 1,271,111 1/9 ns.
+/// TR_OFFSET by height. Progressive pictures at 50: 764,444 4/9 ns from 1080 lines on, and 746,666 2/3 ns below.
+/// Interlaced pictures at 25: 782,222 2/9 ns from 1080 lines on, 1,664,000 ns from 576 to 1079 lines, and 1,523,809
+/// 11/21 ns below; with 480 lines at 30000/1001, 1,271,111 1/9 ns.
 pub fn offsets_by_hand()
     ensures lines_2160 { IsTime (offset_time (video 2160 false 50 1)) 6880000 9 }
     ensures lines_1079 { IsTime (offset_time (video 1079 false 50 1)) 2240000 3 }
@@ -66,9 +66,9 @@ pub fn offsets_by_hand()
     ensures fields_480 { IsTime (offset_time (video 480 true 30000 1001)) 11440000 9 }
 {}
 
-/// Gapped T_RS by height: 960,000 ns of all progressive pictures at 50 with 20 packets per frame. Of
-/// interlaced ones at 25 with 10 packets per field it is 1,920,000 ns from 1080 lines on, 1,843,200 ns from
-/// 576 to 1079 lines and 1,855,238 2/21 ns below; with 480 lines at 30000/1001 it is 1,547,577 7/9 ns.
+/// Gapped T_RS by height. Progressive pictures at 50 with 20 packets per frame: 960,000 ns. Interlaced pictures at 25
+/// with 10 packets per field: 1,920,000 ns from 1080 lines on, 1,843,200 ns from 576 to 1079 lines, and 1,855,238 2/21
+/// ns below; with 480 lines at 30000/1001, 1,547,577 7/9 ns.
 pub fn steps_by_hand()
     ensures lines_2160 { IsTime (read_step (video 2160 false 50 1) 20 true) 960000 1 }
     ensures lines_720 { IsTime (read_step (video 720 false 50 1) 20 true) 960000 1 }
@@ -81,8 +81,8 @@ pub fn steps_by_hand()
     ensures fields_480 { IsTime (read_step (video 480 true 30000 1001) 10 true) 13928200 9 }
 {}
 
-/// 1080p at 60000/1001 with 4320 packets per frame. At 50 with so few that each limit is its least, and on
-/// both sides of whole quotients: 17,280 and 20,736 packets per frame, and one less.
+/// The limits of 1080p at 60000/1001 with 4320 packets per frame. At 50: with 20 packets per frame, where each limit is
+/// its minimum, and on both sides of whole quotients, with 17,280 and 20,736 packets per frame and one less.
 pub fn limits_by_hand()
     ensures bucket { c_max_of_each hd_59_94 4320 ≡ (6, 5, 16) }
     ensures buffer { vrx_full_of_each hd_59_94 4320 ≡ (9, 9, 863) }
@@ -96,8 +96,9 @@ pub fn limits_by_hand()
     ensures narrow_under { c_max_of_each hd_50 20735 ≡ (24, 23, 47) }
 {}
 
-/// The limits step where the quotient is whole. At 50 frames per second C_MAX of N is N * 50 / 41472, of NL
-/// N * 50 / 43200 and of W N * 50 / 21600; VRX_FULL is N * 50 / 27000, and N / 6 of W.
+/// The limits step at whole quotients. At 50 frames per second C_MAX is N * 50 / 41472 for N, N * 50 / 43200 for NL and
+/// N * 50 / 21600 for W; VRX_FULL is N * 50 / 27000 for N and NL, and N / 6 for W. N is the number of packets per
+/// frame.
 pub fn steps_of_limits_by_hand()
     ensures narrow { c_max_of_each hd_50 41472 ≡ (50, 48, 96) }
     ensures narrow_under { c_max_of_each hd_50 41471 ≡ (49, 47, 95) }
@@ -109,9 +110,9 @@ pub fn steps_of_limits_by_hand()
     ensures buffer_under { vrx_full_of_each hd_50 29159 ≡ (53, 53, 4859) }
 {}
 
-/// With G packets per field N is 2 * G. At 25 frames per second C_MAX of N is G * 50 / 41472 from 1080 lines on,
-/// and with 576 to 1079 lines, whose active part is 576/625, it is G * 625 / 497664: 11 from G = 8,758.9 on. Below,
-/// at 30000/1001 with 487/525, it is G * 625 / 417846: 13 from G = 8,691.2 on.
+/// With G packets per field N is 2 * G. At 25 frames per second C_MAX of type N is G * 50 / 41472 from 1080 lines on.
+/// With 576 to 1079 lines, where the active part is 576/625, it is G * 625 / 497664: 11 from G = 8,758.9 on. Below, at
+/// 30000/1001 with 487/525, it is G * 625 / 417846: 13 from G = 8,691.2 on.
 pub fn interlaced_steps_of_limits_by_hand()
     ensures lines_1080 { c_max_of_each hd_25_interlaced 41472 ≡ (50, 48, 96) }
     ensures lines_1080_under { c_max_of_each hd_25_interlaced 41471 ≡ (49, 47, 95) }
@@ -123,7 +124,7 @@ pub fn interlaced_steps_of_limits_by_hand()
     ensures buffer_under { vrx_full_of_each hd_25_interlaced 29159 ≡ (53, 53, 4859) }
 {}
 
-/// CMAX=9 is of the declared type alone, where C_MAX is 4, 4 and 16 without it.
+/// CMAX=9 replaces the limit of the declared type only. Without it C_MAX is 4, 4 and 16.
 pub fn cmax_by_hand()
     ensures narrow { c_max_of_each (described 1080 false 50 1 (Some N) None (Some 9)) 20 ≡ (9, 4, 16) }
     ensures linear { c_max_of_each (described 1080 false 50 1 (Some NL) None (Some 9)) 20 ≡ (4, 9, 16) }
@@ -132,8 +133,8 @@ pub fn cmax_by_hand()
     ensures no_cmax { c_max_of_each (described 1080 false 50 1 (Some W) None None) 20 ≡ (4, 4, 16) }
 {}
 
-/// 1080 lines, interlaced, at 25 with 8,640 packets per field; 576 lines at 25 with 9,000, and 480
-/// lines at 30000/1001 with 8,960, whose active parts differ.
+/// The limits of interlaced pictures: 1080 lines at 25 with 8,640 packets per field, 576 lines at 25 with 9,000, and
+/// 480 lines at 30000/1001 with 8,960. Their active parts differ.
 pub fn interlaced_limits_by_hand()
     ensures bucket { c_max_of_each hd_25_interlaced 8640 ≡ (10, 10, 20) }
     ensures buffer { vrx_full_of_each hd_25_interlaced 8640 ≡ (16, 16, 1440) }
@@ -141,8 +142,8 @@ pub fn interlaced_limits_by_hand()
     ensures lines_480 { c_max_of_each (video 480 true 30000 1001) 8960 ≡ (13, 12, 24) }
 {}
 
-/// The ticks of 1080p at 50 with 20 packets per frame: 4 within 3,840,000 ns, and the eleventh at the very
-/// instant 10,000,000 ns after the first packet. With 10 packets per field at 25, 5 ticks by then.
+/// The drain ticks of 1080p at 50 with 20 packets per frame: 4 within 3,840,000 ns, and the eleventh exactly 10,000,000
+/// ns after the first packet. With 10 packets per field at 25, 5 ticks by then.
 pub fn ticks_by_hand()
     ensures none { ticks_of hd_50 20 1600000000000764000 1600000000001673090 ≡ 0 }
     ensures one { ticks_of hd_50 20 1600000000000764000 1600000000001673091 ≡ 1 }
@@ -152,9 +153,8 @@ pub fn ticks_by_hand()
     ensures fields { ticks_of hd_25_interlaced 10 7 10000007 ≡ 5 }
 {}
 
-/// The loads of five packets at once, where the sixth comes 2,000,000 ns after them. Ticks are counted from
-/// packet 0 on: the first is between packets 1 and 2 of the second list, which are 20,000 ns apart. No load is
-/// below 0.
+/// The loads of five packets at once and a sixth 2,000,000 ns after them. Ticks are counted from packet 0 on: in
+/// `from_first` the first tick is between packets 1 and 2, which are 20,000 ns apart. No load is below 0.
 pub fn loads_by_hand()
     ensures all { load_of hd_50 20 (7 ∷ 7 ∷ 7 ∷ 7 ∷ 7 ∷ 2000007 ∷ []) 0 4 ≡ 5 }
     ensures drained { load_of hd_50 20 (7 ∷ 7 ∷ 7 ∷ 7 ∷ 7 ∷ 2000007 ∷ []) 0 5 ≡ 4 }
@@ -165,11 +165,13 @@ pub fn loads_by_hand()
     ensures falls { NeverFall (7 ∷ 8 ∷ 7 ∷ []) → ⊥ }
 {}
 
-/// 1080p at 50, with a first packet 764,000 ns after 1,600,000,000 s: it is of frame 80,000,000,000. At
-/// 60000/1001, TAI second 1,601,600,000 begins frame 96,000,000,000; at 25, 1,600,000,000 s begin field
-/// 80,000,000,000. A first packet belongs to the nearest group, and halfway to the later one: with
-/// TR_OFFSET 764,444 4/9 ns from 10,764,445 ns on to frame 1, and with TROFF=0 from 10,000,000 ns on. With
-/// TROFF=1000000 at 240 the group of a packet at 0 is 240 frames, or 480 fields, before it.
+/// The frame or field of a first packet. 1080p at 50, with a first packet 764,000 ns after 1,600,000,000 s: frame
+/// 80,000,000,000. At 60000/1001, TAI second 1,601,600,000 begins frame 96,000,000,000; at 25 interlaced, 1,600,000,000
+/// s begins field 80,000,000,000.
+///
+/// A first packet belongs to the nearest frame or field, and halfway to the later one: with TR_OFFSET 764,444 4/9 ns to
+/// frame 1 from 10,764,445 ns on, and with TROFF=0 from 10,000,000 ns on. With TROFF=1000000 at 240, a packet at 0
+/// belongs to the frame 240 before frame 0, or to the field 480 before field 0.
 pub fn anchors_by_hand()
     ensures anchor { anchor_of hd_50 1600000000000764000 ≡ pos 80000000000 }
     ensures frame { anchor_of hd_59_94 1601600000000636674 ≡ pos 96000000000 }
@@ -183,10 +185,10 @@ pub fn anchors_by_hand()
     ensures fields { anchor_of (described 1080 true 240 1 None (Some 1000000) None) 0 ≡ negsuc 479 }
 {}
 
-/// Reads of frame 80,000,000,000 at 50 with 20 packets per frame: gapped read 1 is at 1,724,444 4/9 ns of it,
-/// linear read 1 at 1,764,444 4/9 ns, and read 20 is the first of the next frame. With 10 packets per field at
-/// 25, read 10 is the first of the next field, 20,782,222 2/9 ns after second 1,600,000,000, and read 11
-/// 1,920,000 ns later. A group may stand before 0.
+/// The reads of frame 80,000,000,000 at 50 with 20 packets per frame: gapped read 1 is 1,724,444 4/9 ns after its
+/// start, linear read 1 is 1,764,444 4/9 ns after it, and read 20 is the first of the next frame. With 10 packets per
+/// field at 25, read 10 is the first of the next field, 20,782,222 2/9 ns after second 1,600,000,000, and read 11 is
+/// 1,920,000 ns later. A frame or field may begin before time 0.
 pub fn reads_by_hand()
     ensures gapped { IsAt (read_of hd_50 20 (pos 80000000000) true 1) 14400000000015520000 9 }
     ensures linear { IsAt (read_of hd_50 20 (pos 80000000000) false 1) 14400000000015880000 9 }
@@ -199,8 +201,8 @@ pub fn reads_by_hand()
     ensures not_at_0 { Below (read_of hd_50 20 (negsuc 0) true 19) (whole 0) }
 {}
 
-/// A linear sender: packet 1 comes 1,000,000 ns after packet 0, after gapped read 1, by which one packet had
-/// come, and before linear read 1. So it is late for type N alone.
+/// A linear sender: packet 1 comes 1,000,000 ns after packet 0, after gapped read 1 and before linear read 1. By gapped
+/// read 1 one packet had come. Packet 1 is late for type N only.
 pub fn late_by_hand()
     ensures narrow { is_empty hd_50 20 linear_two N 1 ≡ true }
     ensures linear { is_empty hd_50 20 linear_two NL 1 ≡ false }
@@ -210,8 +212,8 @@ pub fn late_by_hand()
     ensures count_wide { arrived_by_read hd_50 20 linear_two W 1 ≡ 2 }
 {}
 
-/// With one packet per frame the reads are counted on from the frame of packet 0. Packet 1 comes 444 4/9 ns
-/// before the read of the next frame, when one packet is held, or 555 5/9 ns after it, when none is.
+/// With one packet per frame, reads are counted on from the frame of packet 0. If packet 1 comes 444 4/9 ns before the
+/// read of the next frame, one packet is held; if it comes 555 5/9 ns after that read, it is late, and none is held.
 pub fn next_frame_by_hand()
     ensures held { held_at hd_50 1 (764000 ∷ 20764000 ∷ []) true 1 ≡ 1 }
     ensures in_time { is_empty hd_50 1 (764000 ∷ 20764000 ∷ []) N 1 ≡ false }
@@ -220,9 +222,9 @@ pub fn next_frame_by_hand()
     ensures count { arrived_by_read hd_50 1 (764000 ∷ 20765000 ∷ []) N 1 ≡ 1 }
 {}
 
-/// The packets of the linear sender in the virtual receiver buffer. At the very instant of gapped read 1 one
-/// packet has come and two reads are due, so the buffer lacks one; just before it lacks none. At
-/// the very instant of packet 1 the buffer lacks none, and just before it lacks one.
+/// Occupancy of the virtual receiver buffer for the linear sender. At the instant of gapped read 1 one packet has come
+/// and two reads are due, so the buffer underflows by one packet; just before, it doesn't. At the instant of packet 1
+/// the buffer doesn't underflow, and just before it underflows by one.
 pub fn held_by_hand()
     ensures at_read { held_of hd_50 20 linear_two true (scaled (pos 14400000000015520000) (1, 9))
         ≡ negsuc 0 }
@@ -234,8 +236,7 @@ pub fn held_by_hand()
     ensures linear { held_of hd_50 20 linear_two false (whole 1600000000001764000) ≡ pos 1 }
 {}
 
-/// At the very instant of gapped read 1 two reads are due, and at packet 0 none: read 0 is 444 4/9 ns
-/// later.
+/// At the instant of gapped read 1 two reads are due. At packet 0 none is: read 0 is 444 4/9 ns later.
 pub fn due_by_hand()
     ensures none { AreDue hd_50 20 (pos 80000000000) true (whole 1600000000000764000) 0 }
     ensures two { AreDue hd_50 20 (pos 80000000000) true
@@ -246,8 +247,8 @@ pub fn due_by_hand()
         (scaled (pos 14400000000015520000) (1, 9)) 3 → ⊥ }
 {}
 
-/// 576 lines, interlaced, at 25 with 10 packets per field: read 0 is at 1,664,000 ns. A packet at
-/// that instant isn't late, and one a nanosecond later is.
+/// 576 lines, interlaced, at 25 with 10 packets per field: read 0 is at 1,664,000 ns. A packet at that instant isn't
+/// late; a packet one nanosecond later is.
 pub fn on_its_read_by_hand()
     ensures due { AreDue sd_25_interlaced 10 (pos 0) true (whole 1664000) 1 }
     ensures in_time { is_empty sd_25_interlaced 10 (1664000 ∷ []) N 0 ≡ false }
@@ -258,8 +259,8 @@ pub fn on_its_read_by_hand()
     ensures fails { Confirms sd_25_interlaced 10 (1664001 ∷ []) N (fail Empty 0 0 0 1) }
 {}
 
-/// 1080p at 50 with 20 packets per frame, where C_MAX of types N and NL is 4 and that of W is 16:
-/// five packets at once break the bucket of N, and four don't, also where they come after another packet.
+/// 1080p at 50 with 20 packets per frame; C_MAX is 4 for N and NL, and 16 for W. Five packets at once violate the
+/// bucket of N, also if they come after another packet. Four packets at once don't.
 pub fn bucket_by_hand()
     ensures four { KeepsBucket hd_50 20 (at_once 4) N }
     ensures five { KeepsBucket hd_50 20 (at_once 5) N → ⊥ }
@@ -267,9 +268,9 @@ pub fn bucket_by_hand()
     ensures later { KeepsBucket hd_50 20 (7 ∷ replicate 5 2000007) N → ⊥ }
 {}
 
-/// Nine packets at once are more than VRX_FULL of types N and NL, which is 8, and eight aren't; of W they
-/// aren't. Between gapped and linear read 1, ten packets are eight and nine. The linear sender's buffer
-/// lacks a packet at gapped read 1.
+/// VRX_FULL of N and NL is 8: nine packets at once overflow the buffer, eight don't, and nine don't for W. Just after
+/// packet 9, which comes between gapped and linear read 1, the buffer holds eight packets with the gapped reads and
+/// nine with the linear ones. The linear sender's buffer underflows at gapped read 1.
 pub fn buffer_by_hand()
     ensures held { held_at hd_50 20 (at_once 9) true 8 ≡ 9 }
     ensures over { is_over hd_50 20 (at_once 9) N 8 ≡ true }
@@ -283,15 +284,15 @@ pub fn buffer_by_hand()
     ensures late { KeepsBuffer hd_50 20 linear_two N → ⊥ }
 {}
 
-/// A sender of type N that sends four packets at once keeps both limits. Five at once break the
-/// bucket's, and a linear sender the buffer's.
+/// For type N, four packets at once keep both limits, five at once violate the bucket, and a linear sender violates the
+/// buffer.
 pub fn keeps_by_hand()
     ensures four { Keeps hd_50 20 (at_once 4) N }
     ensures five { Keeps hd_50 20 (at_once 5) N → ⊥ }
     ensures linear { Keeps hd_50 20 linear_two N → ⊥ }
 {}
 
-/// Of one model and one interval a confirmed fail has one count and one limit.
+/// For one model and one interval, a confirmed violation has only one count and one limit.
 pub fn confirmed_once()
     ensures count { (m : Media) (n : ℕ) (stamps : List ℕ) (kind : Kind) (f g : FailProof)
         → Confirms m n stamps kind f → Confirms m n stamps kind g → f.model ≡ g.model
@@ -301,7 +302,7 @@ pub fn confirmed_once()
         → f.from ≡ g.from → f.to ≡ g.to → f.limit ≡ g.limit }
 {}
 
-/// A fail of the bucket is confirmed for its own interval, count and limit alone.
+/// A violation of the bucket is confirmed only with the right interval, count and limit.
 pub fn bucket_fails_by_hand()
     ensures five { Confirms hd_50 20 (at_once 5) N (fail Bucket 0 4 5 4) }
     ensures to { Confirms hd_50 20 (at_once 5) N (fail Bucket 0 3 5 4) → ⊥ }
@@ -315,8 +316,8 @@ pub fn bucket_fails_by_hand()
     ensures more_limit { Confirms hd_50 20 (at_once 6) N (fail Bucket 0 5 6 5) → ⊥ }
 {}
 
-/// Fails of the buffer: nine packets at once, and packet 1 of the linear sender, by whose gapped
-/// read one packet had come.
+/// Violations of the buffer: nine packets at once, and packet 1 of the linear sender. By the gapped read of packet 1,
+/// one packet had come.
 pub fn buffer_fails_by_hand()
     ensures over { Confirms hd_50 20 (at_once 9) N (fail Over 0 8 9 8) }
     ensures over_from { Confirms hd_50 20 (at_once 9) N (fail Over 1 8 9 8) → ⊥ }

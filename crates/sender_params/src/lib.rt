@@ -1,10 +1,10 @@
-//! What SMPTE ST 2110-21 asks of a sender of one video, exact.
+//! Requirements of SMPTE ST 2110-21 for a sender of one video, as exact numbers.
 //!
-//! [`Params`] has the limits of both models, the times T_FRAME, T_GROUP, T_DRAIN, TR_OFFSET and T_RS,
-//! the ticks of the drain up to an instant, and the group of a first packet, for one video with so
-//! many packets per group. A group is a frame of a progressive picture and a field of an interlaced
-//! one. Times are nanoseconds, instants nanoseconds of TAI, and counts packets. All numbers are this
-//! project's profile of the standard.
+//! [`Params`] has the numbers for one video with a given number of packets per frame or field: the limits of both
+//! models; the times T_FRAME, T_GROUP, T_DRAIN, TR_OFFSET and T_RS; the drain ticks up to an instant; and the frame or
+//! field of a first packet. In code a `group` is a frame of a progressive picture or a field of an interlaced one, and
+//! T_GROUP is its time. Times are in nanoseconds, instants in nanoseconds of TAI, and counts in packets. All numbers
+//! are this project's profile of the standard.
 #![tactic(auto)]
 
 pub mod laws;

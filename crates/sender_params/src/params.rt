@@ -1,4 +1,4 @@
-//! The numbers of one sender.
+//! The limits and times of one sender.
 
 ghost use Rattle.std.specs.Prelude.{◌≡◌, ◌≤◌, ◌<◌, ◌^◌, ◌*◌, true};
 ghost use Rattle.std.specs.Prelude.{false, pos, negsuc, ◌≤ℤ◌, ◌<ℤ◌, ◌-ℤ◌};
@@ -15,14 +15,14 @@ use crate::rules::{self, Limits, Ratio};
 use fraction128::{Line, floor_of, floor_signed};
 use timing_base::{Kind, Media};
 
-/// The numbers of a sender of `media` with `n` packets in each group.
+/// Limits and times of a sender of `media` with `n` packets per frame or field.
 #[derive(Clone, Copy, Debug, PartialEq, Eq)]
 pub struct Params {
     /// The video.
     pub media: Media,
-    /// The packets of one group: 1 to 262,144.
+    /// Packets per frame or field: 1 to 262,144.
     pub n: u32,
-    /// The ticks of the bucket's drain: T_DRAIN from one to the next, in nanoseconds.
+    /// Drain ticks of the bucket: T_DRAIN from one to the next, in nanoseconds.
     pub drain: Line,
     narrow: Limits,
     narrow_linear: Limits,
@@ -62,7 +62,7 @@ pub struct Params {
 }
 
 impl Params {
-    /// The numbers of a sender of `media` with `n` packets in each group.
+    /// Returns the limits and times of a sender of `media` with `n` packets per frame or field.
     pub fn of(media: &Media, n: u32) -> Params
         requires some { 1 ≤ n }
         requires most { n ≤ 262144 }
@@ -82,22 +82,22 @@ impl Params {
         }
     }
 
-    /// C_MAX of this sender type, in packets, rounded down. CMAX replaces that of the declared type
-    /// alone.
+    /// Returns C_MAX of this sender type, in packets, rounded down. CMAX in the SDP replaces that of the declared type
+    /// only.
     pub fn c_max(&self, kind: Kind) -> u64
         ensures { result ≡ c_max_of self.now.media self.now.n kind }
     {
         self.limits(kind).c_max
     }
 
-    /// VRX_FULL of this sender type, in packets, rounded down.
+    /// Returns VRX_FULL of this sender type, in packets, rounded down.
     pub fn vrx_full(&self, kind: Kind) -> u64
         ensures { result ≡ vrx_full_of self.now.media self.now.n kind }
     {
         self.limits(kind).vrx_full
     }
 
-    /// The limits of this sender type.
+    /// Returns the limits of this sender type.
     fn limits(&self, kind: Kind) -> Limits
         ensures c_max { result.c_max ≡ c_max_of self.now.media self.now.n kind }
         ensures vrx_full { result.vrx_full ≡ vrx_full_of self.now.media self.now.n kind }
@@ -109,8 +109,8 @@ impl Params {
         }
     }
 
-    /// TR_OFFSET in nanoseconds, the time from the start of each group to its first read, as
-    /// numerator and denominator. TROFF replaces it. A group of an interlaced picture is a field.
+    /// Returns TR_OFFSET in nanoseconds, as numerator and denominator: the time from the start of each frame or field
+    /// to its first read. TROFF in the SDP replaces it.
     pub(crate) fn offset(&self) -> (u128, u128)
         ensures num { result.0 ≡ (offset_time self.now.media).0 }
         ensures den { result.1 ≡ (offset_time self.now.media).1 }
@@ -123,7 +123,7 @@ impl Params {
         self.offset.pair()
     }
 
-    /// T_FRAME in nanoseconds, as numerator and denominator.
+    /// Returns T_FRAME in nanoseconds, as numerator and denominator.
     fn frame(&self) -> (u128, u128)
         ensures num { result.0 ≡ (frame_time self.now.media).0 }
         ensures den { result.1 ≡ (frame_time self.now.media).1 }
@@ -135,7 +135,7 @@ impl Params {
         (u128::from(media.q) * 1_000_000_000, u128::from(media.p))
     }
 
-    /// T_GROUP in nanoseconds, the time from one group to the next, as numerator and denominator.
+    /// Returns T_GROUP in nanoseconds, as numerator and denominator: the time from one frame or field to the next.
     pub fn group(&self) -> (u128, u128)
         ensures num { result.0 ≡ (group_time self.now.media).0 }
         ensures den { result.1 ≡ (group_time self.now.media).1 }
@@ -149,8 +149,8 @@ impl Params {
         (num, u128::from(rules::groups(&self.media)) * den)
     }
 
-    /// T_RS in nanoseconds, the time from one read to the next in a group, of the gapped schedule or
-    /// the linear one, as numerator and denominator.
+    /// Returns T_RS of the gapped or the linear schedule in nanoseconds, as numerator and denominator: the time from
+    /// one read to the next within a frame or field.
     pub(crate) fn step(&self, gapped: bool) -> (u128, u128)
         ensures num { result.0 ≡ (read_step self.now.media self.now.n gapped).0 }
         ensures den { result.1 ≡ (read_step self.now.media self.now.n gapped).1 }
@@ -165,7 +165,7 @@ impl Params {
         }
     }
 
-    /// The packets of one group.
+    /// Returns the number of packets per frame or field.
     pub fn n(&self) -> u32
         ensures value { result ≡ self.now.n }
         ensures some { 1 ≤ result }
@@ -174,8 +174,8 @@ impl Params {
         self.n
     }
 
-    /// The ticks of the bucket's drain from `a0` up to `at`, both in nanoseconds of TAI: they stand at
-    /// `a0` + T_DRAIN, `a0` + 2 T_DRAIN and so on, and one at the very instant `at` counts.
+    /// Returns the number of drain ticks after `a0` and up to `at`, both in nanoseconds of TAI. The ticks are at `a0` +
+    /// T_DRAIN, `a0` + 2 T_DRAIN and so on; a tick exactly at `at` counts.
     pub fn ticks(&self, a0: u64, at: u64) -> u128
         requires order { a0 ≤ at }
         requires small { at < 2 ^ 62 }
@@ -189,9 +189,9 @@ impl Params {
         )
     }
 
-    /// The number of the group that is nearest to a first packet at `a0`, in nanoseconds of TAI:
-    /// its distance from the first read of that group is at most half of T_GROUP. Halfway between two
-    /// first reads the later group is taken.
+    /// Returns the number of the frame or field to which a first packet at `a0`, in nanoseconds of TAI, is nearest,
+    /// counted from the epoch. The packet is at most half of T_GROUP from the first read of that frame or field.
+    /// Halfway between two first reads, the later frame or field counts.
     pub fn anchor(&self, a0: u64) -> i128
         requires { a0 < 2 ^ 62 }
         ensures value { result ≡ anchor_of self.now.media a0 }
@@ -205,7 +205,7 @@ impl Params {
     }
 }
 
-/// `(up - down) / den`, rounded towards minus infinity.
+/// Returns `(up - down) / den`, rounded towards minus infinity.
 fn floor_difference(up: u128, down: u128, den: u128) -> i128
     requires some { 1 ≤ den }
     requires small { den < 2 ^ 80 }

@@ -1,4 +1,4 @@
-//! The rules of SMPTE ST 2110-21 for one video.
+//! The limits and times of SMPTE ST 2110-21 for one video.
 
 ghost use Rattle.std.specs.Prelude.{◌≡◌, ◌≤◌, ◌<◌, ◌*◌, ◌/◌, ◌^◌, max};
 ghost use Rattle.timing_base.specs.Media.{IsMedia};
@@ -10,17 +10,20 @@ ghost use Rattle.sender_params.specs.Times.{drain_time, per_frame_of, read_step}
 use fraction128::Line;
 use timing_base::{Kind, Media};
 
+/// Nanoseconds in a second.
 const SECOND: u64 = 1_000_000_000;
 
 /// The limits of one sender type, in packets.
 #[derive(Clone, Copy, Debug, PartialEq, Eq)]
 pub struct Limits {
+    /// C_MAX of the bucket.
     pub c_max: u64,
+    /// VRX_FULL of the virtual receiver buffer.
     pub vrx_full: u64,
 }
 
 impl Limits {
-    /// The limits of both models.
+    /// Returns the limits of both models.
     pub fn of(media: &Media, n: u32, kind: Kind) -> Limits
         requires { n ≤ 262144 }
         ensures c_max { result.c_max ≡ c_max_of media.now n kind }
@@ -33,15 +36,17 @@ impl Limits {
     }
 }
 
-/// A fraction that isn't below 0.
+/// A fraction that isn't negative.
 #[derive(Clone, Copy, Debug, PartialEq, Eq)]
 pub struct Ratio {
+    /// Numerator.
     pub num: u64,
+    /// Denominator.
     pub den: u64,
 }
 
 impl Ratio {
-    /// The numerator and the denominator.
+    /// Returns the numerator and the denominator.
     pub fn pair(self) -> (u128, u128)
         ensures num { result.0 ≡ self.num }
         ensures den { result.1 ≡ self.den }
@@ -50,7 +55,7 @@ impl Ratio {
     }
 }
 
-/// The groups of a frame.
+/// Returns the number of groups per frame: 2 fields if interlaced, else 1 frame.
 pub fn groups(media: &Media) -> u32
     ensures value { result ≡ groups_of media.now }
     ensures some { 1 ≤ result }
@@ -59,7 +64,7 @@ pub fn groups(media: &Media) -> u32
     if media.interlaced { 2 } else { 1 }
 }
 
-/// The part of a frame in which a gapped sender sends.
+/// Returns R_ACTIVE, the part of the frame time in which a gapped sender sends.
 pub fn active(media: &Media) -> Ratio
     ensures num { result.num ≡ (active_part media.now).0 }
     ensures den { result.den ≡ (active_part media.now).1 }
@@ -80,7 +85,7 @@ pub fn active(media: &Media) -> Ratio
     }
 }
 
-/// The part of T_FRAME from the start of each group to its first read.
+/// Returns the part of T_FRAME from the start of each frame or field to its first read.
 fn offset_share(media: &Media) -> Ratio
     ensures num { result.num ≡ (offset_part media.now).0 }
     ensures den { result.den ≡ (offset_part media.now).1 }
@@ -97,8 +102,8 @@ fn offset_share(media: &Media) -> Ratio
     }
 }
 
-/// The time from the start of each group to its first read, in nanoseconds: TROFF, or a part of
-/// T_FRAME.
+/// Returns TR_OFFSET in nanoseconds, the time from the start of each frame or field to its first read: TROFF if given,
+/// else a part of T_FRAME.
 pub fn offset(media: &Media) -> Ratio
     ensures num { result.num ≡ (offset_time media.now).0 }
     ensures den { result.den ≡ (offset_time media.now).1 }
@@ -124,7 +129,7 @@ pub fn offset(media: &Media) -> Ratio
     }
 }
 
-/// The time from one read to the next within a group, in nanoseconds.
+/// Returns T_RS in nanoseconds, the time from one read to the next within a frame or field.
 pub fn step(media: &Media, n: u32, gapped: bool) -> Ratio
     requires some { 1 ≤ n }
     requires most { n ≤ 262144 }
@@ -151,7 +156,7 @@ pub fn step(media: &Media, n: u32, gapped: bool) -> Ratio
     }
 }
 
-/// The packets of a frame.
+/// Returns the number of packets per frame. `n` is the number per frame or field.
 pub fn per_frame(media: &Media, n: u32) -> u32
     requires { n ≤ 262144 }
     ensures value { result ≡ per_frame_of media.now n }
@@ -161,7 +166,7 @@ pub fn per_frame(media: &Media, n: u32) -> u32
     groups(media) * n
 }
 
-/// The packets of `q` seconds.
+/// Returns the number of packets in `q` seconds, where `p / q` is the frame rate.
 fn rate(media: &Media, n: u32) -> u64
     requires { n ≤ 262144 }
     ensures value { result ≡ per_frame_of media.now n * media.now.p }
@@ -171,7 +176,7 @@ fn rate(media: &Media, n: u32) -> u64
     u64::from(per_frame(&media, n)) * u64::from(media.p)
 }
 
-/// The greater of `least` and `rate / (by * q)`, where `rate` is of `q` seconds.
+/// Returns the greater of `least` and `rate / (by * q)`, rounded down. `rate` is the number of packets in `q` seconds.
 fn limit(least: u64, rate: u64, by: u64, q: u32) -> u64
     requires some { 1 ≤ by }
     requires some_q { 1 ≤ q }
@@ -181,7 +186,7 @@ fn limit(least: u64, rate: u64, by: u64, q: u32) -> u64
     (rate / (by * u64::from(q))).max(least)
 }
 
-/// C_MAX by the rate, in packets.
+/// Returns C_MAX by the packet rate, in packets, without CMAX.
 fn bucket_limit(media: &Media, n: u32, kind: Kind) -> u64
     requires { n ≤ 262144 }
     ensures { result ≡ c_max_by_rate media.now n kind }
@@ -198,7 +203,7 @@ fn bucket_limit(media: &Media, n: u32, kind: Kind) -> u64
     }
 }
 
-/// CMAX for the declared type, and `limit` for the others.
+/// Returns CMAX, if given, for the declared type, and `limit` for the other types.
 fn declared_limit(declared: Option<Kind>, cmax: Option<u32>, kind: Kind, limit: u64) -> u64
     ensures { result ≡ or_declared declared cmax kind limit }
 {
@@ -209,7 +214,7 @@ fn declared_limit(declared: Option<Kind>, cmax: Option<u32>, kind: Kind, limit: 
     }
 }
 
-/// C_MAX, in packets.
+/// Returns C_MAX, in packets.
 fn c_max(media: &Media, n: u32, kind: Kind) -> u64
     requires { n ≤ 262144 }
     ensures { result ≡ c_max_of media.now n kind }
@@ -218,7 +223,7 @@ fn c_max(media: &Media, n: u32, kind: Kind) -> u64
     declared_limit(media.declared, media.cmax, kind, limit)
 }
 
-/// VRX_FULL, in packets.
+/// Returns VRX_FULL, in packets.
 fn vrx_full(media: &Media, n: u32, kind: Kind) -> u64
     requires { n ≤ 262144 }
     ensures { result ≡ vrx_full_of media.now n kind }
@@ -231,7 +236,7 @@ fn vrx_full(media: &Media, n: u32, kind: Kind) -> u64
     }
 }
 
-/// The ticks of the drain: T_DRAIN from one to the next, in nanoseconds.
+/// Returns the drain ticks: T_DRAIN from one to the next, in nanoseconds.
 pub fn drain(media: &Media, n: u32) -> Line
     requires some { 1 ≤ n }
     requires most { n ≤ 262144 }

@@ -1,25 +1,25 @@
-//! The times of a sender over one denominator, in which the reads of its schedules are whole numbers.
+//! The times of a sender with a common denominator, for which the reads of its schedules are whole numbers.
 
 ghost use Rattle.std.specs.Prelude.{◌≡◌, ◌≤◌, ◌<◌, ◌*◌, ◌/◌, ◌^◌};
 ghost use Rattle.sender_params.specs.Sizes.{AreSizes, HavePer};
 
 use crate::params::Params;
 
-/// The times of a sender, in parts of a nanosecond, each a whole number of them.
+/// Times of a sender, as whole numbers of a part of a nanosecond.
 #[derive(Clone, Copy, Debug, PartialEq, Eq)]
 pub struct Sizes {
-    /// A nanosecond.
+    /// Number of parts in a nanosecond.
     pub den: u128,
-    /// T_GROUP.
+    /// T_GROUP, the time of a frame or field, in parts.
     pub group: u128,
-    /// T_RS.
+    /// T_RS of the gapped or the linear schedule, in parts.
     pub step: u128,
-    /// TR_OFFSET.
+    /// TR_OFFSET, in parts.
     pub offset: u128,
 }
 
-/// The times of the sender with T_RS of the schedule, gapped or linear, in parts of which a nanosecond has as many
-/// as T_RS of the gapped schedule has in its denominator.
+/// Returns the times of the sender with T_RS of the gapped or the linear schedule. The number of parts in a nanosecond
+/// is the denominator of the gapped schedule's T_RS, for both schedules.
 pub fn sizes_of(params: &Params, gapped: bool) -> Sizes
     ensures sizes { let s = result in
         AreSizes params.now.media params.now.n gapped s.den s.group s.step s.offset }
@@ -43,7 +43,7 @@ pub fn sizes_of(params: &Params, gapped: bool) -> Sizes
     }
 }
 
-/// A time in nanoseconds, as numerator and denominator, in parts of which a nanosecond has `den`.
+/// Converts a time in nanoseconds, given as numerator and denominator, to parts. A nanosecond has `den` parts.
 fn parts(time: (u128, u128), den: u128) -> u128
     requires some { 1 ≤ time.1 }
     requires num_small { time.0 < 2 ^ 50 }

@@ -1,11 +1,11 @@
-//! The videos on which the definitions are tried by hand, for the tests of this crate and of those above it.
+//! The videos of the numbers worked by hand, for the tests of this crate and of those that depend on it.
 
 ghost use Rattle.std.specs.Prelude.{◌≡◌, ◌≤◌, ◌*◌};
 ghost use Rattle.sender_params.specs.Worked.{video as worked};
 
 use timing_base::{Kind, Media};
 
-/// A video of this height at `p / q` frames per second, declared narrow, without TROFF and CMAX.
+/// Returns a video of this height at `p / q` frames per second, declared narrow, without TROFF and CMAX.
 pub fn video(height: u32, interlaced: bool, p: u32, q: u32) -> Media
     requires height_some { 1 ≤ height }
     requires height_most { height ≤ 32767 }

@@ -1,10 +1,13 @@
 //! `st2110_timing`: judges the timing of video senders from captures, after SMPTE ST 2110-21:2017.
 //!
-//! The words are read and the job is done by [`timing_top::run`]; here it gets files, the standard
-//! streams and a gate that is always open, and its status becomes that of the process. After the line of a status that
-//! is an error, standard error gets what [`usage_hints::hint`] has to add.
+//! [`timing_top::run`] reads the arguments and does the work. Here it gets files, the standard streams and a gate that
+//! is always open, and its status becomes the exit status of the process. After the first line on standard error
+//! [`usage_hints::hint`] adds an explanation.
 #![tactic(auto)]
 
+mod stream;
+
+use crate::stream::Stream;
 use std::alloc::{AllocError as OutOfMemory, Global};
 use std::io::ErrorKind;
 use std::process::ExitCode;
@@ -15,8 +18,8 @@ use timing_report::Status;
 use timing_top::run;
 use usage_hints::{Ending, hint, input_name};
 
-/// The arguments after the program's name, and whether all are UTF-8. Where one isn't there are none, which is no
-/// request.
+/// Returns the arguments after the name of the program, and whether all of them are UTF-8. If one isn't, no argument is
+/// returned, which is an invalid command line. Returns `Err` if memory runs out.
 fn words<R: Env + AllocGlobal>(rt: &R) -> Result<(Vec<String>, bool), OutOfMemory> {
     match env::args(rt) {
         Ok(args) => Ok((args.skip(1).collect(rt.alloc())?, true)),
@@ -25,9 +28,9 @@ fn words<R: Env + AllocGlobal>(rt: &R) -> Result<(Vec<String>, bool), OutOfMemor
     }
 }
 
-/// The null device for each standard stream that is closed, so that none stays closed: a file gets the least free
-/// number. Else a capture would get that of a closed stream, and be taken for it. Where there is no null device, all
-/// goes on without.
+/// Opens the null device for each standard stream that is closed. A file gets the lowest free descriptor, so that
+/// otherwise a capture could get that of a closed stream, and be used in its place. If there is no null device, the
+/// program goes on without it.
 fn null_devices<R: Files>(rt: &R) -> [Option<io::Result<R::File>>; 3] {
     [
         null_if_closed(rt, "/proc/self/fd/0"),
@@ -36,7 +39,8 @@ fn null_devices<R: Files>(rt: &R) -> [Option<io::Result<R::File>>; 3] {
     ]
 }
 
-/// The null device, if the system has no link for this stream: the stream is closed, or the system shows no streams.
+/// Opens the null device if the system has no link for this stream: the stream is closed, or the system doesn't list
+/// streams.
 fn null_if_closed<R: Files>(rt: &R, link: &str) -> Option<io::Result<R::File>> {
     match fs::symlink_metadata(rt, link) {
         Err(error) if error.kind() == ErrorKind::NotFound => Some(open_null(rt)),
@@ -44,12 +48,12 @@ fn null_if_closed<R: Files>(rt: &R, link: &str) -> Option<io::Result<R::File>> {
     }
 }
 
-/// The null device, to be read: what is written to it fails.
+/// Opens the null device for reading; a write to it fails.
 fn open_null<R: Files>(rt: &R) -> io::Result<R::File> {
     fs::open(rt, "/dev/null")
 }
 
-/// The cause that the shelf has kept of a name, as text.
+/// Returns the cause that the shelf has kept for a name, as text.
 fn cause_of<R: Files + AllocGlobal + Drop>(
     alloc: Global,
     shelf: &FileShelf<R>,
@@ -61,7 +65,7 @@ fn cause_of<R: Files + AllocGlobal + Drop>(
     }
 }
 
-/// How a run ended, with the name of the input that its status speaks of, and the cause that was kept of it.
+/// Returns how a run ended, with the name of the input that its status is about, and the cause that was kept for it.
 fn ending_of<'a>(
     words: &'a [String],
     are_text: bool,
@@ -80,7 +84,7 @@ fn ending_of<'a>(
     }
 }
 
-/// What is printed after the line of a status.
+/// Returns the text that is printed after the first line of a status.
 fn explanation<R: Files + AllocGlobal + Drop>(
     alloc: Global,
     words: &[String],
@@ -95,12 +99,13 @@ fn explanation<R: Files + AllocGlobal + Drop>(
     hint(alloc, ending)
 }
 
-/// Prints a text on standard error. What can't be written is left out.
+/// Prints a text on standard error. If a write fails, the rest is left out.
 fn print_on<K: Sink>(err: &mut K, text: &str) {
     let _written = put_all(err, text.as_bytes());
 }
 
-/// Explains a status on standard error, after its line. Where memory runs out or a write fails, nothing more is printed.
+/// Explains a status on standard error, after its first line. If memory runs out or a write fails, nothing more is
+/// printed.
 fn explain_status<R: Files + AllocGlobal + Drop, K: Sink>(
     alloc: Global,
     words: &[String],
@@ -116,13 +121,13 @@ fn explain_status<R: Files + AllocGlobal + Drop, K: Sink>(
 
 fn main(rt: HostRuntime) -> ExitCode {
     let _streams = null_devices(&rt);
-    let mut err = StdSink::err(&rt, rt.stderr());
+    let mut err = StdSink::new(&rt, Stream::Err(rt.stderr()));
     let Ok((words, are_text)) = words(&rt) else {
         print_on(&mut err, Status::OutOfMemory.error_line().as_str());
         return ExitCode::from(Status::OutOfMemory.code());
     };
     let mut shelf = FileShelf::new(&rt);
-    let mut out = StdSink::out(&rt, rt.stdout());
+    let mut out = StdSink::new(&rt, Stream::Out(rt.stdout()));
     let status = run(
         &rt,
         rt.alloc(),

@@ -1,4 +1,4 @@
--- Small flows for examples that are worked by hand, with payload type 96 and source 7, and a plain video.
+-- Small flows for examples worked by hand, with payload type 96 and source 7, and a plain video.
 use Rattle.std.specs.Prelude.{ℕ, Bool, true, false, List, [], ◌∷◌, Option, Some, None, Ok, Err}
 use Rattle.timing_base.specs.Captures.{Record}
 use Rattle.timing_base.specs.Judged.{RunOutcome, whole_frames}
@@ -8,7 +8,7 @@ use Rattle.timing_base.specs.declared.media.Kind.TheVariants.{N}
 use Rattle.timing_base.specs.declared.packet.FlowPacket.{FlowPacket}
 use Rattle.timing_base.specs.declared.packet.PacketFault.{PacketFault}
 
--- a packet by record, stamp, packet number, RTP timestamp and marker
+-- a packet by packet record, capture timestamp, packet number, RTP timestamp and marker
 abbrev pub sent : ℕ → ℕ → ℕ → ℕ → Bool → FlowPacket
 sent rec at number timestamp marker = record {
   rec = rec;
@@ -16,7 +16,7 @@ sent rec at number timestamp marker = record {
   rtp = Ok record { number = number; timestamp = timestamp; marker = marker; pt = 96; ssrc = 7 };
 }
 
--- the same from another source, and with another payload type
+-- such a packet from another source
 abbrev pub sent_by : ℕ → ℕ → ℕ → ℕ → ℕ → Bool → FlowPacket
 sent_by ssrc rec at number timestamp marker = record {
   rec = rec;
@@ -24,6 +24,7 @@ sent_by ssrc rec at number timestamp marker = record {
   rtp = Ok record { number = number; timestamp = timestamp; marker = marker; pt = 96; ssrc = ssrc };
 }
 
+-- such a packet with another payload type
 abbrev pub sent_as : ℕ → ℕ → ℕ → ℕ → ℕ → Bool → FlowPacket
 sent_as pt rec at number timestamp marker = record {
   rec = rec;
@@ -31,25 +32,25 @@ sent_as pt rec at number timestamp marker = record {
   rtp = Ok record { number = number; timestamp = timestamp; marker = marker; pt = pt; ssrc = 7 };
 }
 
--- a record of a capture, without bytes
+-- a packet record without bytes
 abbrev pub captured : (number stamp : ℕ) → Record
 captured number stamp = record { number = number; stamp = stamp; bytes = [] }
 
--- a packet that was not read
+-- a packet that could not be read
 abbrev pub unread : ℕ → ℕ → PacketFault → FlowPacket
 unread rec at fault = record { rec = rec; at = at; rtp = Err fault }
 
--- a head of one packet, two groups of two, and a tail of one
+-- a head of one packet, two frames of two packets, and a tail of one
 abbrev pub two_groups : List FlowPacket
 two_groups =
     sent 1 10 6 100 true ∷ sent 2 20 7 101 false ∷ sent 3 30 8 101 true ∷ sent 4 40 9 102 false ∷ sent 5 50 10 102 true
     ∷ sent 6 60 11 103 false ∷ []
 
--- three packets, the first alone marked; 8 and 65,544 have equal low halves
+-- three packets, of which the first alone has the marker; the numbers 8 and 65,544 have equal low halves
 abbrev pub equal_low_halves : List FlowPacket
 equal_low_halves = sent 1 10 6 100 true ∷ sent 2 20 7 101 false ∷ sent 3 30 65544 101 false ∷ []
 
--- what is judged of groups of two, so many, with a head and a tail of one packet
+-- what is judged of this many frames of two packets, with a head and a tail of one packet each
 abbrev pub judged_twos : (groups : ℕ) (stamps : List ℕ) → RunOutcome
 judged_twos groups stamps = whole_frames record { n = 2; groups = groups; head = 1; tail = 1; stamps = stamps }
 

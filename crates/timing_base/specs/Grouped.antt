@@ -1,4 +1,5 @@
--- What holds of every flow that is judged: whole groups of one size, and stamps that never fall.
+-- The form of everything that is judged: whole frames or fields of one size, and capture timestamps that never
+-- decrease.
 use Rattle.std.specs.Prelude.{◌≡◌, ◌≤◌, ◌<◌, ◌+◌, ◌*◌, ◌-◌, ◌^◌, ℕ, List, [], ◌∷◌, length, slice_index, All, IsSome}
 use Rattle.std.specs.Prelude.{None, ⊤}
 use Rattle.std.specs.List.Sorted.{IsNonDecreasing}
@@ -7,7 +8,7 @@ use Rattle.timing_base.specs.Flows.{cuts, markers, last_place, group_len}
 use Rattle.timing_base.specs.Judged.{JudgedRun, RunOutcome, no_whole_frame, whole_frames, FlowRun, FlowVerdict, absent}
 use Rattle.timing_base.specs.Judged.{refused, gap, in_one_run, in_runs}
 
--- the judged packets are whole groups of one size, in the order of their stamps
+-- the judged packets are whole frames or fields of one size, with capture timestamps that never decrease
 pub record IsGrouped (run : JudgedRun) : Type 0 where
   pub some : 1 ≤ run.n
   pub few : run.n ≤ 262144
@@ -17,24 +18,24 @@ pub record IsGrouped (run : JudgedRun) : Type 0 where
   pub rising : IsNonDecreasing run.stamps
   pub early : All (λ at. at < 2 ^ 62) run.stamps
 
--- the same of a run that is judged
+-- the judged packets of a run, if there are any, are of that form
 abbrev pub IsGroupedOutcome : RunOutcome → Type 0
 IsGroupedOutcome (no_whole_frame head) = ⊤
 IsGroupedOutcome (whole_frames run) = IsGrouped run
 
--- the first run alone has no number to go on from
+-- the first run alone has no expected number
 abbrev pub ExpectsAfterFirst : List FlowRun → Type 0
 ExpectsAfterFirst [] = ⊤
 ExpectsAfterFirst (run ∷ rest) = (run.expected ≡ None) × All (λ later. IsSome later.expected) rest
 
--- the runs of a flow with cuts
+-- a flow with gaps has 2 to 1,025 runs, and each is of that form
 pub record AreGrouped (runs : List FlowRun) : Type 0 where
   pub some : 2 ≤ length runs
   pub few : length runs ≤ 1025
   pub expected : ExpectsAfterFirst runs
   pub outcomes : All (λ run. IsGroupedOutcome run.outcome) runs
 
--- of each run of a verdict
+-- each run of a verdict is of that form
 abbrev pub IsGroupedVerdict : FlowVerdict → Type 0
 IsGroupedVerdict absent = ⊤
 IsGroupedVerdict (refused rec fault) = ⊤
@@ -42,9 +43,9 @@ IsGroupedVerdict (gap rec expected got) = ⊤
 IsGroupedVerdict (in_one_run outcome) = IsGroupedOutcome outcome
 IsGroupedVerdict (in_runs runs) = AreGrouped runs
 
--- what holds of the markers of a run before packet i, where no packet before has a fault
+-- the markers of a run before packet i, if no packet before i has a fault
 pub record IsSized (i : ℕ) (marks : List ℕ) : Type 0 where
-  -- the first judged group may be one too large at packet i
+  -- with packet i, the first judged frame or field may be one packet too large
   pub first : length marks ≡ 1 → i ≤ slice_index marks 0 + 262145
   pub begun : 1 ≤ length marks → slice_index marks 0 < i
   pub some : 2 ≤ length marks → slice_index marks 0 < slice_index marks 1
@@ -53,6 +54,6 @@ pub record IsSized (i : ℕ) (marks : List ℕ) : Type 0 where
   pub later : 2 ≤ length marks → last_place marks < i
   pub next : 2 ≤ length marks → i ≤ last_place marks + (group_len marks + 1)
 
--- the groups of each run are of one size so far, at each packet and at the end
+-- up to each packet and up to the end, the frames or fields of each run are of one size
 abbrev pub EachSized : List FlowPacket → Type 0
 EachSized packets = (i : ℕ) → i ≤ length packets → IsSized i (markers packets (last_place (0 ∷ cuts packets i)) i)

@@ -1,11 +1,11 @@
--- The jobs that a command line asks for, and the limits of their quantities. Texts are bytes; units and meanings are
--- those of the fields of the jobs.
+-- The jobs that a command line requests, and the limits of their quantities. File names are lists of bytes; units and
+-- meanings are those of the fields in `src/job.rt`.
 use Rattle.std.specs.Prelude.{◌≡◌, ◌≤◌, ◌<◌, ℕ, Bool, false, List, length}
 use Rattle.timing_base.specs.declared.fail.FailProof.{FailProof}
 use Rattle.timing_base.specs.declared.job.ScanForm.{ScanForm}
 use Rattle.timing_base.specs.declared.media.Kind.{Kind}
 
--- judge the flows of captures
+-- `check`: judges the flows of captures
 pub record CheckJob : Type 0 where
   pub sdp : List ℕ
   pub captures : List (List ℕ)
@@ -19,12 +19,13 @@ pub record AreCaptures (captures : List (List ℕ)) : Type 0 where
   pub some : 1 ≤ length captures
   pub few : length captures ≤ 16
 
+-- the quantities of `check` are within their limits
 pub record IsCheckJob (job : CheckJob) : Type 0 where
   pub captures_are : AreCaptures job.captures
   pub workers_few : job.workers ≤ 16
   pub tai_most : job.tai ≤ 1000
 
--- confirm one fail from the capture alone
+-- `verify`: checks one claimed violation from the capture alone
 pub record VerifyJob : Type 0 where
   pub sdp : List ℕ
   pub media : ℕ
@@ -34,13 +35,14 @@ pub record VerifyJob : Type 0 where
   pub captures : List (List ℕ)
   pub joined : Bool
 
+-- the quantities of `verify` are within their limits; captures that aren't joined are one
 pub record IsVerifyJob (job : VerifyJob) : Type 0 where
   pub media_few : job.media < 64
   pub tai_most : job.tai ≤ 1000
   pub captures_are : AreCaptures job.captures
   pub alone : job.joined ≡ false → length job.captures ≡ 1
 
--- confirm each fail of a JSON report from the captures alone
+-- `verify-report`: checks each violation of a JSON report from the captures alone
 pub record ReportJob : Type 0 where
   pub sdp : List ℕ
   pub report : List ℕ
@@ -48,15 +50,17 @@ pub record ReportJob : Type 0 where
   pub captures : List (List ℕ)
   pub joined : Bool
 
+-- the quantities of `verify-report` are within their limits
 pub record IsReportJob (job : ReportJob) : Type 0 where
   pub tai_most : job.tai ≤ 1000
   pub captures_are : AreCaptures job.captures
 
--- run the analyser over captures that it makes itself
+-- `selftest`: runs the analyser over captures that it makes itself
 pub record SelfTestJob : Type 0 where
   pub frames : ℕ
   pub workers : ℕ
 
+-- the quantities of `selftest` are within their limits
 pub record IsSelfTestJob (job : SelfTestJob) : Type 0 where
   pub frames_some : 2 ≤ job.frames
   pub frames_few : job.frames ≤ 20000
@@ -69,44 +73,47 @@ pub record FlowJob : Type 0 where
   pub tai : ℕ
   pub capture : List ℕ
 
+-- the quantities of a flow's job are within their limits
 pub record IsFlowJob (job : FlowJob) : Type 0 where
   pub media_few : job.media < 64
   pub tai_most : job.tai ≤ 1000
 
--- delay the packets of a flow until they keep a sender type's limits
+-- `shape`: delays the packets of a flow until they keep the limits of a sender type
 pub record ShapeJob : Type 0 where
   pub flow : FlowJob
   pub kind : Kind
   pub list : Bool
 
--- compare two flows by packet number
+-- `skew`: compares two flows packet by packet, by their packet numbers
 pub record SkewJob : Type 0 where
   pub sdp : List ℕ
   pub media : ℕ
   pub pair : ℕ
   pub captures : List (List ℕ)
 
+-- the quantities of `skew` are within their limits
 pub record IsSkewJob (job : SkewJob) : Type 0 where
   pub media_few : job.media < 64
   pub pair_few : job.pair < 64
   pub some : 1 ≤ length job.captures
   pub few : length job.captures ≤ 2
 
--- every flow of one capture
+-- all flows of one capture
 pub record CaptureJob : Type 0 where
   pub sdp : List ℕ
   pub tai : ℕ
   pub capture : List ℕ
 
+-- the quantities of a capture's job are within their limits
 pub record IsCaptureJob (job : CaptureJob) : Type 0 where
   pub tai_most : job.tai ≤ 1000
 
--- list the numbers of a flow, of its frames or of its packets
+-- `series`: prints the numbers of a flow, by frame or by packet
 pub record SeriesJob : Type 0 where
   pub flow : FlowJob
   pub frames : Bool
 
--- say what a capture holds
+-- `scan`: lists the contents of a capture
 pub record ScanJob : Type 0 where
   pub capture : List ℕ
   pub form : ScanForm

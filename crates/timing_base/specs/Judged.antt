@@ -1,6 +1,7 @@
--- What is judged of a flow: the runs between its cuts, and in each the packets of whole groups.
--- In a run the packets up to and including the first marker are the head, those after the last marker the
--- tail; those between are judged. Stamps are nanoseconds; a group is a frame or a field.
+-- What is judged of a flow: its runs, and in each the packets of whole frames or fields.
+-- A run is what lies between two gaps in the packet numbers. Its packets up to and including the first marker are the
+-- head, those after the last marker the tail, and those between are judged.
+-- Times are nanoseconds; a group is a frame of a progressive video or a field of an interlaced one.
 use Rattle.std.specs.Prelude.{ℕ, ◌+◌, ◌-◌, ◌*◌, ◌^◌, ◌==◌, nat_lt, if◌then◌else◌, List, [], ◌∷◌, length, map}
 use Rattle.std.specs.Prelude.{slice_index, slice_range, Option, Some, None}
 use Rattle.timing_base.specs.declared.packet.FlowPacket.{FlowPacket}
@@ -11,28 +12,30 @@ use Rattle.timing_base.specs.Flows.{first_fault}
 
 -- the judged packets of a run
 pub record JudgedRun : Type 0 where
-  -- the packets of each group
+  -- the number of packets in each frame or field
   pub n : ℕ
+  -- the number of frames or fields
   pub groups : ℕ
-  -- the packets before and after the judged ones
+  -- the number of packets before the judged ones, and of those after them
   pub head : ℕ
   pub tail : ℕ
-  -- when each judged packet came, in nanoseconds of TAI
+  -- the capture timestamp of each judged packet, in nanoseconds of TAI
   pub stamps : List ℕ
 
--- what is judged of one run: nothing, where it has fewer than two markers; its head goes up to and including the first,
--- or is the whole run
+-- what is judged of one run. A run with fewer than two markers has only a head: the packets up to and including the
+-- first marker, or all of them
 pub data RunOutcome : Type 0 where
   no_whole_frame : (head : ℕ) → RunOutcome
   whole_frames : JudgedRun → RunOutcome
 
--- a run between two cuts
+-- a run: the packets between two gaps
 pub record FlowRun : Type 0 where
-  -- the record and the number of its first packet
+  -- the packet record and the packet number of its first packet
   pub rec : ℕ
   pub number : ℕ
-  -- the number that would have gone on from the run before; none for the first run
+  -- the packet number that would have continued the run before; none for the first run
   pub expected : Option ℕ
+  -- what is judged of it
   pub outcome : RunOutcome
 
 -- what is judged of a flow
@@ -43,15 +46,16 @@ pub data FlowVerdict : Type 0 where
   in_one_run : RunOutcome → FlowVerdict
   in_runs : List FlowRun → FlowVerdict
 
--- when a packet came, with so many seconds added
+-- the capture timestamp of a packet, in nanoseconds, with this many seconds added
 abbrev pub stamp_of : ℕ → FlowPacket → ℕ
 stamp_of tai packet = packet.at + tai * 10 ^ 9
 
--- the packets from a place on, up to and including the first of these markers, or all before the end
+-- the number of packets from a place up to and including the first of these markers, or up to the end if there is
+-- none
 abbrev pub head_len : List ℕ → ℕ → ℕ → ℕ
 head_len marks from to = if length marks == 0 then to - from else slice_index marks 0 + 1 - from
 
--- a run of two markers and more: its packets after the first marker and up to the last are judged
+-- a run of two or more markers: the packets after the first marker and up to the last one are judged
 abbrev pub judged_run : List FlowPacket → ℕ → ℕ → ℕ → JudgedRun
 judged_run packets tai from to = let marks = markers packets from to in record {
   n = group_len marks;
@@ -61,17 +65,17 @@ judged_run packets tai from to = let marks = markers packets from to in record {
   stamps = map (stamp_of tai) (slice_range packets (slice_index marks 0 + 1) (last_place marks + 1));
 }
 
--- the packets from one place on and below another, as a run
+-- the run from the first place to before the second
 abbrev pub run_outcome : List FlowPacket → ℕ → ℕ → ℕ → RunOutcome
 run_outcome packets tai from to =
     if nat_lt (length (markers packets from to)) 2 then no_whole_frame (head_len (markers packets from to) from to)
     else whole_frames (judged_run packets tai from to)
 
--- the number that the run has to start with, where it is not the first
+-- the packet number that would have continued the run before, if this isn't the first run
 abbrev pub expected_at : List FlowPacket → ℕ → Option ℕ
 expected_at packets from = if from == 0 then None else Some (expected_number packets from)
 
--- a run with its first record and its first packet's number
+-- a run, with the packet record and the packet number of its first packet
 abbrev pub run_at : List FlowPacket → ℕ → ℕ → ℕ → FlowRun
 run_at packets tai from to = record {
   rec = (packet packets from).rec;
@@ -80,7 +84,7 @@ run_at packets tai from to = record {
   outcome = run_outcome packets tai from to;
 }
 
--- the runs from a place on and below another, with cuts at these places between
+-- the runs from a place up to the end, with gaps at these places between
 abbrev pub runs_between : List FlowPacket → ℕ → ℕ → ℕ → List ℕ → List FlowRun
 runs_between packets tai to from [] = run_at packets tai from to ∷ []
 runs_between packets tai to from (cut ∷ rest) = run_at packets tai from cut ∷ runs_between packets tai to cut rest
@@ -89,23 +93,24 @@ runs_between packets tai to from (cut ∷ rest) = run_at packets tai from cut �
 abbrev pub runs : List FlowPacket → ℕ → List FlowRun
 runs packets tai = runs_between packets tai (length packets) 0 (cuts packets (length packets))
 
--- one gap too many is told as a gap, each other fault as itself
+-- one gap too many is reported as a gap, each other fault as itself
 abbrev pub refusal : ℕ → PacketFault → FlowVerdict
 refusal rec (Number expected got) = gap rec expected got
 refusal rec fault = refused rec fault
 
--- a flow with a fault is not judged
+-- a flow with a fault isn't judged
 abbrev pub refused_or : List FlowPacket → Option FirstFault → FlowVerdict → FlowVerdict
 refused_or packets (Some first) verdict = refusal (packet packets first.index).rec first.fault
 refused_or packets None verdict = verdict
 
--- a flow with no fault: one run, or the runs between its cuts
+-- what is judged of a flow without a fault: one run, or the runs between its gaps
 abbrev pub judged_runs : List FlowPacket → ℕ → FlowVerdict
 judged_runs packets tai =
     if length (cuts packets (length packets)) == 0 then in_one_run (run_outcome packets tai 0 (length packets))
     else in_runs (runs packets tai)
 
--- what is judged of the packets of one media with this payload type, with so many seconds added to the stamps
+-- what is judged of the packets of one media with this payload type, with this many seconds added to each capture
+-- timestamp
 abbrev pub judged : List FlowPacket → ℕ → ℕ → FlowVerdict
 judged packets pt tai =
     if length packets == 0 then absent else refused_or packets (first_fault packets pt) (judged_runs packets tai)

@@ -1,4 +1,4 @@
--- what is promised
+-- definitions that the crate's clauses cite
 pub mod Captures
 pub mod Flows
 pub mod Jobs
@@ -10,7 +10,7 @@ pub mod Routes
 pub mod Rows
 pub mod Targets
 pub mod Verdicts
--- flows that are worked by hand
+-- flows for examples worked by hand
 pub mod Examples
--- these only serve proofs
+-- used in proofs only
 pub mod Grouped

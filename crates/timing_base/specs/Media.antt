@@ -1,4 +1,4 @@
--- The video streams of a session description, as far as their timing and their addresses go, and the limits of their
+-- The video streams of a session description: their addresses, what their timing depends on, and the limits of these
 -- quantities. Units and meanings are those of the fields of `Media`.
 use Rattle.std.specs.Prelude.{◌≤◌, ◌*◌, ℕ, Bool, List, length, Option}
 use Rattle.std.specs.Option.{ForSome}
@@ -19,7 +19,7 @@ pub record Media : Type 0 where
   pub troff : Option ℕ
   pub cmax : Option ℕ
 
--- its quantities are within their limits
+-- the quantities of a video stream are within their limits
 pub record IsMedia (m : Media) : Type 0 where
   pub port_some : 1 ≤ m.port
   pub pt_most : m.pt ≤ 127
@@ -35,7 +35,7 @@ pub record IsMedia (m : Media) : Type 0 where
   pub cmax_some : ForSome m.cmax (λ x. 1 ≤ x)
   pub cmax_most : ForSome m.cmax (λ x. x ≤ 65535)
 
--- the streams of a session are 1 to 64
+-- a session has 1 to 64 video streams
 pub record IsSession (media : List Media) : Type 0 where
   pub some : 1 ≤ length media
   pub few : length media ≤ 64

@@ -1,4 +1,4 @@
--- The names of files that a command line may give. This project's profile.
+-- The file names that a command line may have, as bytes. This project's profile.
 use Rattle.std.specs.Prelude.{ℕ, ◌==◌, ◌&&◌, nat_le, Bool, not, List, length}
 use Rattle.std.specs.List.{list_all}
 
@@ -6,6 +6,6 @@ use Rattle.std.specs.List.{list_all}
 abbrev pub is_name_byte : ℕ → Bool
 is_name_byte b = nat_le 32 b && not (b == 127)
 
--- 1 to 4,096 such bytes
+-- a file name: 1 to 4,096 such bytes
 abbrev pub is_file_name : List ℕ → Bool
 is_file_name name = nat_le 1 (length name) && (nat_le (length name) 4096 && list_all is_name_byte name)

@@ -1,4 +1,4 @@
--- The verdict on a judged run, as the report has it. Units and meanings are those of the fields of `Judged`.
+-- The verdict on a judged run, as in the report. Units and meanings are those of the fields of `Judged`.
 use Rattle.std.specs.Prelude.{◌≡◌, ◌≤◌, ℕ, List, length}
 use Rattle.timing_base.specs.declared.row.KindVerdict.{KindVerdict}
 
@@ -12,10 +12,10 @@ pub record Judged : Type 0 where
   pub bucket_peak : ℕ
   pub gapped_peak : ℕ
   pub linear_peak : ℕ
-  -- of the types N, NL and W
+  -- the verdicts on the types N, NL and W
   pub kinds : List KindVerdict
 
--- a group has 1 to 262,144 packets, and each of the three types has a verdict
+-- a frame or field has 1 to 262,144 packets, and each of the three types has a verdict
 pub record IsJudged (judged : Judged) : Type 0 where
   pub n_some : 1 ≤ judged.n
   pub n_most : judged.n ≤ 262144

@@ -1,4 +1,4 @@
-//! The jobs that a command line asks for.
+//! The jobs that a command line requests.
 
 use crate::fail::FailProof;
 use crate::list::Items;
@@ -6,20 +6,20 @@ use crate::media::Kind;
 use crate::name::FileName;
 use std::marker::Model;
 
-/// Judge the flows of captures.
+/// The command `check`: judges the flows of captures.
 #[derive(Debug, Drop)]
 pub struct CheckJob {
-    /// The session description's file.
+    /// The file name of the session description.
     pub sdp: FileName,
     /// The capture files, 1 to 16.
     pub captures: Items<FileName>,
     /// The number of workers, 0 to 16; 0 is one thread for all.
     pub workers: u32,
-    /// Seconds that are added to the stamps of the captures, 0 to 1,000.
+    /// The seconds that are added to each capture timestamp, 0 to 1,000.
     pub tai: u64,
-    /// Whether the report is JSON.
+    /// Whether the report is printed as JSON.
     pub json: bool,
-    /// Whether the captures are one capture, in their order.
+    /// Whether the captures are taken as one, in the order of the arguments.
     pub joined: bool,
 }
 
@@ -33,18 +33,22 @@ impl Model for CheckJob {
     ghost invariant = { λ job. IsCheckJob (view job) };
 }
 
-/// Confirm one fail from the capture alone.
+/// The command `verify`: checks one claimed violation from the capture alone.
 #[derive(Debug, Drop)]
 pub struct VerifyJob {
+    /// The file name of the session description.
     pub sdp: FileName,
     /// The media, counted from 0, at most 63.
     pub media: u32,
+    /// The sender type with the broken limit.
     pub kind: Kind,
+    /// The claimed violation.
     pub proof: FailProof,
-    /// Seconds that are added to the stamps of the captures, 0 to 1,000.
+    /// The seconds that are added to each capture timestamp, 0 to 1,000.
     pub tai: u64,
-    /// The capture files: one, or 1 to 16 that are joined.
+    /// The capture files: exactly one, or 1 to 16 if they are joined.
     pub captures: Items<FileName>,
+    /// Whether the captures are taken as one, in the order of the arguments.
     pub joined: bool,
 }
 
@@ -66,15 +70,18 @@ impl Model for VerifyJob {
     ghost invariant = { λ job. IsVerifyJob (view job) };
 }
 
-/// Confirm each fail of a JSON report from the captures alone.
+/// The command `verify-report`: checks each violation of a JSON report from the captures alone.
 #[derive(Debug, Drop)]
 pub struct ReportJob {
+    /// The file name of the session description.
     pub sdp: FileName,
+    /// The file name of the JSON report.
     pub report: FileName,
-    /// Seconds that are added to the stamps of the captures, 0 to 1,000.
+    /// The seconds that are added to each capture timestamp, 0 to 1,000.
     pub tai: u64,
     /// The capture files, 1 to 16.
     pub captures: Items<FileName>,
+    /// Whether the captures are taken as one, in the order of the arguments.
     pub joined: bool,
 }
 
@@ -88,10 +95,10 @@ impl Model for ReportJob {
     ghost invariant = { λ job. IsReportJob (view job) };
 }
 
-/// Run the analyser over captures that it makes itself.
+/// The command `selftest`: runs the analyser over captures that it makes itself.
 #[derive(Clone, Copy, Debug, PartialEq, Eq)]
 pub struct SelfTestJob {
-    /// Frames of each capture, 2 to 20,000.
+    /// The number of frames in each capture, 2 to 20,000.
     pub frames: u32,
     /// The number of workers, 0 to 16; 0 is one thread for all.
     pub workers: u32,
@@ -112,11 +119,13 @@ impl Model for SelfTestJob {
 /// One flow of one capture.
 #[derive(Debug, Drop)]
 pub struct FlowJob {
+    /// The file name of the session description.
     pub sdp: FileName,
     /// The media, counted from 0, at most 63.
     pub media: u32,
-    /// Seconds that are added to the stamps of the capture, 0 to 1,000.
+    /// The seconds that are added to each capture timestamp, 0 to 1,000.
     pub tai: u64,
+    /// The capture file.
     pub capture: FileName,
 }
 
@@ -130,12 +139,14 @@ impl Model for FlowJob {
     ghost invariant = { λ job. IsFlowJob (view job) };
 }
 
-/// Delay the packets of a flow until they keep a sender type's limits.
+/// The command `shape`: delays the packets of a flow until they keep the limits of a sender type.
 #[derive(Debug, Drop)]
 pub struct ShapeJob {
+    /// The flow.
     pub flow: FlowJob,
+    /// The sender type with the limits to be kept.
     pub kind: Kind,
-    /// Whether the delays are listed, in place of the shaped capture.
+    /// Whether the delays are printed as a list instead of the delayed capture.
     pub list: bool,
 }
 
@@ -147,15 +158,16 @@ impl Model for ShapeJob {
     ghost view = { λ job. record { flow = job.flow; kind = job.kind; list = job.list } };
 }
 
-/// Compare two flows by packet number.
+/// The command `skew`: compares two flows packet by packet, by their packet numbers.
 #[derive(Debug, Drop)]
 pub struct SkewJob {
+    /// The file name of the session description.
     pub sdp: FileName,
     /// The media of the first flow, counted from 0, at most 63.
     pub media: u32,
     /// The media of the second flow, counted from 0, at most 63.
     pub pair: u32,
-    /// The capture of the first flow and that of the second, or one with both.
+    /// The capture of the first flow and that of the second, or one capture with both.
     pub captures: Items<FileName>,
 }
 
@@ -169,12 +181,14 @@ impl Model for SkewJob {
     ghost invariant = { λ job. IsSkewJob (view job) };
 }
 
-/// Every flow of one capture.
+/// All flows of one capture.
 #[derive(Debug, Drop)]
 pub struct CaptureJob {
+    /// The file name of the session description.
     pub sdp: FileName,
-    /// Seconds that are added to the stamps of the capture, 0 to 1,000.
+    /// The seconds that are added to each capture timestamp, 0 to 1,000.
     pub tai: u64,
+    /// The capture file.
     pub capture: FileName,
 }
 
@@ -188,11 +202,13 @@ impl Model for CaptureJob {
     ghost invariant = { λ job. IsCaptureJob (view job) };
 }
 
-/// List the numbers of a flow.
+/// The command `series`: prints the numbers of a flow as CSV.
 #[derive(Debug, Drop)]
 pub struct SeriesJob {
+    /// The flow.
     pub flow: FlowJob,
-    /// Whether frames (fields of an interlaced video) are listed, in place of packets.
+    /// Whether there is a line for each frame (field of an interlaced video) instead of each
+    /// packet.
     pub frames: bool,
 }
 
@@ -204,10 +220,10 @@ impl Model for SeriesJob {
     ghost view = { λ job. record { flow = job.flow; frames = job.frames } };
 }
 
-/// How it is printed what a capture holds.
+/// The form in which the contents of a capture are printed.
 #[derive(Clone, Copy, Debug, PartialEq, Eq)]
 pub enum ScanForm {
-    /// Lines for eyes.
+    /// Lines of text.
     Lines,
     /// One JSON value.
     Json,
@@ -215,10 +231,12 @@ pub enum ScanForm {
     Draft,
 }
 
-/// Say what a capture holds.
+/// The command `scan`: lists the contents of a capture.
 #[derive(Debug, Drop)]
 pub struct ScanJob {
+    /// The capture file.
     pub capture: FileName,
+    /// The form of the output.
     pub form: ScanForm,
 }
 

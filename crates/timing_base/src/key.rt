@@ -1,8 +1,8 @@
-//! Which flow of which capture.
+//! Keys of flows.
 
 ghost use Rattle.std.specs.Prelude.{◌≡◌, ◌≤◌, ◌<◌};
 
-/// The flow of one media in one capture. Of joined captures the file is 0.
+/// The key of the flow of one media in one capture. Joined captures are file 0.
 #[derive(Clone, Copy, Debug, PartialEq, Eq)]
 pub struct FlowKey {
     /// The capture, counted from 0.
@@ -13,8 +13,8 @@ pub struct FlowKey {
 
 ghost use Rattle.timing_base.specs.Routes.{route};
 
-/// The worker that judges a flow, counted from 0: flows are dealt out one by one, by rising file and
-/// then media.
+/// Returns the worker that judges a flow, counted from 0. Flows are assigned to the workers in
+/// turn, ordered by file and then by media.
 pub fn route(key: FlowKey, media_count: u32, workers: u32) -> u32
     requires file { key.file < 16 }
     requires media { key.media < media_count }

@@ -1,5 +1,5 @@
-//! What holds of the definitions themselves, and the definitions on flows worked by hand. Each
-//! function is a theorem: it does nothing, and its clauses are proved.
+//! Theorems about the definitions, and examples of them worked by hand. Each function does nothing;
+//! its clauses are what is proved.
 
 ghost use Rattle.std.specs.Prelude.{◌≡◌, ◌<◌, ◌≤◌, ◌*◌, ◌+◌, ◌^◌, ◌++◌, ◌∷◌, [], ℕ, List, Some, None, true, false, length, codes, replicate};
 ghost use Rattle.timing_base.specs.declared.packet.FlowPacket.{FlowPacket};
@@ -14,7 +14,7 @@ ghost use Rattle.timing_base.specs.Examples.{captured, judged_twos, sent, sent_b
 
 use crate::packet::PacketFault;
 
-/// The first fault of a flow is that of its least faulty packet, and a flow has none exactly where
+/// The first fault of a flow is that of the first packet that has a fault. There is none exactly if
 /// no packet has one.
 pub fn first_fault_is_least()
     ensures least { (packets : List FlowPacket) (pt : ℕ) (first : FirstFault)
@@ -23,15 +23,15 @@ pub fn first_fault_is_least()
         → first_fault packets pt ≡ None → k < length packets → fault packets pt k ≡ None }
 {}
 
-/// What is judged of a flow is whole groups of one size, at most 262,144 packets each, and stamps
-/// that never fall and are below 2^62. A flow with gaps has 2 to 1,025 runs, and the first of them
-/// alone has no expected number.
+/// What is judged of a flow is whole frames or fields of one size, at most 262,144 packets each,
+/// with capture timestamps that never decrease and are below 2^62. A flow with gaps has 2 to 1,025
+/// runs, of which only the first has no expected packet number.
 pub fn judged_is_grouped()
     ensures { (packets : List FlowPacket) (pt tai : ℕ) → length packets < 2 ^ 41 → tai ≤ 1000
         → AreStamped packets → IsGroupedVerdict (judged packets pt tai) }
 {}
 
-/// Worked by hand: the places of cuts and markers, and of the start of a run.
+/// Worked by hand: the places of gaps and markers, and the start of a run.
 pub fn places_by_hand()
     ensures no_cut { cuts two_groups 6 ≡ [] }
     ensures one_cut { cuts equal_low_halves 3 ≡ 2 ∷ [] }
@@ -45,7 +45,7 @@ pub fn places_by_hand()
     ensures start_before { run_start equal_low_halves 1 ≡ 0 }
 {}
 
-/// Worked by hand: the faults of a packet by itself, and by the first packet.
+/// Worked by hand: faults that a packet has by itself or compared with the first packet.
 pub fn sender_faults_by_hand()
     ensures short { judged (unread 9 0 PacketFault.Short ∷ []) 96 0
         ≡ refused 9 PacketFault.Short }
@@ -59,12 +59,13 @@ pub fn sender_faults_by_hand()
     ensures smaller_source { judged (sent 1 0 6 0 true ∷ sent_by 6 2 0 7 1 true ∷ []) 96 0
         ≡ refused 2 PacketFault.SecondSource }
 
-    // The third packet has the source of the second, and not of the first.
+    // The third packet has the source of the second packet and not that of the first.
     ensures source_of_first { fault (sent 1 0 6 0 true ∷ sent_by 8 2 0 7 1 true
         ∷ sent_by 8 3 0 8 2 true ∷ []) 96 2 ≡ Some PacketFault.SecondSource }
 {}
 
-/// Worked by hand: the faults by the packet before, for flows with at most one cut.
+/// Worked by hand: faults that a packet has compared with the packet before. `fault_within 1`
+/// allows one gap in a flow.
 pub fn order_faults_by_hand()
     ensures number { fault_within 1 9 (sent 1 0 0 0 true ∷ sent 2 0 2 1 true
         ∷ sent 3 0 4 2 true ∷ []) 96 2 ≡ Some (PacketFault.Number 3 4) }
@@ -87,7 +88,8 @@ pub fn order_faults_by_hand()
     ensures same_stamp_at_cut { fault (sent 1 0 6 0 true ∷ sent 2 0 8 0 false ∷ []) 96 1 ≡ None }
 {}
 
-/// Worked by hand: the faults by the group, for groups of at most three packets where it says so.
+/// Worked by hand: faults of the size of a frame or field. `fault_within 9 3` allows three packets
+/// in each.
 pub fn size_faults_by_hand()
     ensures short { judged (sent 1 0 6 0 true ∷ sent 2 0 7 1 false ∷ sent 3 0 8 1 true
         ∷ sent 4 0 9 2 true ∷ []) 96 0 ≡ refused 4 (PacketFault.FrameSize 2 1) }
@@ -95,14 +97,14 @@ pub fn size_faults_by_hand()
         ∷ sent 4 0 9 2 false ∷ sent 5 0 10 2 false ∷ sent 6 0 11 2 true ∷ []) 96 0
         ≡ refused 6 (PacketFault.FrameSize 2 3) }
 
-    // A tail can't be longer than a group, though no marker has come.
+    // A tail is never longer than a whole frame or field, although it ends without a marker.
     ensures long_tail { judged (sent 1 0 6 0 true ∷ sent 2 0 7 1 false ∷ sent 3 0 8 1 true
         ∷ sent 4 0 9 2 false ∷ sent 5 0 10 2 false ∷ sent 6 0 11 2 false ∷ []) 96 0
         ≡ refused 6 (PacketFault.FrameSize 2 3) }
     ensures full_tail { first_fault (sent 1 0 6 0 true ∷ sent 2 0 7 1 false ∷ sent 3 0 8 1 true
         ∷ sent 4 0 9 2 false ∷ sent 5 0 10 2 false ∷ []) 96 ≡ None }
 
-    // The first judged group has no size to keep, only a limit.
+    // The first judged frame or field may have any size up to the limit.
     ensures too_large { fault_within 9 3 (sent 1 0 6 0 true ∷ sent 2 0 7 1 false
         ∷ sent 3 0 8 1 false ∷ sent 4 0 9 1 false ∷ sent 5 0 10 1 false ∷ []) 96 4
         ≡ Some PacketFault.FrameTooLarge }
@@ -111,12 +113,13 @@ pub fn size_faults_by_hand()
     ensures long_head { fault_within 9 3 (sent 1 0 6 0 false ∷ sent 2 0 7 0 false
         ∷ sent 3 0 8 0 false ∷ sent 4 0 9 0 false ∷ sent 5 0 10 0 false ∷ []) 96 4 ≡ None }
 
-    // Sizes count anew after a cut.
+    // After a gap, the first judged frame or field sets the size anew.
     ensures after_cut { first_fault (sent 1 0 6 0 true ∷ sent 2 0 7 1 false ∷ sent 3 0 8 1 true
         ∷ sent 4 0 90 2 true ∷ sent 5 0 91 3 true ∷ sent 6 0 92 4 true ∷ []) 96 ≡ None }
 {}
 
-/// Worked by hand: of two faults at one packet the first in the order of [`PacketFault`] is told.
+/// Worked by hand: if a packet has two faults, the first in the order of [`PacketFault`] is
+/// reported.
 pub fn first_of_two_by_hand()
     ensures payload { judged (sent_by 8 1 0 6 0 true ∷ sent_as 97 2 0 7 1 true ∷ []) 96 0
         ≡ refused 2 PacketFault.PayloadType }
@@ -133,7 +136,7 @@ pub fn first_of_two_by_hand()
         ∷ sent 4 0 9 1 true ∷ []) 96 0 ≡ refused 4 PacketFault.SameStamp }
 {}
 
-/// Worked by hand: flows of one run, with head and tail, and with no whole group.
+/// Worked by hand: flows of one run, with head and tail, and without a whole frame or field.
 pub fn runs_by_hand()
     ensures absent { judged [] 96 0 ≡ absent }
     ensures one_run { judged two_groups 96 1 ≡ in_one_run
@@ -170,8 +173,8 @@ pub fn cut_flows_by_hand()
         ∷ []) }
 {}
 
-/// Worked by hand: a flow of three runs, of which the second alone has a whole group. The number of the
-/// third falls.
+/// Worked by hand: a flow of three runs, of which only the second has a whole frame or field. The
+/// packet number of the third run is lower than those before.
 pub fn three_runs_by_hand()
     ensures { judged (sent 1 10 6 100 true ∷ sent 2 20 9 101 true ∷ sent 3 30 10 102 true
         ∷ sent 4 40 2 103 false ∷ []) 96 0
@@ -186,8 +189,8 @@ pub fn three_runs_by_hand()
         ∷ []) }
 {}
 
-/// Worked by hand: the second run is judged too, with its own head and tail, and a second is added
-/// to its stamps as to those of the first.
+/// Worked by hand: the second run is judged too and has its own head and tail. The added second
+/// applies to its capture timestamps as to those of the first run.
 pub fn second_run_by_hand()
     ensures { judged (two_groups ++ sent 7 70 20 104 true ∷ sent 8 80 21 105 false
         ∷ sent 9 90 22 105 true ∷ sent 10 100 23 106 false ∷ []) 96 1
@@ -206,7 +209,8 @@ pub fn second_run_by_hand()
         ∷ []) }
 {}
 
-/// Worked by hand: three captures with two records, none and one are one capture with three records.
+/// Worked by hand: three captures, with two packet records, none and one, are joined to one with
+/// three.
 pub fn joined_by_hand()
     ensures three { joined ((captured 1 10 ∷ captured 2 20 ∷ []) ∷ [] ∷ (captured 1 5 ∷ []) ∷ [])
         ≡ captured 1 10 ∷ captured 2 20 ∷ captured 3 5 ∷ [] }
@@ -214,14 +218,14 @@ pub fn joined_by_hand()
     ensures none { joined [] ≡ [] }
 {}
 
-/// Worked by hand: media 1 of capture 2, of three media in each capture, is flow 7.
+/// Worked by hand: with three media in each capture, media 1 of capture 2 is flow 7.
 pub fn routes_by_hand()
     ensures four { route (record { file = 2; media = 1 }) 3 4 ≡ 3 }
     ensures seven { route (record { file = 2; media = 1 }) 3 7 ≡ 0 }
     ensures one { route (record { file = 2; media = 1 }) 3 1 ≡ 0 }
 {}
 
-/// Worked by hand: the first octet of an address is its highest.
+/// Worked by hand: the first octet of an address is its most significant one.
 #[tactic(auto, using(crate::proofs::Numerals::written_out))]
 pub fn targets_by_hand()
     ensures text { address_text 4009754625 50000 ≡ codes "239.0.0.1:50000" }
@@ -230,7 +234,7 @@ pub fn targets_by_hand()
     ensures greatest { address_text 4294967295 65535 ≡ codes "255.255.255.255:65535" }
 {}
 
-/// Worked by hand: a name has no control character, and 1 byte at least.
+/// Worked by hand: a file name has at least 1 byte and no control character.
 pub fn names_by_hand()
     ensures empty { is_file_name [] ≡ false }
     ensures space { is_file_name (32 ∷ []) ≡ true }

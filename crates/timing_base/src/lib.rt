@@ -1,13 +1,13 @@
-//! The words that the analyser's crates share: media and sessions, records of captures, packets and
-//! their faults, what is judged of a flow, rows of the report, and the jobs that a command line asks
-//! for. Here stand the definitions of a flow's faults, cuts and judged packets; the crates that find
-//! them stand above.
+//! The types that the analyser's crates share: media and sessions, packet records of captures,
+//! packets and their faults, what is judged of a flow, its result in the report, and the jobs that
+//! a command line requests. The crate also defines the faults, gaps and judged packets of a flow;
+//! the crates above compute them.
 //!
-//! Media, sessions, jobs, file names, judged runs and runs between gaps keep the limits of their
-//! quantities in their types; the other types hold any values.
+//! The types of media, sessions, jobs, file names, judged runs and lists of runs guarantee the
+//! limits of their quantities. All other types hold any values.
 //!
-//! Files, media, frames and judged packets count from 0 here, and files, media and runs from 1 in
-//! printed text; the records of a capture count from 1 everywhere.
+//! Files, media, frames and judged packets count from 0 here. In printed text files, media and runs
+//! count from 1. The packet records of a capture count from 1 everywhere.
 #![tactic(auto)]
 
 mod capture;

@@ -4,8 +4,8 @@ ghost use Rattle.std.specs.Prelude.{◌≡◌, List, length};
 
 use std::marker::Model;
 
-/// A list of values, made from a `Vec` and given back without memory. Contracts see the values in
-/// order, and nothing of where they lie.
+/// A list of values, made from a `Vec` without another allocation. Contracts see the values in
+/// order.
 #[derive(Debug, Drop)]
 pub struct Items<T> {
     values: Vec<T>,
@@ -18,21 +18,21 @@ impl<T> Model for Items<T> {
 }
 
 impl<T> Items<T> {
-    /// The values, in order.
+    /// Returns the values as a slice, in order.
     pub fn as_slice(&self) -> &[T]
         ensures { result.now ≡ self.now }
     {
         self.values.as_slice()
     }
 
-    /// How many values there are.
+    /// Returns the number of values.
     pub fn len(&self) -> usize
         ensures { result ≡ length self.now }
     {
         self.values.len()
     }
 
-    /// The values of a `Vec`, in order.
+    /// Makes a list of the values of a `Vec`, in the same order.
     pub fn from_vec(values: Vec<T>) -> Items<T>
         ensures { result ≡ values.items }
     {

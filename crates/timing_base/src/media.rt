@@ -17,32 +17,34 @@ pub enum Kind {
     W,
 }
 
-/// One video stream of a session description, as far as its timing and its address go.
+/// One video stream of a session description: its addresses and what its timing depends on.
 #[derive(Clone, Copy, Debug, PartialEq, Eq)]
 pub struct Media {
-    /// The line of the description on which the media part begins, counted from 1.
+    /// The line of the session description on which the media section begins, counted from 1.
     pub line: u32,
-    /// The IPv4 address of the packets, its first octet highest.
+    /// The destination IPv4 address, the first octet in the most significant byte.
     pub address: u32,
-    /// The UDP port of the packets.
+    /// The destination UDP port, at least 1.
     pub port: u16,
-    /// The RTP payload type.
+    /// The RTP payload type, at most 127.
     pub pt: u8,
-    /// In pixels.
+    /// The width of the picture in pixels, 1 to 32,767.
     pub width: u32,
-    /// In lines of a whole picture.
+    /// The height of the whole picture in lines, 1 to 32,767.
     pub height: u32,
-    /// Whether a picture comes as two fields.
+    /// Whether a picture is sent as two fields.
     pub interlaced: bool,
-    /// The exact frame rate is `p / q` frames per second.
+    /// The numerator of the frame rate: `p / q` frames per second, exactly, and at most 240.
     pub p: u32,
-    /// The denominator of the frame rate.
+    /// The denominator of the frame rate, 1 to 1,001.
     pub q: u32,
-    /// The sender type that the description declares (TP).
+    /// The sender type that the session description declares (`TP`).
     pub declared: Option<Kind>,
-    /// The offset of the first read that the description gives (TROFF), in microseconds.
+    /// The offset of the first read that the session description gives (`TROFF`), in microseconds,
+    /// at most 1,000,000.
     pub troff: Option<u32>,
-    /// The bucket's limit that the description gives for the declared type (CMAX), in packets.
+    /// The limit of the bucket that the session description gives for the declared type (`CMAX`),
+    /// in packets, 1 to 65,535.
     pub cmax: Option<u32>,
 }
 
@@ -87,7 +89,7 @@ impl Model for Media {
 impl Media {
     ghost use Rattle.timing_base.specs.Targets.{target_of};
 
-    /// Where the packets go.
+    /// Returns the address and port that the packets are sent to.
     pub fn target(&self) -> Target
         ensures { result ≡ target_of self.now }
     {
@@ -98,7 +100,7 @@ impl Media {
     }
 }
 
-/// The video streams of a session description, in its order: 1 to 64. Contracts see their list.
+/// The 1 to 64 video streams of a session description, in its order. Contracts see their list.
 #[derive(Debug, Drop)]
 pub struct Session {
     /// The media, counted from 0.

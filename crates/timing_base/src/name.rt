@@ -4,8 +4,8 @@ ghost use Rattle.std.specs.Prelude.{◌≡◌, string_bytes, true};
 
 use std::marker::Model;
 
-/// The name of a file in the words: 1 to 4,096 bytes, none below 32 and none 127. Contracts see its
-/// bytes.
+/// A file name of the command line: 1 to 4,096 bytes without control characters (below 32, or 127).
+/// Contracts see its bytes.
 #[derive(Debug, Drop)]
 pub struct FileName {
     text: String,
@@ -25,7 +25,7 @@ impl Model for FileName {
 impl FileName {
     ghost use Rattle.timing_base.specs.Name.{is_file_name};
 
-    /// The name with this text.
+    /// Makes a file name of this text.
     pub fn from_text(text: String) -> FileName
         requires { is_file_name (string_bytes text) ≡ true }
         ensures { result ≡ string_bytes text }
@@ -33,7 +33,7 @@ impl FileName {
         FileName { text }
     }
 
-    /// The text of the name.
+    /// Returns the text of the name.
     pub fn as_str(&self) -> &str
         ensures text { result.now ≡ self.now }
         ensures within { is_file_name self.now ≡ true }

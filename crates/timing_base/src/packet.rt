@@ -1,55 +1,59 @@
 //! The packets of a flow, and their faults.
 
-/// What the analyser reads of one RTP packet of video (RFC 3550, section 5.1; RFC 4175, section
-/// 4.2).
+/// The fields that the analyser reads of one RTP packet of video (RFC 3550, section 5.1; RFC 4175,
+/// section 4.2).
 #[derive(Clone, Copy, Debug, PartialEq, Eq)]
 pub struct Rtp {
-    /// The packet number: the extended sequence number is its high half, the RTP sequence number
-    /// its low half.
+    /// The packet number: the extended sequence number times 65,536, plus the RTP sequence number.
     pub number: u32,
     /// The RTP timestamp, in ticks of 90 kHz.
     pub timestamp: u32,
     /// Whether this is the last packet of its frame or field.
     pub marker: bool,
-    /// The payload type; a packet has 7 bits for it.
+    /// The payload type, 7 bits of a packet.
     pub pt: u8,
-    /// The synchronisation source.
+    /// The synchronization source.
     pub ssrc: u32,
 }
 
-/// Why the packets of a flow are not judged.
+/// The reason why the packets of a flow aren't judged. If a packet has several faults, the first in
+/// this order counts.
 #[derive(Clone, Copy, Debug, PartialEq, Eq)]
 pub enum PacketFault {
     /// The payload ends before the extended sequence number does.
     Short,
     /// The RTP version is not 2.
     Version,
-    /// The payload type is not the media's.
+    /// The payload type isn't that of the media.
     PayloadType,
-    /// The synchronisation source is not that of the flow's first packet.
+    /// The synchronization source isn't that of the flow's first packet.
     SecondSource,
-    /// One more gap in the packet numbers than a flow may have.
+    /// The flow has one gap in its packet numbers more than is allowed. `expected` is the number
+    /// after that of the packet before.
     Number { expected: u32, got: u32 },
-    /// The capture's stamps go back; both in nanoseconds, as the file has them.
+    /// The capture timestamp is below that of the packet before. Both are nanoseconds, as in the
+    /// file.
     StampBack { before: u64, got: u64 },
-    /// A new RTP timestamp after a packet without the marker.
+    /// The RTP timestamp is new, and the packet before had no marker.
     NoMarker,
-    /// The same RTP timestamp after the marker.
+    /// The RTP timestamp is that of the packet before, which had the marker.
     SameStamp,
-    /// A frame or field has another number of packets than the first judged one.
+    /// A frame or field has another number of packets than the first judged one. `want` is the size
+    /// of the first one, `got` the packets of this one up to here.
     FrameSize { want: u32, got: u32 },
     /// The first judged frame or field has more than 262,144 packets.
     FrameTooLarge,
 }
 
-/// A packet of one flow: the packets of one media of one capture, in the order of the records.
+/// A packet of a flow. A flow consists of the packets of one media in one capture, in the order of
+/// their packet records.
 #[derive(Clone, Copy, Debug, PartialEq, Eq)]
 pub struct FlowPacket {
-    /// The number of its record, counted from 1.
+    /// The number of its packet record, counted from 1.
     pub rec: u64,
-    /// The stamp of its record, in nanoseconds, as the capture has it.
+    /// Its capture timestamp, in nanoseconds, as in the capture.
     pub at: u64,
-    /// What was read of it, or why it could not be read: `Short` or `Version`. The other faults are
-    /// those of a packet's place in its flow.
+    /// The fields that were read, or why they couldn't be read: `Short` or `Version`. The other
+    /// faults depend on the media and on the packets before.
     pub rtp: Result<Rtp, PacketFault>,
 }

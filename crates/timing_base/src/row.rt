@@ -1,4 +1,4 @@
-//! What is judged of a flow, as the report has it.
+//! The results of flows, as in the report.
 
 ghost use Rattle.std.specs.Prelude.{◌≡◌, IfOk};
 
@@ -12,31 +12,33 @@ use std::marker::Model;
 /// The verdict on one sender type.
 #[derive(Clone, Copy, Debug, PartialEq, Eq)]
 pub enum KindVerdict {
-    /// The judged packets keep the limits of the type.
+    /// The judged packets keep all limits of the type.
     Pass,
-    /// They don't: the interval that breaks a limit first.
+    /// The judged packets break a limit of the type; this is the first violation.
     Fail(FailProof),
 }
 
-/// The verdict on a judged run: the packets after its first marker and up to its last, in whole
-/// groups of one size. A group is a frame of a progressive picture and a field of an interlaced one.
+/// The verdict on a judged run: the packets after its first marker and up to its last one, which
+/// are whole frames (fields of an interlaced video) of one size.
 #[derive(Clone, Copy, Debug, PartialEq, Eq)]
 pub struct Judged {
-    /// The packets of one group: 1 to 262,144.
+    /// The number of packets in each frame or field, 1 to 262,144.
     pub n: u32,
-    /// The judged groups.
+    /// The number of judged frames or fields.
     pub frames: u64,
-    /// The judged packets.
+    /// The number of judged packets.
     pub packets: u64,
-    /// The packets before the judged ones.
+    /// The number of packets before the judged ones.
     pub head: u64,
-    /// The packets after the judged ones.
+    /// The number of packets after the judged ones.
     pub tail: u64,
     /// The greatest count of the bucket, in packets.
     pub bucket_peak: u64,
-    /// The most packets that the buffer held with gapped reads, or 0 where it never held any.
+    /// The most packets that the virtual receiver buffer held with gapped reads, 0 if it was always
+    /// empty.
     pub gapped_peak: u64,
-    /// The most packets that the buffer held with linear reads, or 0 where it never held any.
+    /// The most packets that the virtual receiver buffer held with linear reads, 0 if it was always
+    /// empty.
     pub linear_peak: u64,
     /// The verdicts on the types N, NL and W, in this order.
     pub kinds: [KindVerdict; 3],
@@ -74,42 +76,45 @@ impl Model for Judged {
     } };
 }
 
-/// Why a flow has no verdict.
+/// The reason why a flow has no verdict. `rec` is the number of a packet record, counted from 1.
 #[derive(Clone, Copy, Debug, PartialEq, Eq)]
 pub enum Unjudged {
-    /// There are no packets.
+    /// The flow has no packets.
     Absent,
-    /// There are fewer than two markers. The head goes up to and including the first, or is the
-    /// whole flow.
+    /// The flow has fewer than two markers. `head` counts the packets up to and including the first
+    /// marker, or all packets if there is none.
     NoWholeFrame { head: u64 },
-    /// The first fault of the flow, and its record.
+    /// The first fault of the flow, and its packet record.
     Refused { rec: u64, fault: PacketFault },
-    /// One gap more than a flow may have, and its record.
+    /// The first gap that is too many, and its packet record. `expected` and `got` are packet
+    /// numbers.
     Gap { rec: u64, expected: u32, got: u32 },
 }
 
-/// What comes of one run between two gaps.
+/// The result of one run.
 #[derive(Clone, Copy, Debug, PartialEq, Eq)]
 pub enum RunVerdict {
-    /// There are fewer than two markers. The head goes up to and including the first, or is the
-    /// whole run.
+    /// The run has fewer than two markers. `head` counts the packets up to and including the first
+    /// marker, or all packets if there is none.
     NoWholeFrame { head: u64 },
+    /// The run has a whole frame or field.
     Judged(Judged),
 }
 
-/// A run between two gaps in the packet numbers of a flow.
+/// A run: the packets of a flow between two gaps in the packet numbers.
 #[derive(Clone, Copy, Debug, PartialEq, Eq)]
 pub struct Run {
-    /// The record of its first packet, counted from 1.
+    /// The packet record of its first packet, counted from 1.
     pub rec: u64,
-    /// The number of its first packet.
+    /// The packet number of its first packet.
     pub number: u32,
-    /// The number that would have gone on from the run before; none for the first run.
+    /// The packet number that would have continued the run before; `None` for the first run.
     pub expected: Option<u32>,
+    /// The result of the run.
     pub verdict: RunVerdict,
 }
 
-/// The runs of a flow with gaps, in order: 2 to 1,025. The first alone has no expected number.
+/// The 2 to 1,025 runs of a flow with gaps, in order. Only the first has no expected number.
 /// Contracts see their list.
 #[derive(Debug, Drop)]
 pub struct Runs {
@@ -129,25 +134,28 @@ impl Model for Runs {
     ghost invariant = { λ runs. AreRuns runs.list };
 }
 
-/// What comes of a flow.
+/// The result of a flow.
 #[derive(Debug, Drop)]
 pub enum Verdict {
+    /// The flow isn't judged.
     Unjudged(Unjudged),
-    /// The packet numbers have no gap, and there is a whole group.
+    /// The packet numbers have no gap, and the flow has a whole frame or field.
     Judged(Judged),
     /// The packet numbers have gaps.
     Runs(Runs),
 }
 
-/// What comes of one flow of one capture.
+/// The result of one flow of one capture, as in the report.
 #[derive(Debug, Drop)]
 pub struct Row {
+    /// The flow.
     pub key: FlowKey,
+    /// Its result.
     pub verdict: Verdict,
 }
 
 impl Verdict {
-    /// An equal verdict. `Err` is want of memory, for the runs.
+    /// Returns an equal verdict. Returns `Err` if memory for its runs runs out.
     pub fn try_copy(&self, alloc: Global) -> Result<Verdict, OutOfMemory>
         ensures { IfOk result (λ copy. copy ≡ self.now) }
     {
@@ -160,7 +168,7 @@ impl Verdict {
 }
 
 impl Runs {
-    /// Equal runs. `Err` is want of memory.
+    /// Returns equal runs. Returns `Err` if memory runs out.
     pub fn try_copy(&self, alloc: Global) -> Result<Runs, OutOfMemory>
         ensures { IfOk result (λ copy. copy ≡ self.now) }
     {
@@ -173,7 +181,7 @@ impl Runs {
 }
 
 impl Row {
-    /// An equal row. `Err` is want of memory, for its runs.
+    /// Returns an equal result. Returns `Err` if memory for its runs runs out.
     pub fn try_copy(&self, alloc: Global) -> Result<Row, OutOfMemory>
         ensures { IfOk result (λ copy. copy ≡ self.now) }
     {

@@ -1,11 +1,11 @@
-//! Where packets go.
+//! Destinations of packets.
 
 use std::fmt;
 
-/// Where the packets of a media go: an IPv4 address and a UDP port. Its text is as `239.0.0.1:50000`.
+/// The destination of a media: an IPv4 address and a UDP port, printed as `239.0.0.1:50000`.
 #[derive(Clone, Copy, Debug, PartialEq, Eq, PartialOrd, Ord)]
 pub struct Target {
-    /// The IPv4 address, its first octet highest.
+    /// The IPv4 address, the first octet in the most significant byte.
     pub address: u32,
     /// The UDP port.
     pub port: u16,

@@ -1,5 +1,5 @@
-//! What several crates are tried on: a plain video stream, the check of one capture, and what is judged of two
-//! frames. For the tests of the crates above alone.
+//! Values for the tests of the crates above: a plain video stream, the check of one capture, and
+//! verdicts on two frames.
 
 ghost use Rattle.std.specs.Prelude.{◌≡◌, true, IfOk};
 ghost use Rattle.timing_base.specs.Name.{is_file_name};
@@ -13,8 +13,8 @@ use crate::packet::Rtp;
 use crate::row::{Judged, KindVerdict};
 use std::alloc::{AllocError as OutOfMemory, Global};
 
-/// The video stream of the plain description: 1080 lines, progressive, at 50 frames per second, to
-/// 239.0.0.1:50000, declared narrow.
+/// The plain video stream: 1080 lines, progressive, at 50 frames per second, to 239.0.0.1:50000,
+/// declared narrow.
 pub const PLAIN: Media = Media {
     line: 5,
     address: 0xef00_0001,
@@ -30,7 +30,7 @@ pub const PLAIN: Media = Media {
     cmax: None,
 };
 
-/// Packet 1 of a linear sender comes after its own gapped read.
+/// The violation of a linear sender: packet 1 comes after its gapped read.
 pub const LATE: FailProof = FailProof {
     model: Broken::Empty,
     from: 1,
@@ -39,7 +39,7 @@ pub const LATE: FailProof = FailProof {
     limit: 2,
 };
 
-/// Two frames of 20 packets that keep all limits, behind one packet of another frame.
+/// The verdict on two frames of 20 packets that keep all limits, after one packet of another frame.
 pub const NARROW: Judged = Judged {
     n: 20,
     frames: 2,
@@ -52,7 +52,7 @@ pub const NARROW: Judged = Judged {
     kinds: [KindVerdict::Pass, KindVerdict::Pass, KindVerdict::Pass],
 };
 
-/// Two frames of 20 packets of a linear sender, whose packets come too late for the gapped reads.
+/// The verdict on two frames of 20 packets of a linear sender, which are late for gapped reads.
 pub const LINEAR: Judged = Judged {
     kinds: [
         KindVerdict::Fail(LATE),
@@ -62,7 +62,7 @@ pub const LINEAR: Judged = Judged {
     ..NARROW
 };
 
-/// The plain stream without a declared type, to this port; 0 stands for 1.
+/// Returns the plain stream without a declared type, to this port (0 is taken as 1).
 pub fn undeclared_to(port: u16) -> Media {
     Media {
         port: port.max(1),
@@ -71,7 +71,7 @@ pub fn undeclared_to(port: u16) -> Media {
     }
 }
 
-/// A packet of the plain stream, from source 1.
+/// Returns the fields of a packet of the plain stream, from source 1.
 pub fn reading(number: u32, timestamp: u32, marker: bool) -> Rtp
     ensures value { result ≡ record { number = number; timestamp = timestamp; marker = marker; pt = 96; ssrc = 1 } }
 {
@@ -84,7 +84,7 @@ pub fn reading(number: u32, timestamp: u32, marker: bool) -> Rtp
     }
 }
 
-/// The name of a file that has this text.
+/// Returns the file name with this text. Returns `Err` if memory runs out.
 pub fn file_name(alloc: Global, text: &str) -> Result<FileName, OutOfMemory>
     requires { is_file_name text.now ≡ true }
     ensures { IfOk result (λ name. name ≡ text.now) }
@@ -92,7 +92,7 @@ pub fn file_name(alloc: Global, text: &str) -> Result<FileName, OutOfMemory>
     Ok(FileName::from_text(String::from_str(alloc, text)?))
 }
 
-/// The check of one capture by itself, on one thread.
+/// Returns the check of one capture with one thread. Returns `Err` if memory runs out.
 pub fn check_of(alloc: Global, capture: &str, json: bool) -> Result<CheckJob, OutOfMemory>
     requires { is_file_name capture.now ≡ true }
 {
@@ -109,7 +109,7 @@ pub fn check_of(alloc: Global, capture: &str, json: bool) -> Result<CheckJob, Ou
     })
 }
 
-/// The session of the plain stream alone.
+/// Returns the session with only the plain stream. Returns `Err` if memory runs out.
 pub fn plain_session(alloc: Global) -> Result<Session, OutOfMemory> {
     let mut media = Vec::new(alloc);
     media.push(PLAIN)?;

@@ -26,13 +26,13 @@ use Rattle.timing_reach.proofs.Following.{capture-seen}
 use Rattle.udp_rtp.specs.Flow.{flow}
 use Rattle.timing_measure.specs.Each.{EachOf}
 use Rattle.timing_measure.specs.Measured.{IsMeasuredFlow}
-use Rattle.timing_measure.specs.Measures.{AreFlows, FollowsMeasure, HasMeasure, HasNumbers, MeasureInputRose, has_run, measure_ends, measured}
-use Rattle.timing_measure.specs.Readings.{IsReadingIn, IsReadingOf}
-use Rattle.timing_measure.specs.declared.readings.Reading.{Reading}
+use Rattle.timing_measure.specs.Measures.{AreFlows, FollowsMeasure, HasMeasure, MeasureInputRose, has_run, measure_ends, measured}
+use Rattle.timing_measure.specs.flows.Taken.{IsCaptureIn, IsCaptureOf}
+use Rattle.timing_measure.specs.declared.measured.MeasuredCapture.{MeasuredCapture}
 
 -- each flow is of a media of the session
 flows-of : (tai : ℕ) (items : List Record) (number : ℕ) (media : List Media) (flows : List MeasuredFlow)
-    → EachOf (λ n m f. IsMeasuredFlow HasNumbers m n tai (flow items m) f) number media flows
+    → EachOf (λ n m f. IsMeasuredFlow m n tai (flow items m) f) number media flows
     → All (λ (f : MeasuredFlow). f.media < number + length media) flows
 flows-of tai items number [] [] h =
     let none : List Media = [] in All-nil (λ (f : MeasuredFlow). f.media < number + length none)
@@ -43,14 +43,14 @@ flows-of tai items number (m ∷ media) (f ∷ flows) h =
     (All-weaker (λ (f : MeasuredFlow). f.media < number + 1 + length media) (λ (f : MeasuredFlow). f.media < number + length (m ∷ media))
     (λ f few. omega (arith, few)) flows (flows-of tai items (number + 1) media flows h.1))
 
-pub of-media : (tai : ℕ) (media : List Media) (r : Reading MeasuredFlow) → IsReadingOf (AreFlows tai media) r → AreOfMedia media r.flows.items
+pub of-media : (tai : ℕ) (media : List Media) (r : MeasuredCapture) → IsCaptureOf (AreFlows tai media) r → AreOfMedia media r.flows.items
 of-media tai media r h =
     All-weaker (λ (f : MeasuredFlow). f.media < 0 + length media) (λ (f : MeasuredFlow). f.media < length media) (λ f few. omega (arith, few)) r.flows.items
     (flows-of tai h.items 0 media r.flows.items h.are)
 
 -- the answer on what was read
-pub has-measure : (job : CaptureJob) (media : List Media) (text : List ℕ) (r : Reading MeasuredFlow) (answer : Answer)
-    → IsReadingIn (AreFlows job.tai media) text r
+pub has-measure : (job : CaptureJob) (media : List Media) (text : List ℕ) (r : MeasuredCapture) (answer : Answer)
+    → IsCaptureIn (AreFlows job.tai media) text r
     → answer ≡ measured job.capture r.note media r.flows.items → HasMeasure job media text answer
 has-measure job media text r answer h e = record {
   items = h.items;

@@ -5,7 +5,7 @@ use Rattle.std.specs.Prelude.{All}
 use Rattle.std.proofs.lemmas.List.{length-take-le, take_more}
 use Rattle.std.proofs.lemmas.List.Elements.{All-head, All-tail}
 use Rattle.timing_measure.specs.Each.{AllPairs, EachOf}
-use Rattle.timing_measure.specs.Readings.{IsThrough}
+use Rattle.timing_measure.specs.flows.Taken.{IsThrough}
 
 -- one more of each
 each-append : {X Y : Type 0} (P : ℕ → X → Y → Type 0) (number : ℕ) (xs : List X) (ys : List Y) (x : X) (y : Y) → EachOf P number xs ys

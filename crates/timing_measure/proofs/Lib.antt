@@ -1,13 +1,9 @@
-pub mod Planning
-pub mod Plans
-pub mod Edging
-pub mod Meterings
-pub mod Eaches
-mod Banked
-mod Judged
-mod Takers
-mod Gauging
-pub mod Found
+mod Sources
+mod Meters
+mod Eaches
+mod Ends
+mod Taken
+mod Whole
 pub mod Answering
 pub mod Some
 pub mod Numbers

@@ -29,8 +29,10 @@ use Rattle.flow_measure.specs.declared.numbers.RunNumbers.{RunNumbers}
 use Rattle.flow_measure.proofs.Alone.{bins-tell, classes-tell}
 use Rattle.flow_measure.proofs.Measured.{buffer-once, first-once, kind-same, option-once}
 use Rattle.flow_measure.proofs.Unique.{summary-once}
-use Rattle.timing_measure.specs.Measured.{AreMeasured, IsMeasuredFlow, IsMeasuredRun, JudgedPart, judged_parts}
-use Rattle.timing_measure.specs.Measures.{HasNumbers}
+use Rattle.run_meter.specs.Runs.{JudgedPart}
+use Rattle.fail_interval.specs.Parts.{judged_parts}
+use Rattle.flow_measure.specs.Measured.{AreMeasured, HasNumbers, IsMeasuredRun}
+use Rattle.timing_measure.specs.Measured.{IsMeasuredFlow}
 
 -- bins with the same fields are one, as a fact about them has one proof
 bins-one : (b c : Bins) → b.limit ≡ c.limit → b.width ≡ c.width → b.counts ≡ c.counts → b.above ≡ c.above → b.below ≡ c.below → b.seen ≡ c.seen → b ≡ c
@@ -222,8 +224,8 @@ runs-once m tai (part ∷ parts) (x ∷ xs) [] h k = absurd k
 runs-once m tai (part ∷ parts) (x ∷ xs) (y ∷ ys) h k = ap₂ (λ a l. a ∷ l) (run-once m tai part x y h.0 k.0) (runs-once m tai parts xs ys h.1 k.1)
 
 -- and so is its flow
-pub flow-once : (m : Media) (number tai : ℕ) (packets : List FlowPacket) (f g : MeasuredFlow) → IsMeasuredFlow HasNumbers m number tai packets f
-    → IsMeasuredFlow HasNumbers m number tai packets g → f ≡ g
+pub flow-once : (m : Media) (number tai : ℕ) (packets : List FlowPacket) (f g : MeasuredFlow) → IsMeasuredFlow m number tai packets f
+    → IsMeasuredFlow m number tai packets g → f ≡ g
 flow-once m number tai packets f g h k =
     let media = h.media ∙ sym k.media in
     let count = h.count ∙ sym k.count in

@@ -6,7 +6,7 @@ use Rattle.std.specs.List.{cons_option}
 use Rattle.std.proofs.lemmas.List.{length-map}
 use Rattle.std.proofs.lemmas.List.Elements.{All-append, All-cons, All-drop, All-get_or, All-head, All-nil, All-tail, All-take}
 use Rattle.timing_base.specs.Captures.{IsStamp, Record}
-use Rattle.timing_base.specs.Flows.{AreStamped, cuts, no_packet, read_or_zeros}
+use Rattle.timing_base.specs.Flows.{AreStamped, cuts, no_packet, packet, read_or_zeros}
 use Rattle.timing_base.specs.Jobs.{CaptureJob, IsCaptureJob}
 use Rattle.timing_base.specs.Judged.{FlowVerdict, RunOutcome, absent, gap, in_one_run, in_runs, judged, no_whole_frame, refused, run_outcome, stamp_of}
 use Rattle.timing_base.specs.Judged.{whole_frames}
@@ -22,18 +22,20 @@ use Rattle.timing_reach.specs.steps.Answers.{Answer}
 use Rattle.timing_reach.proofs.Packets.{flow-few, packet-of}
 use Rattle.udp_rtp.specs.Flow.{flow, flow_packet}
 use Rattle.timing_measure.specs.Each.{EachOf}
-use Rattle.timing_measure.specs.Measured.{AreMeasured, IsMeasuredFlow, IsMeasuredRun, JudgedPart, first_source, judged_parts, part_of, parts_between}
-use Rattle.timing_measure.specs.Measured.{parts_in, stamps_of}
-use Rattle.timing_measure.specs.Measures.{HasMeasure, HasNumbers, measured, named_by, records_of, timestamps_of}
-use Rattle.timing_measure.specs.metering.Plan.{IsWhole}
-use Rattle.timing_measure.proofs.Plans.{parts-whole}
+use Rattle.run_meter.specs.Runs.{JudgedPart, stamps_of}
+use Rattle.fail_interval.specs.Parts.{judged_packets, judged_parts, part_between, part_by, parts_between, parts_in}
+use Rattle.flow_measure.specs.Measured.{AreMeasured, HasNumbers, IsMeasuredRun, named_by}
+use Rattle.flow_measure.specs.Packets.{records_of, timestamps_of}
+use Rattle.timing_measure.specs.Measured.{IsMeasuredFlow, first_source}
+use Rattle.timing_measure.specs.Measures.{HasMeasure, measured}
+use Rattle.timing_measure.proofs.Whole.{IsWhole, parts-whole}
 
 -- the packets of a judged run have stamps of a capture
 abbrev AreHeld : JudgedPart → Type 0
 AreHeld part = AreStamped part.packets
 
 held-part : (m : Media) (packets : List FlowPacket) (number from to : ℕ) (o : RunOutcome) → AreStamped packets
-    → All AreHeld (part_of m packets number from to o)
+    → All AreHeld (part_by m number (packet packets from) (judged_packets packets from to) o)
 held-part m packets number from to (no_whole_frame head) h = All-nil AreHeld
 held-part m packets number from to (whole_frames run) h =
     All-cons AreHeld _ [] (All-take (λ (p : FlowPacket). IsStamp p.at) _ _ (All-drop (λ (p : FlowPacket). IsStamp p.at) _ packets h)) (All-nil AreHeld)
@@ -42,7 +44,7 @@ held-between : (m : Media) (packets : List FlowPacket) (tai to number from : ℕ
     → All AreHeld (parts_between m packets tai to number from places)
 held-between m packets tai to number from [] h = held-part m packets number from to (run_outcome packets tai from to) h
 held-between m packets tai to number from (cut ∷ rest) h =
-    All-append AreHeld (part_of m packets number from cut (run_outcome packets tai from cut)) (parts_between m packets tai to (number + 1) cut rest)
+    All-append AreHeld (part_between m packets tai number from cut) (parts_between m packets tai to (number + 1) cut rest)
     (held-part m packets number from cut (run_outcome packets tai from cut) h) (held-between m packets tai to (number + 1) cut rest h)
 
 held-in : (m : Media) (packets : List FlowPacket) (tai : ℕ) (v : FlowVerdict) → AreStamped packets → All AreHeld (parts_in m packets tai v)
@@ -105,7 +107,7 @@ some-runs m tai (part ∷ parts) is few whole held =
 
 -- so has a flow
 some-flow : (m : Media) (number tai : ℕ) (packets : List FlowPacket) → IsMedia m → tai ≤ 1000 → length packets < 2 ^ 41 → AreStamped packets
-    → (f : MeasuredFlow) × IsMeasuredFlow HasNumbers m number tai packets f
+    → (f : MeasuredFlow) × IsMeasuredFlow m number tai packets f
 some-flow m number tai packets is seconds few stamped =
     let runs =
     some-runs m tai (judged_parts m packets tai) is seconds (parts-whole m packets tai few seconds stamped)
@@ -122,7 +124,7 @@ some-flow m number tai packets is seconds few stamped =
 
 some-flows : (tai : ℕ) (items : List Record) (number : ℕ) (media : List Media) → All IsMedia media → tai ≤ 1000 → length items < 2 ^ 41
     → All (λ (r : Record). IsStamp r.stamp) items
-    → (flows : List MeasuredFlow) × EachOf (λ n m f. IsMeasuredFlow HasNumbers m n tai (flow items m) f) number media flows
+    → (flows : List MeasuredFlow) × EachOf (λ n m f. IsMeasuredFlow m n tai (flow items m) f) number media flows
 some-flows tai items number [] is seconds few held = ([], tt)
 some-flows tai items number (m ∷ media) is seconds few held =
     let f =

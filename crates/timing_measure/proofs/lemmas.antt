@@ -1,2 +1,2 @@
-pub mod series
 pub mod page
+pub mod series

@@ -1,11 +1,9 @@
--- what is promised
+-- the definitions that the public clauses cite
 pub mod Each
 pub mod Measured
 pub mod Measures
--- these only serve proofs
-pub mod metering
-pub mod Banks
-pub mod Readings
--- what is promised of these commands
+-- these serve only the proofs
+pub mod flows
+-- the definitions for `series` and `page`
 pub mod series
 pub mod page

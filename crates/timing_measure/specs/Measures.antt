@@ -1,21 +1,13 @@
--- What the texts of `measure` define: the numbers of every judged run of every media of a session, in one capture, as
--- JSON (RFC 8259). The session description is read first, and then the capture. Stamps are nanoseconds of TAI, with the
--- seconds of the job added; media count from 0, and records from 1. This project's profile.
-use Rattle.std.specs.Prelude.{◌≡◌, ◌^◌, ◌&&◌, if◌then◌else◌, ℕ, Bool, not, nat_lt, List, length, map, Option, Some}
-use Rattle.std.specs.Prelude.{None}
-use Rattle.std.specs.Prelude.{Result}
+-- The output and status of `measure`, by the contents of its inputs: the numbers of every judged run of every media of
+-- a session, in one capture, as JSON (RFC 8259). The SDP is read first, then the capture. Capture timestamps are
+-- nanoseconds of TAI, with `--tai` added; media count from 0, and packet records from 1. This project's profile.
+use Rattle.std.specs.Prelude.{◌≡◌, ◌^◌, ◌&&◌, if◌then◌else◌, ℕ, Bool, not, nat_lt, List, length, map, Result}
 use Rattle.std.specs.List.{list_any}
 use Rattle.timing_base.specs.Captures.{Record}
-use Rattle.timing_base.specs.Flows.{read_or_zeros}
 use Rattle.timing_base.specs.Jobs.{CaptureJob}
 use Rattle.timing_base.specs.Media.{Media}
 use Rattle.timing_base.specs.declared.capture.FileNote.{FileNote}
-use Rattle.timing_base.specs.declared.packet.FlowPacket.{FlowPacket}
-use Rattle.timing_base.specs.declared.row.KindVerdict.{KindVerdict}
-use Rattle.timing_base.specs.declared.row.KindVerdict.TheVariants as kind_verdict
-use Rattle.flow_measure.specs.Run.{IsMeasured}
 use Rattle.flow_measure.specs.declared.numbers.MeasuredFlow.{MeasuredFlow}
-use Rattle.flow_measure.specs.declared.numbers.RunNumbers.{RunNumbers}
 use Rattle.flow_measure.specs.report.Json.{measure_json}
 use Rattle.flow_measure.specs.report.Told.{flow_told}
 use Rattle.pcap_reader.specs.Records.{Records}
@@ -30,48 +22,30 @@ use Rattle.timing_reach.specs.declared.steps.failure.Failure.{Failure}
 use Rattle.timing_reach.specs.Asked.{ReadsCapture}
 use Rattle.udp_rtp.specs.Flow.{flow}
 use Rattle.timing_measure.specs.Each.{EachOf}
-use Rattle.timing_measure.specs.Measured.{IsMeasuredFlow, JudgedPart, stamps_of}
+use Rattle.timing_measure.specs.Measured.{IsMeasuredFlow}
 
--- the records of packets, and their RTP timestamps in ticks
-abbrev pub records_of : List FlowPacket → List ℕ
-records_of packets = map (λ (p : FlowPacket). p.rec) packets
-
-abbrev pub timestamps_of : List FlowPacket → List ℕ
-timestamps_of packets = map (λ (p : FlowPacket). (read_or_zeros p.rtp).timestamp) packets
-
--- the packet that a fail names: the last of its interval
-abbrev pub named_by : KindVerdict → Option ℕ
-named_by kind_verdict.Pass = None
-named_by (kind_verdict.Fail proof) = Some proof.to
-
--- the numbers of a judged run of a media: those of its judged packets
-abbrev pub HasNumbers : Media → (tai : ℕ) → JudgedPart → RunNumbers → Type 0
-HasNumbers m tai part numbers =
-    IsMeasured m part.values.n part.values.frames (stamps_of tai part.packets) (records_of part.packets)
-    (timestamps_of part.packets) (map named_by part.values.kinds) numbers
-
--- the flow of each media of a session in a capture of these records
+-- the numbers of the flow of each media of a session, in a capture with these packet records
 abbrev pub AreFlows : (tai : ℕ) → List Media → List Record → List MeasuredFlow → Type 0
 AreFlows tai media items flows =
-    EachOf (λ number m f. IsMeasuredFlow HasNumbers m number tai (flow items m) f) 0 media flows
+    EachOf (λ number m f. IsMeasuredFlow m number tai (flow items m) f) 0 media flows
 
--- a run of the flow is judged
+-- the flow has a judged run
 abbrev pub has_run : MeasuredFlow → Bool
 has_run f = nat_lt 0 (length f.runs)
 
--- 0 where a run is judged, and the capture wasn't refused for its bytes; else 4
+-- 0 if a run is judged, and the capture wasn't refused as malformed; else 4
 abbrev pub measure_status : FileNote → List MeasuredFlow → Status
 measure_status note flows =
     if list_any has_run flows && not (is_refused note) then status.Pass else status.NotAllJudged
 
--- the answer on a capture of this name, which ends so, with these flows of a session
+-- the answer for a capture with this name that ends in this way, with these flows of a session
 abbrev pub measured : (name : List ℕ) → FileNote → List Media → List MeasuredFlow → Answer
 measured name note media flows = record {
   text = measure_json name note media (map flow_told flows);
   status = measure_status note flows;
 }
 
--- the answer of `measure` on these media, over a classic capture of this text
+-- the answer of `measure` for these media, over a classic capture with these contents
 pub record HasMeasure (job : CaptureJob) (media : List Media) (text : List ℕ) (answer : Answer) : Type 0 where
   pub items : List Record
   pub note : FileNote
@@ -80,17 +54,17 @@ pub record HasMeasure (job : CaptureJob) (media : List Media) (text : List ℕ) 
   pub are : AreFlows job.tai media items flows
   pub answer_is : answer ≡ measured job.capture note media flows
 
--- `measure`: the description, then the capture
+-- `measure` reads the SDP, then the capture
 abbrev pub FollowsMeasure : CaptureJob → Inputs → Result Answer Failure → Type 0
 FollowsMeasure job i outcome = Yields outcome (ReadsSession i outcome job.sdp (λ media.
     ReadsCapture i outcome job.capture (λ text. Gives outcome (HasMeasure job media text))))
 
--- the count of the name of this input rose: there are two, the description and the capture
+-- the count of faults of the name of this input rose; there are two inputs, the SDP and the capture
 abbrev pub MeasureInputRose : CaptureJob → Inputs → Input → Type 0
 MeasureInputRose job i input.Sdp = HasRisen i job.sdp
 MeasureInputRose job i input.Report = ⊥
 MeasureInputRose job i (input.Capture number) = (number ≡ 0) × HasRisen i job.capture
 
--- the statuses of its answers: 0, 3 or 4
+-- the statuses of the answers of `measure`: 0, 3 or 4
 abbrev pub measure_ends : Status → Bool
 measure_ends ends = look_ends ends

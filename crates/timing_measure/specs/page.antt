@@ -1,8 +1,8 @@
--- what is promised
+-- the definitions that the public clauses cite
 pub mod Pages
 pub mod Shown
--- what is worked by hand
+-- the examples that are worked by hand
 pub mod Worked
--- these only serve proofs
-pub mod drawing
-pub mod Readings
+-- these serve only the proofs
+pub mod Captures
+pub mod Ends

@@ -1,8 +1,9 @@
--- what is promised
+-- the definitions that the public clauses cite
 pub mod Rows
+pub mod Status
 pub mod Series
 pub mod Streams
--- these only serve proofs
-pub mod Meters
-pub mod Reading
-pub mod Finding
+-- these serve only the proofs
+pub mod Stands
+pub mod Copies
+pub mod Ends

@@ -1,11 +1,11 @@
-//! What `measure` prints, and its status.
+//! The output of `measure`, and its status.
 
 ghost use Rattle.std.specs.Prelude.{◌≡◌, IfOk, true};
 ghost use Rattle.std.specs.List.{list_any};
 ghost use Rattle.flow_measure.specs.report.Json.{AreOfMedia};
 ghost use Rattle.timing_measure.specs.Measures.{has_run, measure_ends, measure_status, measured};
 
-use crate::readings::Reading;
+use crate::measured::MeasuredCapture;
 use flow_measure::MeasuredFlow;
 use flow_measure::report::json_of;
 use std::alloc::{AllocError as OutOfMemory, Global};
@@ -13,21 +13,21 @@ use timing_base::{CaptureJob, FileNote, Session};
 use timing_reach::steps::Answer;
 use timing_report::{Status, any_refused};
 
-/// Whether the flow has a judged run, which was measured.
+/// Returns whether the flow has a judged run.
 fn has_run(flow: &MeasuredFlow) -> bool
     ensures { result ≡ has_run flow.now }
 {
     flow.runs.len() > 0
 }
 
-/// Whether one of the flows has a judged run, which was measured.
+/// Returns whether one of the flows has a judged run.
 fn is_one_measured(flows: &[MeasuredFlow]) -> bool
     ensures { result ≡ list_any has_run flows.now }
 {
     flows.iter().any(has_run)
 }
 
-/// The status beside these flows of a capture that ends so.
+/// Returns the status for these flows of a capture that ends in this way.
 fn status_of(note: FileNote, flows: &[MeasuredFlow]) -> Status
     ensures status { result ≡ measure_status note flows.now }
     ensures ends { measure_ends result ≡ true }
@@ -41,21 +41,21 @@ fn status_of(note: FileNote, flows: &[MeasuredFlow]) -> Status
     Status::Pass
 }
 
-/// The answer on a capture of which a reading came to this.
+/// Returns the answer for a capture with these flows. Returns `Err` if memory runs out.
 pub fn measured(
     alloc: Global,
     job: &CaptureJob,
     session: &Session,
-    reading: &Reading<MeasuredFlow>,
+    capture: &MeasuredCapture,
 ) -> Result<Answer, OutOfMemory>
-    requires { AreOfMedia session.now reading.now.flows.items }
+    requires { AreOfMedia session.now capture.now.flows.items }
     ensures { IfOk result (λ answer. answer
-        ≡ measured job.now.capture reading.now.note session.now reading.now.flows.items) }
+        ≡ measured job.now.capture capture.now.note session.now capture.now.flows.items) }
 {
-    let flows = reading.flows.as_slice();
-    let text = json_of(alloc, job.capture.as_str(), reading.note, session, flows)?;
+    let flows = capture.flows.as_slice();
+    let text = json_of(alloc, job.capture.as_str(), capture.note, session, flows)?;
     Ok(Answer {
         text: text.into_bytes(),
-        status: status_of(reading.note, flows),
+        status: status_of(capture.note, flows),
     })
 }

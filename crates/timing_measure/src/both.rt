@@ -1,18 +1,20 @@
-//! Two takers that are given the same records.
+//! Two takers that are given the same packet records.
 
 ghost use Rattle.std.specs.Prelude.{⊤};
 
 use pcap_reader::Taker;
 use std::alloc::AllocError as OutOfMemory;
 
-/// What takes records and keeps nothing of them.
+/// A taker that keeps nothing of its packet records.
 #[derive(Clone, Copy)]
 pub struct Nothing;
 
-/// Two takers that are given the same records, in one pass.
+/// Two takers that are given the same packet records, in one pass.
 #[derive(Drop)]
 pub struct Both<A: Drop, B: Drop> {
+    /// The taker that is given each record first.
     pub first: A,
+    /// The other taker.
     pub second: B,
 }
 
@@ -20,7 +22,7 @@ impl<A: Taker<Stop = OutOfMemory> + Drop, B: Taker<Stop = OutOfMemory> + Drop> T
     for Both<A, B> {
     ghost use Rattle.pcap_reader.specs.Taken.{StopsAnyhow};
 
-    /// Want of memory.
+    /// Memory ran out.
     type Stop = OutOfMemory;
 
     ghost takes = { λ old new items. A.takes old.first new.first items × B.takes old.second new.second items };
@@ -55,7 +57,7 @@ impl<A: Taker<Stop = OutOfMemory> + Drop, B: Taker<Stop = OutOfMemory> + Drop> T
 impl Taker for Nothing {
     ghost use Rattle.pcap_reader.specs.Taken.{StopsAnyhow};
 
-    /// It never stops.
+    /// Memory ran out; this never happens.
     type Stop = OutOfMemory;
 
     ghost takes = { λ _ _ _. ⊤ };

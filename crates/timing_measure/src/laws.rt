@@ -1,6 +1,5 @@
-//! What holds of the definitions themselves. Each function is a theorem: it does nothing, and its clauses are proved.
+//! Laws of the definitions. Each function is a theorem: it does nothing, and its clauses are proved.
 
-pub mod edges;
 pub mod parts;
 
 ghost use Rattle.std.specs.Prelude.{◌≡◌, ◌<◌, ◌^◌, ℕ, All, List, length};
@@ -12,15 +11,15 @@ ghost use Rattle.pcap_reader.specs.Records.{Records};
 ghost use Rattle.timing_reach.specs.steps.Answers.{Answer};
 ghost use Rattle.timing_measure.specs.Measures.{HasMeasure};
 
-/// The texts of `measure` have an answer, where the media are within the limits of a media and the records have stamps
-/// that a capture can hold.
+/// The contents of the inputs of `measure` have an answer, if the media are within their limits and the packet records
+/// have timestamps that a capture can have.
 pub fn some_measure_answer()
     ensures { (job : CaptureJob) (media : List Media) (text : List ℕ) (items : List Record) (note : FileNote)
         → IsCaptureJob job → All IsMedia media → Records text (2 ^ 40) items note → length items < 2 ^ 41
         → All (λ r. IsStamp r.stamp) items → (answer : Answer) × HasMeasure job media text answer }
 {}
 
-/// The texts of `measure` have no two answers.
+/// The contents of the inputs of `measure` don't have two answers.
 pub fn one_measure_answer()
     ensures { (job : CaptureJob) (media : List Media) (text : List ℕ) (a b : Answer)
         → HasMeasure job media text a → HasMeasure job media text b → a ≡ b }

@@ -1,4 +1,4 @@
--- what is promised
+-- definitions that the crate's clauses cite
 pub mod Causes
 pub mod Counts
 pub mod Files

@@ -1,8 +1,7 @@
--- What a call leaves of a shelf of texts.
+-- What every call leaves unchanged on a shelf.
 use Rattle.std.specs.Prelude.{◌≡◌, ◌≤◌, ℕ, List, Option}
 
--- what the shelf lacked it still lacks, the texts of its names are what they were, and no count of their faults has
--- fallen
+-- names that weren't there still aren't, the contents are unchanged, and no count of faults has decreased
 pub record StaysAs {H : Type 0} (text : H → List ℕ → Option (List ℕ)) (Lacks : H → List ℕ → Type 0)
     (faults : H → List ℕ → ℕ) (old new : H) : Type 0 where
   pub lacks : (n : List ℕ) → Lacks old n → Lacks new n

@@ -1,4 +1,4 @@
--- Texts in memory that never fail.
+-- Contents in memory that never fail.
 use Rattle.std.specs.Prelude.{ℕ, List, [], string_bytes}
 use Rattle.std.specs.Option.{option_map_or}
 use Rattle.std.specs.BTreeMap.{get_by_text}
@@ -6,7 +6,7 @@ use Rattle.timing_outside.specs.Texts.{rest_of}
 use Rattle.timing_outside.specs.declared.steady_shelf.SteadyShelf.{SteadyShelf}
 use Rattle.timing_outside.specs.declared.steady_shelf.SteadySource.{SteadySource}
 
--- the bytes of the text of this name, which is empty where none was put
+-- the contents of this name, empty if it wasn't put
 abbrev pub bytes_of : SteadyShelf → List ℕ → List ℕ
 bytes_of shelf name = option_map_or (λ bytes. bytes.items) (get_by_text shelf.entries name) []
 
@@ -14,6 +14,6 @@ bytes_of shelf name = option_map_or (λ bytes. bytes.items) (get_by_text shelf.e
 abbrev pub name_of : SteadySource → List ℕ
 name_of s = string_bytes s.name
 
--- the bytes that no read has given yet
+-- the bytes that weren't read yet
 abbrev pub left_of : SteadySource → List ℕ
 left_of s = rest_of s.text

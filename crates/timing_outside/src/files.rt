@@ -1,7 +1,9 @@
-//! Files, standard output and standard error: the edge of the program, which tells no bytes.
-ghost use Rattle.std.specs.Prelude.{◌≡◌, ◌≤◌, ◌<◌, ◌^◌, ◌&&◌, ℕ, List, true, length, None, IfSome, IfOk, IsErrOf, is_err, nat_lt, string_bytes};
+//! Files, standard output and standard error. Whatever bytes the system's files and streams have, a source hands out those
+//! of its file, and a sink passes on those that it takes.
+ghost use Rattle.std.specs.Prelude.{◌≡◌, ◌≤◌, ◌<◌, ◌^◌, ◌&&◌, ℕ, List, true, length, None, IfOk, IsErrOf, is_err, nat_lt, string_bytes};
 ghost use Rattle.std.specs.Str.{bytes_eq};
 ghost use Rattle.std.specs.Io.{ReadsAtMost};
+ghost use Rattle.std.specs.Io.KnownBytes.{Keeps, ReadConsumes, WriteAppends};
 ghost use Rattle.timing_outside.specs.Causes.{Rose};
 ghost use Rattle.timing_outside.specs.Counts.{has_failed, raised_if};
 
@@ -10,26 +12,25 @@ use crate::sink::Sink;
 use crate::source::{Failed, Source};
 use std::alloc::AllocError as OutOfMemory;
 use std::collections::BTreeMap;
-use std::io::{ErrorKind, Print, Read, Stderr, Stdout, Write};
+use std::io::{ErrorKind, Read, Write};
 use std::rt::{Clock, Files};
 use std::time::Duration;
 use std::{fmt, fs, io, thread};
 
-/// How often a call that a signal interrupts is tried again before it counts as failed.
+/// The number of tries after which a call that signals interrupt counts as failed.
 const TRIES: u32 = 1000;
 
-/// Milliseconds after which a stream that had no room is written to again.
+/// The pause before another write to a stream that had no room, in milliseconds.
 const REST: u64 = 1;
 
-/// Why a file couldn't be opened or read.
+/// The reason why a file couldn't be opened or read.
 #[derive(Clone, Copy)]
 pub enum FileFault {
-    /// The error of the system.
+    /// The system returned this error.
     System(io::Error),
-    /// The name was fetched before and isn't that of a regular file, so that its contents are gone.
+    /// The name was fetched before and isn't that of a regular file, so its contents can't be read
+    /// again.
     ReadBefore,
-    /// A second reading found other contents.
-    Changed,
 }
 
 impl fmt::Display for FileFault {
@@ -37,22 +38,21 @@ impl fmt::Display for FileFault {
         match self {
             FileFault::System(error) => write!(f, "{error}"),
             FileFault::ReadBefore => f.write_str(
-                "what isn't a regular file can be read only once, and this run needs it twice",
+                "what isn't a regular file can be read only once, and it is named twice",
             ),
-            FileFault::Changed => f.write_str("the file changed while it was read"),
         }
     }
 }
 
-/// Why a file isn't open.
+/// The reason why a file wasn't opened.
 enum Unopened {
-    /// This fault, which is counted.
+    /// This fault, which has to be counted.
     Fault(FileFault),
     /// Memory ran out.
     OutOfMemory,
 }
 
-/// How often a name has failed, and its last fault.
+/// The count of faults of a name, and its last fault.
 #[derive(Drop)]
 pub(crate) struct NameCount {
     faults: u64,
@@ -62,7 +62,7 @@ pub(crate) struct NameCount {
 
 /// The files of the system.
 ///
-/// A name that was fetched has a count of faults of its own. The names that weren't share one.
+/// Each name that was fetched has a count of faults of its own. All other names share one count.
 #[derive(Drop)]
 pub struct FileShelf<R: Drop> {
     rt: R,
@@ -70,7 +70,7 @@ pub struct FileShelf<R: Drop> {
     others: u64,
 }
 
-/// An open file under its name. It counts each read that fails, and keeps the last cause.
+/// An open file with its name. It counts the reads that failed, and keeps the last error.
 #[derive(Drop)]
 pub struct FileSource<F: Drop> {
     name: String,
@@ -79,26 +79,20 @@ pub struct FileSource<F: Drop> {
     fault: Option<FileFault>,
 }
 
-/// One of the two streams that a program writes to.
-#[derive(Clone, Copy)]
-enum Stream {
-    Out(Stdout),
-    Err(Stderr),
-}
-
-/// Standard output or standard error. A write that fails, or that takes no byte of a piece that
-/// isn't empty, is counted as a fault. Where the stream doesn't wait and has no room, the sink waits.
+/// A sink over a stream, as standard output or standard error. A write that fails is counted as a
+/// fault. So is one that writes no byte although there is one. If the stream is non-blocking and has
+/// no room, a write waits.
 #[derive(Drop)]
-pub struct StdSink<C: Drop> {
+pub struct StdSink<C: Drop, W: Drop> {
     clock: C,
-    stream: Stream,
+    stream: W,
     faults: u64,
 }
 
 impl<R: Files + AllocGlobal + Drop> FileShelf<R> {
     ghost use Rattle.timing_outside.specs.Files.{count_of, count_after, fault_of, is_known, name_of, source_faults};
 
-    /// The files that this runtime reaches, of which none was fetched.
+    /// Returns the files that this runtime gives access to. No name was fetched yet.
     pub fn new(rt: R) -> FileShelf<R>
         ensures { (n : List ℕ) → count_of result n ≡ 0 }
     {
@@ -110,8 +104,8 @@ impl<R: Files + AllocGlobal + Drop> FileShelf<R> {
         }
     }
 
-    /// Gives this name a count of its own, where it has none. Answers whether it had one: it was
-    /// fetched before.
+    /// Gives this name a count of its own if it has none, and returns whether it had one, that is,
+    /// whether it was fetched before. Returns `Err` if memory runs out.
     #[tactic(auto, using(std::proofs::lemmas::Map::Text::text_keys))]
     fn admit(&mut self, name: &str) -> Result<bool, OutOfMemory>
         ensures again { IfOk result (λ again. again ≡ is_known self.old name.now) }
@@ -131,7 +125,7 @@ impl<R: Files + AllocGlobal + Drop> FileShelf<R> {
         Ok(false)
     }
 
-    /// How often this name has failed.
+    /// Returns the number of faults of this name.
     fn faults_of(&self, name: &str) -> u64
         ensures { result ≡ count_of self.now name.now }
     {
@@ -141,7 +135,7 @@ impl<R: Files + AllocGlobal + Drop> FileShelf<R> {
         }
     }
 
-    /// The last fault of this name, where it was fetched and has failed.
+    /// Returns the last fault of this name, if it was fetched and has failed.
     pub fn fault_of(&self, name: &str) -> Option<FileFault>
         ensures { result ≡ fault_of self.now name.now }
     {
@@ -151,7 +145,7 @@ impl<R: Files + AllocGlobal + Drop> FileShelf<R> {
         }
     }
 
-    /// Counts a fault of this name, and keeps it where the name was fetched.
+    /// Counts a fault of this name, and keeps the fault if the name was fetched.
     #[tactic(auto, using(std::proofs::lemmas::Map::Text::text_keys))]
     fn raise(&mut self, name: &str, fault: Option<FileFault>)
         ensures { (n : List ℕ) → count_of self.new n ≡ count_after true self.old name.now n }
@@ -165,7 +159,8 @@ impl<R: Files + AllocGlobal + Drop> FileShelf<R> {
         }
     }
 
-    /// Whether this name is that of a regular file, which may be read more than once. A pipe isn't.
+    /// Returns whether this name is that of a regular file, which can be read more than once. A
+    /// pipe isn't one.
     fn is_regular(&self, name: &str) -> bool {
         match fs::metadata(&self.rt, name) {
             Ok(metadata) => metadata.is_file(),
@@ -173,8 +168,8 @@ impl<R: Files + AllocGlobal + Drop> FileShelf<R> {
         }
     }
 
-    /// Opens the file of this name. Where it was fetched before, it is looked at first, and isn't
-    /// opened where it isn't a regular file.
+    /// Opens the file of this name. If the name was fetched before (`again`) and isn't that of a
+    /// regular file, nothing is opened.
     fn open(&self, name: String, again: bool) -> Result<FileSource<R::File>, Unopened>
         ensures named { IfOk result (λ s. name_of s ≡ string_bytes name) }
         ensures fresh { IfOk result (λ s. source_faults s ≡ 0) }
@@ -209,12 +204,12 @@ where
 
     ghost faults = { λ s n. count_of s n };
 
-    /// Opens the file of this name. Each error of the system is answered as `Failed`, which is counted, or as
-    /// `OutOfMemory` where the system says so. Where there is no memory to keep the name, nothing is
-    /// opened.
+    /// Opens the file of this name. An error of the system is counted and returned as `Failed`. An
+    /// error that means that memory ran out isn't counted and is returned as `OutOfMemory`. If
+    /// there is no memory to keep the name, nothing is opened.
     ///
-    /// A name that was fetched before is opened only where it is that of a regular file, and else
-    /// the answer is `Failed`: what another one gave is gone.
+    /// A name that was fetched before is opened only if it is that of a regular file. Otherwise the
+    /// result is `Failed`, because the contents can't be read again.
     fn fetch(&mut self, name: &str) -> Result<FileSource<R::File>, OpenFault>
         ensures named { IfOk result (λ s. name_of s ≡ name.now) }
         ensures fresh { IfOk result (λ s. source_faults s ≡ 0) }
@@ -222,7 +217,7 @@ where
         ensures failed { IsErrOf result OpenFault.Failed
             → Rose (count_of self.old name.now) (count_of self.new name.now) }
 
-        // No other name's count changes.
+        // The count of no other name changes.
         ensures counts { (n : List ℕ) → count_of self.new n
             ≡ raised_if (has_failed result && bytes_eq name.now n) (count_of self.old n) }
     {
@@ -238,7 +233,7 @@ where
         }
     }
 
-    /// Counts a fault of the source's name where a read of the source has failed.
+    /// Counts a fault of the source's name if a read of the source has failed.
     fn give_back(&mut self, source: FileSource<R::File>)
         ensures raised { 0 < source_faults source
             → Rose (count_of self.old (name_of source)) (count_of self.new (name_of source)) }
@@ -251,20 +246,10 @@ where
             self.raise(source.name.as_str(), source.fault);
         }
     }
-
-    /// Counts a fault of this name.
-    fn note_change(&mut self, name: &str)
-        ensures raised { Rose (count_of self.old name.now) (count_of self.new name.now) }
-        ensures later { (n : List ℕ) → count_of self.old n ≤ count_of self.new n }
-
-        ensures counts { (n : List ℕ) → count_of self.new n ≡ count_after true self.old name.now n }
-    {
-        self.raise(name, Some(FileFault::Changed));
-    }
 }
 
 impl<F: Read + Send + Drop> Source for FileSource<F> {
-    ghost use Rattle.timing_outside.specs.Files.{source_faults, name_of};
+    ghost use Rattle.timing_outside.specs.Files.{file_of, source_faults, name_of};
 
     ghost name = { λ s. name_of s };
 
@@ -278,6 +263,11 @@ impl<F: Read + Send + Drop> Source for FileSource<F> {
         ensures bound { ReadsAtMost result buf.new }
         ensures counts { source_faults self.new
             ≡ raised_if (is_err result) (source_faults self.old) }
+
+        // The bytes come off the front of what the file has left: none is skipped, none comes twice,
+        // and `Ok(0)` comes only at the end.
+        ensures file { ReadConsumes (F.remaining (file_of self.old)) (F.remaining (file_of self.new))
+            result buf.new }
     {
         match read_some(&mut self.file, buf) {
             Ok(count) => Ok(count),
@@ -290,9 +280,10 @@ impl<F: Read + Send + Drop> Source for FileSource<F> {
     }
 }
 
-/// Reads some of the bytes, and tries again where a signal came first.
+/// Reads some of the bytes. A read that a signal interrupts is tried again.
 fn read_some<F: Read>(file: &mut F, buf: &mut [u8]) -> io::Result<usize>
-    ensures { IfOk result (λ k. k ≤ length buf.new) }
+    ensures bound { ReadsAtMost result buf.new }
+    ensures bytes { ReadConsumes (F.remaining file.old) (F.remaining file.new) result buf.new }
 {
     for _ in 0..TRIES {
         match file.read(buf) {
@@ -303,83 +294,70 @@ fn read_some<F: Read>(file: &mut F, buf: &mut [u8]) -> io::Result<usize>
     Err(io::Error::from(ErrorKind::Interrupted))
 }
 
-impl Stream {
-    /// Writes some of the bytes, and tries again where a signal came first.
-    fn write(&self, bytes: &[u8]) -> io::Result<usize>
-        ensures { IfOk result (λ k. k ≤ length bytes.now) }
-    {
-        for _ in 0..TRIES {
-            let written = match self {
-                Stream::Out(stdout) => stdout.write_some(bytes),
-                Stream::Err(stderr) => stderr.write_some(bytes),
-            };
-            match written {
-                Err(error) if error.kind() == ErrorKind::Interrupted => {}
-                written => return written,
-            }
+/// Writes some of the bytes. A write that a signal interrupts is tried again.
+fn write_some<W: Write>(stream: &mut W, bytes: &[u8]) -> io::Result<usize>
+    ensures bound { IfOk result (λ k. k ≤ length bytes.now) }
+    ensures bytes { WriteAppends (W.contents stream.old) (W.contents stream.new) result bytes.now }
+{
+    for _ in 0..TRIES {
+        match stream.write(bytes) {
+            Err(error) if error.kind() == ErrorKind::Interrupted => {}
+            answer => return answer,
         }
-        Err(io::Error::from(ErrorKind::Interrupted))
     }
-
-    /// Writes some of the bytes, and waits where the stream has no room for any. `None` is an error.
-    fn write_some<C: Clock>(&self, clock: &C, bytes: &[u8]) -> Option<usize>
-        ensures { IfSome result (λ k. k ≤ length bytes.now) }
-    {
-        for _ in 0..u64::MAX {
-            match self.write(bytes) {
-                Ok(count) => return Some(count),
-                Err(error) if error.kind() == ErrorKind::WouldBlock => {
-                    thread::sleep(clock, Duration::from_millis(REST));
-                }
-                Err(_) => break,
-            }
-        }
-        None
-    }
+    Err(io::Error::from(ErrorKind::Interrupted))
 }
 
-impl<C: Clock + Drop> StdSink<C> {
-    ghost use Rattle.timing_outside.specs.Files.{sink_faults};
-
-    /// Standard output.
-    pub fn out(clock: C, stdout: Stdout) -> StdSink<C>
-        ensures { sink_faults result ≡ 0 }
-    {
-        StdSink {
-            clock,
-            stream: Stream::Out(stdout),
-            faults: 0,
+/// Writes some of the bytes. If the stream has no room, waits and tries again.
+fn write_waiting<C: Clock, W: Write>(clock: &C, stream: &mut W, bytes: &[u8]) -> io::Result<usize>
+    ensures bound { IfOk result (λ k. k ≤ length bytes.now) }
+    ensures bytes { WriteAppends (W.contents stream.old) (W.contents stream.new) result bytes.now }
+{
+    for _ in 0..u64::MAX {
+        match write_some(stream, bytes) {
+            Err(error) if error.kind() == ErrorKind::WouldBlock => {
+                thread::sleep(clock, Duration::from_millis(REST));
+            }
+            answer => return answer,
         }
     }
+    Err(io::Error::from(ErrorKind::WouldBlock))
+}
 
-    /// Standard error.
-    pub fn err(clock: C, stderr: Stderr) -> StdSink<C>
-        ensures { sink_faults result ≡ 0 }
+impl<C: Clock + Drop, W: Write + Drop> StdSink<C, W> {
+    ghost use Rattle.timing_outside.specs.Files.{sink_faults, stream_of};
+
+    /// Returns the sink of this stream.
+    pub fn new(clock: C, stream: W) -> StdSink<C, W>
+        ensures faults { sink_faults result ≡ 0 }
+        ensures stream { stream_of result ≡ stream }
     {
         StdSink {
             clock,
-            stream: Stream::Err(stderr),
+            stream,
             faults: 0,
         }
     }
 }
 
-impl<C: Clock + Drop> Sink for StdSink<C> {
-    ghost use Rattle.timing_outside.specs.Files.{sink_faults};
+impl<C: Clock + Drop, W: Write + Drop> Sink for StdSink<C, W> {
+    ghost use Rattle.timing_outside.specs.Files.{sink_faults, stream_of};
 
-    ghost written = { λ _. None };
+    ghost written = { λ s. W.contents (stream_of s) };
 
     ghost faults = { λ s. sink_faults s };
 
     /// Writes some of the bytes. A write that a signal interrupts is tried again, up to 1,000
-    /// tries; one for which the stream has no room is tried until it has.
+    /// tries. If the stream has no room, the write is tried again until it has.
     fn write(&mut self, bytes: &[u8]) -> Result<usize, Failed>
         ensures bound { IfOk result (λ k. k ≤ length bytes.now) }
         ensures some { IfOk result (λ k. 0 < length bytes.now → 0 < k) }
+        ensures bytes { WriteAppends (W.contents (stream_of self.old)) (W.contents (stream_of self.new))
+            result bytes.now }
         ensures counts { sink_faults self.new ≡ raised_if (is_err result) (sink_faults self.old) }
     {
-        match self.stream.write_some(&self.clock, bytes) {
-            Some(count) if count > 0 || bytes.is_empty() => Ok(count),
+        match write_waiting(&self.clock, &mut self.stream, bytes) {
+            Ok(count) if count > 0 || bytes.is_empty() => Ok(count),
             _ => {
                 self.faults = self.faults.saturating_add(1);
                 Err(Failed)

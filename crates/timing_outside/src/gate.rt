@@ -1,15 +1,15 @@
-//! Where threads may be held.
+//! Gates, at which a test can hold threads.
 
 use std::sync::Wait;
 
-/// A place where a thread may be held, so that a test can see that threads run beside each other.
+/// A gate: a place at which a thread can be held, so that a test can make threads overlap.
 pub trait Gate: Sync {
-    /// Lets the thread with this number through, at once or later. Nothing is promised of it: it
-    /// may wait for other threads, and need not return. The caller chooses the numbers.
+    /// Lets the thread with this number pass, at once or later. The caller chooses the numbers. Not
+    /// guaranteed: that the call returns. It may wait for other threads.
     fn meet<R: Wait>(&self, rt: &R, who: u64);
 }
 
-/// A gate that is always open: each thread passes at once.
+/// A gate that is always open. Each thread passes at once.
 #[derive(Clone, Copy, Debug)]
 pub struct NoGate;
 

@@ -1,9 +1,9 @@
-//! What the analyser reads from and writes to: sources of bytes, shelves of named texts, sinks, and
-//! the gate at which threads may be held.
+//! The inputs and outputs of the analyser: sources of bytes, shelves that open inputs by name,
+//! sinks, and the gate at which a test can hold threads.
 //!
-//! A trait's ghost members say what its values mean: a name, the bytes that are left or written,
-//! where they are told, and a count of faults that never falls. A call fails only where that count
-//! rises.
+//! The ghost members of a trait state the meaning of its values: a name, the bytes that are left or
+//! written if they are known, and a count of faults that never decreases. A call returns `Failed`
+//! only if that count rose.
 #![tactic(auto)]
 
 mod files;

@@ -1,4 +1,4 @@
-//! Texts in memory that fail by plan.
+//! Contents in memory that fail by plan.
 ghost use Rattle.std.specs.Prelude.{◌≡◌, ◌≤◌, ◌<◌, ◌^◌, ◌&&◌, ◌↔◌, ℕ, List, Bool, true, cond, is_ok, Option, Some, None, IfOk, IsErrOf, string_bytes, nat_lt};
 ghost use Rattle.std.specs.Str.{bytes_eq};
 ghost use Rattle.timing_outside.specs.Causes.{Rose};
@@ -10,7 +10,7 @@ use crate::shelf::{OpenFault, Shelf};
 use std::alloc::{AllocError as OutOfMemory, Global};
 use std::collections::BTreeMap;
 
-/// A text that a `MemoryShelf` has.
+/// The contents of one name, its plan and its count of faults.
 #[derive(Drop)]
 pub(crate) struct Entry {
     bytes: Vec<u8>,
@@ -19,9 +19,9 @@ pub(crate) struct Entry {
     ghost within: { faults < 2 ^ 64 },
 }
 
-/// Texts in memory by name, each with a plan of what fails.
+/// Contents in memory by name, each with a plan of what fails.
 ///
-/// A name that is there has a count of faults of its own. The names that aren't there share one.
+/// Each name that is there has a count of faults of its own. All other names share one count.
 #[derive(Drop)]
 pub struct MemoryShelf {
     alloc: Global,
@@ -32,7 +32,7 @@ pub struct MemoryShelf {
 impl MemoryShelf {
     ghost use Rattle.timing_outside.specs.MemoryShelves.{bytes_of, plan_of, count_of, count_after, FetchFails, IsOpened};
 
-    /// A shelf without a text, of which nothing has failed.
+    /// Returns an empty shelf without faults.
     pub fn new(alloc: Global) -> MemoryShelf
         ensures texts { (n : List ℕ) → bytes_of result n ≡ None }
         ensures plans { (n : List ℕ) → plan_of result n ≡ None }
@@ -45,8 +45,9 @@ impl MemoryShelf {
         }
     }
 
-    /// Puts a text on the shelf, in the place of one of the same name. A refused put changes
-    /// nothing. No count changes: a new name begins with the count of the names that aren't there.
+    /// Puts contents on the shelf under this name, in place of any that were there. Returns `Err`
+    /// if memory runs out; then nothing has changed. No count changes: a new name starts with the
+    /// count of the names that aren't there.
     #[tactic(auto, using(std::proofs::lemmas::Map::Text::text_keys))]
     pub fn put(&mut self, name: String, bytes: Vec<u8>, plan: ReadPlan) -> Result<(), OutOfMemory>
         ensures texts { (n : List ℕ) → bytes_of self.new n
@@ -69,7 +70,7 @@ impl MemoryShelf {
         Ok(())
     }
 
-    /// How often this name has failed.
+    /// Returns the number of faults of this name.
     fn faults_of(&self, name: &str) -> u64
         ensures { result ≡ count_of self.now name.now }
     {
@@ -92,7 +93,7 @@ impl MemoryShelf {
         }
     }
 
-    /// A source of the text of this name, where it can be fetched.
+    /// Returns a source of the contents of this name, if it can be fetched.
     fn open(&self, name: &str) -> Result<MemorySource, OpenFault>
         ensures opened { IfOk result (λ s. IsOpened s self.now name.now) }
         ensures exact { IsErrOf result OpenFault.Failed ↔ FetchFails self.now name.now }
@@ -118,7 +119,8 @@ impl Shelf for MemoryShelf {
 
     ghost faults = { λ s n. count_of s n };
 
-    /// Fails exactly where the name isn't there or its plan says so.
+    /// Returns a source with a copy of the contents. Returns `Failed`, and counts that, exactly if
+    /// the name isn't there or its plan has the fetch fail.
     fn fetch(&mut self, name: &str) -> Result<MemorySource, OpenFault>
         ensures named { IfOk result (λ s. name_of s ≡ name.now) }
         ensures whole { IfOk result (λ s. Some (left_of s) ≡ bytes_of self.old name.now) }
@@ -143,7 +145,7 @@ impl Shelf for MemoryShelf {
         opened
     }
 
-    /// Counts a fault of the source's name where a read of the source has failed.
+    /// Counts a fault of the source's name if a read of the source has failed.
     fn give_back(&mut self, source: MemorySource)
         ensures raised { 0 < faults_of source
             → Rose (count_of self.old (name_of source)) (count_of self.new (name_of source)) }
@@ -158,18 +160,5 @@ impl Shelf for MemoryShelf {
         if source.has_failed() {
             self.raise(source.name());
         }
-    }
-
-    /// Counts a fault of this name.
-    fn note_change(&mut self, name: &str)
-        ensures raised { Rose (count_of self.old name.now) (count_of self.new name.now) }
-        ensures lacks { (n : List ℕ) → plan_of self.old n ≡ None → plan_of self.new n ≡ None }
-        ensures texts { (n : List ℕ) → bytes_of self.new n ≡ bytes_of self.old n }
-        ensures later { (n : List ℕ) → count_of self.old n ≤ count_of self.new n }
-
-        ensures plans { (n : List ℕ) → plan_of self.new n ≡ plan_of self.old n }
-        ensures counts { (n : List ℕ) → count_of self.new n ≡ count_after true self.old name.now n }
-    {
-        self.raise(name);
     }
 }

@@ -8,7 +8,7 @@ use crate::sink::Sink;
 use crate::source::Failed;
 use std::alloc::{AllocError as OutOfMemory, Global};
 
-/// A sink that keeps what is written to it. It takes its memory when it is made.
+/// A sink that keeps the bytes written to it. All its memory is allocated when it is made.
 #[derive(Drop)]
 pub struct MemorySink {
     bytes: Vec<u8>,
@@ -24,8 +24,8 @@ pub struct MemorySink {
 impl MemorySink {
     ghost use Rattle.timing_outside.specs.MemorySinks.{bytes_of, room_of, piece_of, fails_of, IsNew, SameCounts};
 
-    /// A sink with room for this many bytes, of which no write fails by plan and of which a write
-    /// takes what fits.
+    /// Returns a sink with room for this many bytes. It fails only if it is full, and a write takes
+    /// all bytes that fit. Returns `Err` if memory runs out.
     pub fn new(alloc: Global, room: u64) -> Result<MemorySink, OutOfMemory>
         ensures new { IfOk result (λ s. IsNew s room) }
         ensures bytes { IfOk result (λ s. bytes_of s ≡ []) }
@@ -35,7 +35,8 @@ impl MemorySink {
         MemorySink::made(alloc, room, usize::MAX, Vec::new(alloc))
     }
 
-    /// A sink with room for this many bytes, whose writes follow the plan.
+    /// Returns a sink with room for this many bytes. Its writes fail by this plan. Returns `Err` if
+    /// memory runs out.
     pub fn with_plan(alloc: Global, room: u64, plan: WritePlan) -> Result<MemorySink, OutOfMemory>
         ensures new { IfOk result (λ s. IsNew s room) }
         ensures bytes { IfOk result (λ s. bytes_of s ≡ []) }
@@ -45,6 +46,7 @@ impl MemorySink {
         MemorySink::made(alloc, room, plan.piece as usize, plan.fails)
     }
 
+    /// Returns an empty sink with this room, piece and plan. Returns `Err` if memory runs out.
     fn made(
         alloc: Global,
         room: u64,
@@ -68,14 +70,14 @@ impl MemorySink {
         })
     }
 
-    /// What was written.
+    /// Returns the bytes that were written.
     pub fn bytes(&self) -> &[u8]
         ensures { result.now ≡ bytes_of self.now }
     {
         &self.bytes
     }
 
-    /// Appends a piece for which there is room.
+    /// Appends bytes that fit into the room.
     fn append(&mut self, piece: &[u8])
         requires { length piece.now ≤ room_of self.old }
         ensures bytes { bytes_of self.new ≡ bytes_of self.old ++ piece.now }
@@ -94,8 +96,8 @@ impl Sink for MemorySink {
 
     ghost faults = { λ s. faults_of s };
 
-    /// Fails exactly where the piece isn't empty and either its number is in the plan or no room is
-    /// left. Else it takes as many bytes as the plan's piece and the room allow.
+    /// Appends as many bytes as the plan and the room allow. Returns `Failed` exactly if there is a
+    /// byte to write and either the number of this write is in the plan or there is no room.
     fn write(&mut self, bytes: &[u8]) -> Result<usize, Failed>
         ensures bound { IfOk result (λ k. k ≤ length bytes.now) }
         ensures some { IfOk result (λ k. 0 < length bytes.now → 0 < k) }

@@ -1,4 +1,4 @@
-//! What a text of a `MemoryShelf` is read from.
+//! The source of contents that were fetched from a `MemoryShelf`.
 ghost use Rattle.std.specs.Prelude.{◌≡◌, ◌≤◌, ◌<◌, length, min, Some, IfOk, is_err, nat_lt};
 ghost use Rattle.std.specs.Io.{ReadsAtMost};
 ghost use Rattle.std.specs.Io.KnownBytes.{ReadConsumes};
@@ -10,7 +10,7 @@ use crate::source::{Failed, Source};
 use crate::text::Text;
 use std::alloc::{AllocError as OutOfMemory, Global};
 
-/// A text that was fetched from a `MemoryShelf`: a copy of its bytes, and the plan of its reads.
+/// Contents that were fetched from a `MemoryShelf`: a copy of the bytes, and the plan of the reads.
 #[derive(Drop)]
 pub struct MemorySource {
     name: String,
@@ -25,7 +25,8 @@ pub struct MemorySource {
 impl MemorySource {
     ghost use Rattle.timing_outside.specs.MemorySources.{name_of, faults_of, Begins, Follows};
 
-    /// A source at the start of a copy of these bytes, read by a copy of this plan.
+    /// Returns a source at the start of a copy of these bytes, with a copy of this plan. Returns
+    /// `Err` if memory runs out.
     pub(crate) fn copy(
         alloc: Global,
         name: &str,
@@ -45,14 +46,14 @@ impl MemorySource {
         })
     }
 
-    /// The name under which it was fetched.
+    /// Returns the name under which it was fetched.
     pub(crate) fn name(&self) -> &str
         ensures { result.now ≡ name_of self.now }
     {
         self.name.as_str()
     }
 
-    /// Whether a read has failed.
+    /// Returns whether a read has failed.
     pub(crate) fn has_failed(&self) -> bool
         ensures { result ≡ nat_lt 0 (faults_of self.now) }
     {
@@ -69,8 +70,8 @@ impl Source for MemorySource {
 
     ghost faults = { λ s. faults_of s };
 
-    /// Fails exactly where the number of this read is in the plan. Any other read gives as many
-    /// bytes as the buffer, the plan's piece and the rest allow.
+    /// Reads as many bytes as the buffer, the plan and the rest allow. Returns `Failed` exactly if
+    /// the number of this read is in the plan.
     fn read(&mut self, buf: &mut [u8]) -> Result<usize, Failed>
         ensures same_name { name_of self.new ≡ name_of self.old }
         ensures bound { ReadsAtMost result buf.new }

@@ -1,4 +1,4 @@
-//! What texts are fetched from by their names.
+//! Shelves, which open inputs by name.
 ghost use Rattle.std.specs.Prelude.{◌≡◌, ◌≤◌, ◌<◌, List, ℕ, Option, None, IfOk, IsErrOf};
 ghost use Rattle.timing_outside.specs.Causes.{Rose};
 ghost use Rattle.timing_outside.specs.Shelves.{StaysAs};
@@ -6,10 +6,10 @@ ghost use Rattle.timing_outside.specs.Shelves.{StaysAs};
 use crate::source::Source;
 use std::alloc::AllocError as OutOfMemory;
 
-/// Why a text could not be fetched.
+/// The reason why a name couldn't be fetched.
 #[derive(Clone, Copy, Debug, PartialEq, Eq)]
 pub enum OpenFault {
-    /// The outside failed, or has no text of this name.
+    /// The input couldn't be opened, or there is none of this name.
     Failed,
     /// Memory ran out.
     OutOfMemory,
@@ -25,27 +25,27 @@ impl From<OutOfMemory> for OpenFault {
     }
 }
 
-/// Texts by name.
+/// Contents that are opened by name.
 pub trait Shelf {
-    /// What a fetched text is read from.
+    /// The source that the fetched contents are read from.
     type Source: Source;
 
-    /// The text of a name, where told.
+    /// The contents of a name, if they are known.
     ghost text: { Self → List ℕ → Option (List ℕ) };
 
-    /// The shelf says that it has no text of this name.
+    /// The shelf states that there is no such name.
     ghost lacks: { Self → List ℕ → Type 0 };
 
-    /// How often this name has failed. It never falls, and one at the end of 64 bits counts as
+    /// The number of faults of a name. It never decreases; at the end of 64 bits it counts as
     /// risen.
     ghost faults: { Self → List ℕ → ℕ };
 
-    /// A source at the start of the text of this name, of which no read has failed. Fetching a name
-    /// again gives the same text where it is told; where it isn't, the text may have changed.
+    /// Opens the contents of a name, and returns a source at their start of which no read has
+    /// failed. A name may be fetched again. Known contents don't change in between; others may.
     ///
-    /// `Failed` comes only where the count of this name rose, and of a name that the shelf says it
-    /// lacks it is the answer; no count is tied to `OutOfMemory`. After either the texts are as they
-    /// were.
+    /// Returns `Failed` only if the count of this name rose, and always for a name that the shelf
+    /// states isn't there. Returns `OutOfMemory` if memory runs out; the count may stay as it was.
+    /// After either error the contents are unchanged.
     fn fetch(&mut self, name: &str) -> Result<Self::Source, OpenFault>
         ensures named { IfOk result (λ s. Self.Source.name s ≡ name.now) }
         ensures whole { IfOk result (λ s. Self.Source.left s ≡ text self.old name.now) }
@@ -55,19 +55,11 @@ pub trait Shelf {
         ensures failed { IsErrOf result OpenFault.Failed
             → Rose (faults self.old name.now) (faults self.new name.now) };
 
-    /// Takes a source back. Where a read of it has failed, the count of its name rises. The texts
-    /// stay as they were.
+    /// Takes a source back. If a read of it has failed, the count of its name rises. The contents
+    /// are unchanged.
     fn give_back(&mut self, source: Self::Source)
         ensures raised { 0 < Self.Source.faults source
             → Rose (faults self.old (Self.Source.name source))
             (faults self.new (Self.Source.name source)) }
-        ensures stays { StaysAs text lacks faults self.old self.new };
-
-    /// Takes note that a second reading of this name gave another text than the first. Its count
-    /// rises where the shelf doesn't tell its text; a text that is told is the same at each fetch. The
-    /// texts stay as they were.
-    fn note_change(&mut self, name: &str)
-        ensures raised { text self.old name.now ≡ None
-            → Rose (faults self.old name.now) (faults self.new name.now) }
         ensures stays { StaysAs text lacks faults self.old self.new };
 }

@@ -1,4 +1,4 @@
-//! What bytes are written to, and the writing of a whole text.
+//! Sinks, which bytes are written to.
 ghost use Rattle.std.specs.Prelude.{◌≡◌, ◌≤◌, ◌<◌, List, ℕ, Option, IfOk, OnErr, length, take};
 ghost use Rattle.std.specs.Io.KnownBytes.{WriteAppends};
 ghost use Rattle.timing_outside.specs.Causes.{HasCause};
@@ -6,17 +6,18 @@ ghost use Rattle.timing_outside.specs.Written.{PutsAll};
 
 use crate::source::Failed;
 
-/// What bytes are written to.
+/// An output of bytes.
 pub trait Sink {
-    /// The bytes written so far, where told.
+    /// The bytes written so far, if they are known.
     ghost written: { Self → Option (List ℕ) };
 
-    /// How often a write has failed. It never falls, and one at the end of 64 bits counts as risen.
+    /// The number of writes that failed. It never decreases; at the end of 64 bits it counts as
+    /// risen.
     ghost faults: { Self → ℕ };
 
-    /// Appends the first bytes of `bytes`, as many as it answers: at least one, where there is one.
+    /// Appends the first bytes of `bytes`, at least one if there is one, and returns their number.
     ///
-    /// `Failed` comes only where the count of faults rose. Then nothing was appended, and the same
+    /// Returns `Failed` only if the count of faults rose. Then nothing was appended, and the same
     /// bytes may be written again.
     fn write(&mut self, bytes: &[u8]) -> Result<usize, Failed>
         ensures bound { IfOk result (λ k. k ≤ length bytes.now) }
@@ -25,10 +26,10 @@ pub trait Sink {
         ensures cause { HasCause (faults self.old) (faults self.new) result };
 }
 
-/// Writes all of `bytes`, in as many pieces as the sink takes. Takes no memory of its own.
+/// Writes all of `bytes`, in as many writes as the sink needs. Allocates nothing.
 ///
-/// `Failed` comes only where the sink's count of faults rose. Then a front of the bytes that isn't
-/// the whole was appended; so a text without a byte never fails.
+/// Returns `Failed` only if the sink's count of faults rose. Then a prefix that is shorter than
+/// `bytes` was appended. A call without bytes never fails.
 pub fn put_all<K: Sink>(out: &mut K, bytes: &[u8]) -> Result<(), Failed>
     ensures bytes { PutsAll (K.written out.old) (K.written out.new) result bytes.now }
     ensures cause { HasCause (K.faults out.old) (K.faults out.new) result }

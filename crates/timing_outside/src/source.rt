@@ -1,30 +1,30 @@
-//! What bytes are read from.
+//! Sources, which bytes are read from.
 ghost use Rattle.std.specs.Prelude.{◌≡◌, ◌≤◌, List, ℕ, Option};
 ghost use Rattle.std.specs.Io.{ReadsAtMost};
 ghost use Rattle.std.specs.Io.KnownBytes.{ReadConsumes};
 ghost use Rattle.timing_outside.specs.Causes.{HasCause};
 
-/// A read, a fetch or a write failed.
+/// The error of a read or write that failed.
 #[derive(Clone, Copy, Debug, PartialEq, Eq)]
 pub struct Failed;
 
-/// Bytes that come in pieces, under a name.
+/// An input with a name, which is read in pieces.
 pub trait Source: Send + Drop {
-    /// The bytes of the name, which no read changes.
+    /// The bytes of the name, which a read doesn't change.
     ghost name: { Self → List ℕ };
 
-    /// The bytes that are left, where told.
+    /// The bytes that are left, if they are known.
     ghost left: { Self → Option (List ℕ) };
 
-    /// How often a read has failed. It never falls, and one at the end of 64 bits counts as risen.
+    /// The number of reads that failed. It never decreases; at the end of 64 bits it counts as
+    /// risen.
     ghost faults: { Self → ℕ };
 
-    /// Gives the next bytes, as many as it answers, at the front of `buf`. `Ok(0)` into a buffer
-    /// that isn't empty is the end of the bytes; into an empty one it says nothing. Behind what it
-    /// gave, the buffer may hold anything.
+    /// Reads the next bytes into the start of `buf`, and returns their number. If `buf` isn't
+    /// empty, `Ok(0)` means the end of the input. The rest of `buf` may hold anything afterwards.
     ///
-    /// `Failed` comes only where the count of faults rose. Then no byte was taken, the whole buffer
-    /// may hold anything, and the next read begins at the same byte.
+    /// Returns `Failed` only if the count of faults rose. Then no byte was consumed, the whole of
+    /// `buf` may hold anything, and the next read begins at the same byte.
     fn read(&mut self, buf: &mut [u8]) -> Result<usize, Failed>
         ensures same_name { name self.new ≡ name self.old }
         ensures bound { ReadsAtMost result buf.new }

@@ -1,4 +1,4 @@
-//! Texts in memory that never fail.
+//! Contents in memory that never fail.
 ghost use Rattle.std.specs.Prelude.{◌≡◌, ◌≤◌, ◌<◌, ◌&&◌, ℕ, List, [], length, min, cond, is_ok, Some, IsOk, IfOk, IsErrOf, string_bytes};
 ghost use Rattle.std.specs.Str.{bytes_eq};
 ghost use Rattle.std.specs.Io.{ReadsAtMost};
@@ -11,15 +11,14 @@ use crate::text::Text;
 use std::alloc::{AllocError as OutOfMemory, Global};
 use std::collections::BTreeMap;
 
-/// Texts in memory by name. A name under which nothing was put has the empty text, and nothing
-/// fails.
+/// Contents in memory by name. A name that wasn't put has empty contents, and nothing fails.
 #[derive(Drop)]
 pub struct SteadyShelf {
     alloc: Global,
     entries: BTreeMap<String, Vec<u8>>,
 }
 
-/// A text that was fetched from a `SteadyShelf`: a copy of its bytes.
+/// Contents that were fetched from a `SteadyShelf`: a copy of the bytes.
 #[derive(Drop)]
 pub struct SteadySource {
     name: String,
@@ -29,7 +28,7 @@ pub struct SteadySource {
 impl SteadyShelf {
     ghost use Rattle.timing_outside.specs.SteadyShelves.{bytes_of};
 
-    /// A shelf on which every text is empty.
+    /// Returns a shelf on which the contents of every name are empty.
     pub fn new(alloc: Global) -> SteadyShelf
         ensures { (n : List ℕ) → bytes_of result n ≡ [] }
     {
@@ -39,8 +38,8 @@ impl SteadyShelf {
         }
     }
 
-    /// Puts a text on the shelf, in the place of one of the same name. A refused put changes
-    /// nothing.
+    /// Puts contents on the shelf under this name, in place of any that were there. Returns `Err`
+    /// if memory runs out; then nothing has changed.
     #[tactic(auto, using(std::proofs::lemmas::Map::Text::text_keys))]
     pub fn put(&mut self, name: String, bytes: Vec<u8>) -> Result<(), OutOfMemory>
         ensures { (n : List ℕ) → bytes_of self.new n
@@ -51,7 +50,7 @@ impl SteadyShelf {
         Ok(())
     }
 
-    /// A copy of the text of this name.
+    /// Returns a copy of the contents of this name. Returns `Err` if memory runs out.
     fn copy(&self, name: &str) -> Result<Vec<u8>, OutOfMemory>
         ensures { IfOk result (λ bytes. bytes.items ≡ bytes_of self.now name.now) }
     {
@@ -73,7 +72,7 @@ impl Shelf for SteadyShelf {
 
     ghost faults = { λ s n. 0 };
 
-    /// Never answers that the outside failed.
+    /// Returns a source with a copy of the contents. Never returns `Failed`.
     fn fetch(&mut self, name: &str) -> Result<SteadySource, OpenFault>
         ensures named { IfOk result (λ s. name_of s ≡ name.now) }
         ensures whole { IfOk result (λ s. left_of s ≡ bytes_of self.old name.now) }
@@ -87,12 +86,8 @@ impl Shelf for SteadyShelf {
         })
     }
 
+    /// Does nothing, because no read fails.
     fn give_back(&mut self, _source: SteadySource)
-        ensures { (n : List ℕ) → bytes_of self.new n ≡ bytes_of self.old n }
-    {}
-
-    /// Counts nothing: each fetch of a name gives the same text.
-    fn note_change(&mut self, _name: &str)
         ensures { (n : List ℕ) → bytes_of self.new n ≡ bytes_of self.old n }
     {}
 }
@@ -106,7 +101,7 @@ impl Source for SteadySource {
 
     ghost faults = { λ s. 0 };
 
-    /// Never fails, and gives as many bytes as the buffer and the rest allow.
+    /// Reads as many bytes as the buffer and the rest allow. Never fails.
     fn read(&mut self, buf: &mut [u8]) -> Result<usize, Failed>
         ensures same_name { name_of self.new ≡ name_of self.old }
         ensures bound { ReadsAtMost result buf.new }

@@ -1,7 +1,7 @@
-//! A text in memory that is handed out in pieces.
+//! Bytes in memory that are read in pieces.
 ghost use Rattle.std.specs.Prelude.{◌≡◌, ◌≤◌, ◌++◌, vec_len, length, min, take};
 
-/// The bytes of a text, and how many of them were given out.
+/// Bytes, and how many of them were read.
 #[derive(Drop)]
 pub struct Text {
     bytes: Vec<u8>,
@@ -12,15 +12,15 @@ pub struct Text {
 impl Text {
     ghost use Rattle.timing_outside.specs.Texts.{rest_of};
 
-    /// A text of which nothing was given out yet.
+    /// Returns these bytes, of which none was read.
     pub fn new(bytes: Vec<u8>) -> Text
         ensures { rest_of result ≡ bytes.items }
     {
         Text { bytes, at: 0 }
     }
 
-    /// Puts the next bytes at the front of `buf`: `most` of them, where there is room and so many
-    /// are left. Answers how many these are.
+    /// Copies the next bytes to the start of `buf`, at most `most` of them, and returns their
+    /// number.
     pub fn give(&mut self, most: usize, buf: &mut [u8]) -> usize
         ensures count { result ≡ min (min (length buf.old) most) (length (rest_of self.old)) }
         ensures bytes { rest_of self.old ≡ take result buf.new ++ rest_of self.new }

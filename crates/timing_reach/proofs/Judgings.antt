@@ -1,20 +1,26 @@
 -- A flow that is judged in one run: its markers, and its judged packets.
 use Rattle.std.proofs.Common.{◌≡◌, ◌≤◌, ◌+◌, ◌-◌, ℕ, Bool, true, false, if◌then◌else◌, nat_lt, List, length, map, take, drop, min, Option}
 use Rattle.std.proofs.Common.{Some, None, refl, arith, ap, ◌∙◌, sym, subst}
-use Rattle.std.specs.Prelude.{◌==◌, slice_index}
+use Rattle.std.specs.Prelude.{◌==◌, ◌++◌, slice_index, ⊤}
 use Rattle.std.proofs.lemmas.Bool.Decides.{nat_tests}
 use Rattle.std.proofs.lemmas.List.{length-drop, length-map, length-take}
+use Rattle.timing_base.specs.Captures.{Record}
 use Rattle.timing_base.specs.Flows.{FirstFault, cuts, first_fault, last_place, markers, packet}
 use Rattle.timing_base.specs.Judged.{FlowRun, FlowVerdict, JudgedRun, RunOutcome, absent, gap, head_len, in_one_run, in_runs, judged, judged_run}
 use Rattle.timing_base.specs.Judged.{no_whole_frame, refusal, refused, refused_or, run_outcome, runs, stamp_of, whole_frames}
 use Rattle.timing_base.specs.Media.{Media}
 use Rattle.timing_base.specs.Verdicts.{Judged}
+use Rattle.timing_base.specs.declared.key.FlowKey.{FlowKey}
 use Rattle.timing_base.specs.declared.packet.FlowPacket.{FlowPacket}
 use Rattle.timing_base.specs.declared.packet.PacketFault.{PacketFault}
 use Rattle.timing_base.specs.declared.packet.PacketFault.TheVariants.{Number}
 use Rattle.timing_base.specs.declared.row.Verdict.{Verdict}
 use Rattle.timing_base.specs.declared.row.Verdict.TheVariants as verdict
+use Rattle.fail_interval.specs.BankStands.{Judging}
+use Rattle.fail_interval.specs.Meterings.{Feeds}
 use Rattle.fail_interval.specs.Row.{judged_values, verdict_of}
+use Rattle.fail_interval.specs.Stands.{StandsFor}
+use Rattle.udp_rtp.specs.Flow.{flow}
 use Rattle.timing_reach.proofs.Gauges.{take-again}
 
 -- of one run
@@ -114,3 +120,11 @@ within-run packets tai run one =
       stamps_are = ap (λ n. map (stamp_of tai) (take n (drop run.head packets))) same ∙ ap (map (stamp_of tai)) (take-again k (drop run.head packets))
           ∙ sym stamps;
     }
+
+-- a judge without a meter takes the flow of a media
+abbrev pub JudgeTakes : Media → (old new : Judging) → List Record → Type 0
+JudgeTakes m old new items = Feeds {Past = Unit {0}} false (λ _ _ _ _ _ _. ⊤) (λ _ _ _ _ _ _. ⊤) m old new items
+
+pub judge-took : (m : Media) (key : FlowKey) (tai : ℕ) (old new : Judging) (items : List Record) (packets : List FlowPacket) → JudgeTakes m old new items
+    → StandsFor m key tai old.judge packets → StandsFor m key tai new.judge (packets ++ flow items m)
+judge-took m key tai old new items packets takes s = (takes tt key tai packets (record { judge_is = s; told = λ wanted. cc })).judge_is

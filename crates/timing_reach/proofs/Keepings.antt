@@ -1,12 +1,12 @@
 -- What is kept of a flow while it is judged, and the run that is judged of it.
-use Rattle.std.specs.Prelude.{IfOk, Result, Ok, Err, if◌then◌else◌, is_some}
+use Rattle.std.specs.Prelude.{if◌then◌else◌, is_some}
 use Rattle.std.proofs.Common.{◌≡◌, ◌≤◌, ℕ, Bool, true, false, List, [], ◌∷◌, ◌++◌, length, map, take, drop, All, Option, Some, None}
 use Rattle.std.proofs.Common.{refl, arith, ap, ap₂, ◌∙◌, sym, subst, append-nil, append_assoc}
 use Rattle.std.specs.Global.{Global}
 use Rattle.std.specs.List.{cons_option}
 use Rattle.std.specs.declared.vec.Vec.{Vec}
 use Rattle.std.proofs.lemmas.List.{drop-map, length-map, take-map}
-use Rattle.std.proofs.lemmas.List.Elements.{All-push}
+use Rattle.std.proofs.lemmas.List.Elements.{All-push, filter_map-append}
 use Rattle.std.proofs.lemmas.Nat.{mul-le}
 use Rattle.timing_base.specs.Captures.{IsStamp, Record}
 use Rattle.timing_base.specs.Grouped.{IsGrouped, IsGroupedVerdict}
@@ -24,13 +24,13 @@ use Rattle.timing_reach.specs.judged.Flows.{TakesIn}
 use Rattle.timing_reach.specs.ShapedAgain.{CanBeHeld}
 use Rattle.timing_reach.specs.Shapes.{flow_records}
 use Rattle.timing_reach.specs.shape.Keeping.{AreKept, Keeps, came_text, record_text, stamps_of}
-use Rattle.timing_reach.specs.shape.Readings.{IsKeptFlow, IsKeptIn, IsRead, IsReading, ReadsOn, count_read, flow-on, records-on}
+use Rattle.timing_reach.specs.shape.Readings.{IsKeptFlow, IsKeptIn, IsRead, IsReading, ReadsOn, count_read, records-on}
 use Rattle.timing_reach.specs.shape.Shaping.{CanShape, IsRunOf, in_tai, judged_stamps}
 use Rattle.timing_reach.specs.declared.shape.kept.Kept.{Kept}
 use Rattle.timing_reach.specs.declared.shape.kept.Kept.TheVariants.{Capture}
 use Rattle.timing_reach.specs.declared.shape.reading.KeptFlow.{KeptFlow}
 use Rattle.timing_reach.specs.declared.shape.reading.Reading.{Reading}
-use Rattle.timing_reach.proofs.Judgings.{judged-of, one-run, within-run}
+use Rattle.timing_reach.proofs.Judgings.{JudgeTakes, judge-took, judged-of, one-run, within-run}
 use Rattle.timing_reach.proofs.Packets.{flow-few, packet-of}
 
 -- the records of a capture, and one more
@@ -58,24 +58,24 @@ keeps-record at frame old was now e more = λ list records r came is h. by list 
         ∙ ap (λ l. file_head ++ l) (sym (came-more records r))
 
 -- a packet of the flow was passed to the judge, and is kept
-pub reads-packet : {T E : Type 0} (result : Result T E) (old new : Reading) (p : FlowPacket) (frame : List ℕ) → IsStamp p.at → length frame ≤ 262144
-    → ((m : Media) (key : FlowKey) (tai : ℕ) (packets : List FlowPacket) → StandsFor m key tai old.judge packets
-    → StandsFor m key tai new.judge (packets ++ p ∷ []))
-    → IfOk result (λ _. Keeps p.at frame old.packets new.packets)
-    → IfOk result (λ _. (m : Media) (r : Record) → flow_packet m r ≡ Some p → r.bytes ≡ frame → ReadsOn m old new (r ∷ []))
-reads-packet (Ok x) old new p frame stamp short feeds keeps = λ m r is carried key tai list items h.
+pub reads-packet : (old new : Reading) (p : FlowPacket) (frame : List ℕ) → IsStamp p.at → length frame ≤ 262144
+    → ((m : Media) (r : Record) → flow_packet m r ≡ Some p → r.bytes ≡ frame → JudgeTakes m old.judge new.judge (r ∷ []))
+    → Keeps p.at frame old.packets new.packets
+    → (m : Media) (r : Record) → flow_packet m r ≡ Some p → r.bytes ≡ frame
+    → ReadsOn m old new (r ∷ [])
+reads-packet old new p frame stamp short takes keeps = λ m r is carried key tai list items h.
     let of = packet-of m r p is in
     let came : r.stamp ≡ p.at = sym of.at in
     let here : CanBeHeld r = record { stamp = omega (arith, came, stamp); short = subst (λ b. length b ≤ 262144) (sym carried) short } in
     let records = records-on m items r (Some p) is in
     record {
-      judge = subst (StandsFor m key tai new.judge) (sym (flow-on m items r (Some p) is)) (feeds m key tai (flow items m) h.judge);
+      judge = subst (StandsFor m key tai new.judge.judge) (sym (filter_map-append (flow_packet m) items (r ∷ [])))
+          (judge-took m key tai old.judge new.judge (r ∷ []) (flow items m) (takes m r is carried) h.judge);
       packets = record {
         kept = subst (AreKept list new.packets) (sym records) (keeps list (flow_records m items) r came carried h.packets.kept);
         held = subst (All CanBeHeld) (sym records) (All-push CanBeHeld (flow_records m items) r h.packets.held here);
       };
     }
-reads-packet (Err e) old new p frame stamp short feeds keeps = tt
 
 -- the records of a text were read
 pub kept-in : (text : List ℕ) (m : Media) (key : FlowKey) (tai : ℕ) (list : Bool) (old new : Reading) (f : KeptFlow) → IsReading m key tai list old []

@@ -1,9 +1,8 @@
 pub mod Takings
 mod Markers
-mod Feedings
 pub mod Gauges
 pub mod Packets
-mod Judgings
+pub mod Judgings
 mod RunSizes
 pub mod SomeShape
 mod Judgments

@@ -1,6 +1,6 @@
 -- What the reading of a flow finds that is measured while it is judged.
-use Rattle.std.specs.Prelude.{IfErr, IfOk, IsSome, Result, Ok, Err, Option, Some, None}
-use Rattle.std.proofs.Common.{◌≡◌, ℕ, List, [], ◌∷◌, ◌++◌, refl, arith, ap, ◌∙◌, subst}
+use Rattle.std.specs.Prelude.{IfErr, IsSome, Result, Ok, Err, Option, Some, None}
+use Rattle.std.proofs.Common.{◌≡◌, ◌≤◌, ◌+◌, ℕ, List, [], ◌∷◌, refl, arith, ap, ◌∙◌, subst}
 use Rattle.timing_base.specs.Captures.{Record}
 use Rattle.timing_base.specs.Judged.{JudgedRun, in_one_run, judged, whole_frames}
 use Rattle.timing_base.specs.Media.{Media}
@@ -9,7 +9,7 @@ use Rattle.timing_base.specs.declared.key.FlowKey.{FlowKey}
 use Rattle.timing_base.specs.declared.packet.FlowPacket.{FlowPacket}
 use Rattle.timing_base.specs.declared.row.Verdict.{Verdict}
 use Rattle.timing_base.specs.declared.row.Verdict.TheVariants as verdict
-use Rattle.fail_interval.specs.Stands.{StandsFor}
+use Rattle.fail_interval.specs.Meterings.{HasRoom as JudgeHasRoom}
 use Rattle.pcap_reader.specs.Taken.{TakesFew}
 use Rattle.udp_rtp.specs.Flow.{flow, flow_packet}
 use Rattle.timing_report.specs.declared.status.Input.{Input}
@@ -19,26 +19,31 @@ use Rattle.timing_reach.specs.declared.steps.failure.Failure.TheVariants as fail
 use Rattle.timing_reach.specs.Asked.{HasWindow, OnRun, not_judged}
 use Rattle.timing_reach.specs.Windows.{HasLines}
 use Rattle.timing_reach.specs.judged.Flows.{TakesIn}
-use Rattle.timing_reach.specs.window.Gauging.{AreWindowsIn, Passes}
-use Rattle.timing_reach.specs.window.Readings.{HasWindows, IsMeasured, IsMeasuredIn, IsReading, ReadsOn}
+use Rattle.timing_reach.specs.window.Gauging.{AreWindowsIn, IsGauged, Passes, count_gauged}
+use Rattle.timing_reach.specs.window.Readings.{HasRoom, HasWindows, IsMeasured, IsMeasuredIn, IsReading, ReadsOn}
 use Rattle.timing_reach.specs.declared.window.reading.Measured.{Measured}
 use Rattle.timing_reach.specs.declared.window.reading.Reading.{Reading}
 use Rattle.timing_reach.specs.declared.window.windows.Windows.{Windows}
 use Rattle.timing_reach.proofs.Gauges.{one-packet}
-use Rattle.timing_reach.proofs.Judgings.{judged-of, run-of}
+use Rattle.timing_reach.proofs.Judgings.{JudgeTakes, judge-took, judged-of, run-of}
 use Rattle.timing_reach.proofs.Judgments.{not-run}
 use Rattle.timing_reach.proofs.RunSizes.{HasSize, RunHasSize, judged-size}
 
 -- a packet of the flow was passed to the judge and to the gauge
-pub reads-packet : {T E : Type 0} (result : Result T E) (old new : Reading) (p : FlowPacket) (frame : List ℕ)
-    → ((m : Media) (key : FlowKey) (tai : ℕ) (packets : List FlowPacket) → StandsFor m key tai old.judge packets
-    → StandsFor m key tai new.judge (packets ++ p ∷ []))
-    → IfOk result (λ _. Passes p old.gauge new.gauge)
-    → IfOk result (λ _. (m : Media) (r : Record) → flow_packet m r ≡ Some p → r.bytes ≡ frame → ReadsOn m old new (r ∷ []))
-reads-packet (Ok x) old new p frame feeds passes = λ m r is carried key tai packets h.
-    one-packet (IsReading m key tai new) packets (Some p) (flow_packet m r) is
-    (record { judge = feeds m key tai packets h.judge; gauge = passes m tai packets h.gauge })
-reads-packet (Err e) old new p frame feeds passes = tt
+pub reads-packet : (old new : Reading) (p : FlowPacket) (frame : List ℕ)
+    → ((m : Media) (r : Record) → flow_packet m r ≡ Some p → r.bytes ≡ frame → JudgeTakes m old.judge new.judge (r ∷ [])) → Passes p old.gauge new.gauge
+    → (m : Media) (r : Record) → flow_packet m r ≡ Some p → r.bytes ≡ frame
+    → ReadsOn m old new (r ∷ [])
+reads-packet old new p frame takes passes = λ m r is carried key tai packets h. record {
+  judge = judge-took m key tai old.judge new.judge (r ∷ []) packets (takes m r is carried) h.judge;
+  gauge = one-packet (IsGauged m tai new.gauge) packets (Some p) (flow_packet m r) is (passes m tai packets h.gauge);
+}
+
+-- room after a packet was passed to the judge and to the gauge
+pub room-on : (count : ℕ) (old new : Reading) → (JudgeHasRoom (count + 1) old.judge → JudgeHasRoom count new.judge)
+    → count_gauged new.gauge ≤ count_gauged old.gauge + 1 → HasRoom (count + 1) old
+    → HasRoom count new
+room-on count old new leaves kept room = record { judge = leaves room.judge; gauge = omega (arith, kept, room.gauge) }
 
 -- the windows of a flow that is judged in one run
 windows-of : (m : Media) (tai : ℕ) (packets : List FlowPacket) (x : Measured) (j : Judged) → IsMeasured m tai packets x → x.verdict ≡ verdict.Judged j

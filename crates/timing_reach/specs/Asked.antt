@@ -1,5 +1,5 @@
--- What the texts of the commands define that look deeper into one flow, in the order in which they are read: the
--- session description, and then a capture. This project's profile.
+-- The output and status of the commands on one flow, by the contents of their inputs, in the order in which these are
+-- read: the SDP, then a capture. This project's profile.
 use Rattle.std.specs.Prelude.{◌≡◌, ◌⊎◌, ◌^◌, ℕ, List, ◌++◌, slice_get, Option, Some, None, Result, Err, codes}
 use Rattle.timing_base.specs.Captures.{Record}
 use Rattle.timing_base.specs.Jobs.{FlowJob}
@@ -20,22 +20,22 @@ use Rattle.timing_reach.specs.declared.steps.failure.Failure.{Failure}
 use Rattle.timing_reach.specs.declared.steps.failure.Failure.TheVariants as failure
 use Rattle.timing_reach.specs.Windows.{HasLines}
 
--- of a media that the description hasn't
+-- the answer if the SDP doesn't have the media
 abbrev pub no_such_media : Answer
 no_such_media = record { text = codes "no such media\n"; status = status.NotAllJudged }
 
--- `not judged: VERDICT`, with the end of the line
+-- `not judged: VERDICT`, with the newline
 abbrev pub not_judged : Media → Verdict → Answer
 not_judged m verdict =
     record { text = codes "not judged: " ++ (verdict_text m verdict ++ codes "\n"); status = status.NotAllJudged }
 
--- a flow that is judged in one run leads on with it; of any other the verdict is told
+-- the answer for a flow that is judged in one run is `next` of that run; for any other flow it is the verdict
 abbrev pub OnRun : Media → (JudgedRun → Answer → Type 0) → FlowVerdict → Answer → Type 0
 OnRun m next (in_one_run (whole_frames run)) answer = next run answer
 OnRun m next verdict answer = answer ≡ not_judged m (verdict_of m verdict)
 
--- the answer on the flow of this media in a classic capture of this text; `tai` is in seconds, and what leads on with
--- the run has the records of the capture too
+-- the answer for the flow of this media in a classic capture with these contents; `tai` is in seconds, and `next` also
+-- gets the packet records of the capture
 pub record OnFlow (tai : ℕ) (m : Media) (next : List Record → JudgedRun → Answer → Type 0) (text : List ℕ)
     (answer : Answer) : Type 0 where
   pub items : List Record
@@ -43,28 +43,28 @@ pub record OnFlow (tai : ℕ) (m : Media) (next : List Record → JudgedRun → 
   pub records : Records text (2 ^ 40) items note
   pub on_run : OnRun m (next items) (judged (flow items m) m.pt tai) answer
 
--- the capture is read: that failed, as it does where the shelf lacks it, or what its text as a classic capture leads to
+-- the capture is read, as a classic capture; this fails if the shelf lacks it
 abbrev pub ReadsCapture : Inputs → Result Answer Failure → List ℕ → (List ℕ → Type 0) → Type 0
 ReadsCapture i outcome name next =
     ((outcome ≡ Err (failure.ReadFault (input.Capture 0))) × HasRisen i name)
     ⊎ (¬ i.lacks name × ((text : List ℕ) → i.texts name ≡ Some text → next (classic text)))
 
--- for a media that the description hasn't no capture is read; else the capture leads on
+-- if the SDP doesn't have the media, no capture is read; else the capture is read
 abbrev pub ReadsFlow : Inputs → Result Answer Failure → FlowJob → (Media → List ℕ → Answer → Type 0) → Option Media
     → Type 0
 ReadsFlow i outcome job next None = Gives outcome (λ answer. answer ≡ no_such_media)
 ReadsFlow i outcome job next (Some m) = ReadsCapture i outcome job.capture (λ text. Gives outcome (next m text))
 
--- the answer of `window` on the flow of this media, over a classic capture of this text
+-- the answer of `window` for the flow of this media, over a classic capture with these contents
 abbrev pub HasWindow : (tai : ℕ) → Media → (text : List ℕ) → Answer → Type 0
 HasWindow tai m text answer = OnFlow tai m (λ items. HasLines m) text answer
 
--- `window`: the description, then the capture
+-- `window` reads the SDP, then the capture
 abbrev pub FollowsWindow : FlowJob → Inputs → Result Answer Failure → Type 0
 FollowsWindow job i outcome = Yields outcome (ReadsSession i outcome job.sdp (λ media.
     ReadsFlow i outcome job (HasWindow job.tai) (slice_get media job.media)))
 
--- the count of the name of this input rose
+-- the count of faults of the name of this input rose
 abbrev pub FlowInputRose : FlowJob → Inputs → Input → Type 0
 FlowInputRose job i input.Sdp = HasRisen i job.sdp
 FlowInputRose job i input.Report = ⊥

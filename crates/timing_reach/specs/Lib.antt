@@ -1,4 +1,4 @@
--- what is promised
+-- the definitions that the public clauses cite
 pub mod Asked
 pub mod Windows
 pub mod Skewed
@@ -6,14 +6,14 @@ pub mod Scanned
 pub mod Shapes
 pub mod Shaped
 pub mod ShapedAgain
--- what is worked by hand
+-- the examples that are worked by hand
 pub mod Worked
 pub mod WorkedShapes
--- these only serve proofs
+-- these serve only the proofs
 pub mod judged
 pub mod window
 pub mod shape
 pub mod skew
 pub mod scan
--- what is promised of this module
+-- the definitions for the steps of all commands
 pub mod steps

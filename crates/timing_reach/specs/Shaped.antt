@@ -1,5 +1,5 @@
--- What the texts of `shape` define, in the order in which they are read: the session description, and then a capture.
--- This project's profile.
+-- The output and status of `shape`, by the contents of its inputs, in the order in which these are read: the SDP, then
+-- a capture. This project's profile.
 use Rattle.std.specs.Prelude.{ℕ, List, slice_get, Result}
 use Rattle.timing_base.specs.Jobs.{ShapeJob}
 use Rattle.timing_base.specs.Media.{Media}
@@ -8,11 +8,11 @@ use Rattle.timing_reach.specs.declared.steps.failure.Failure.{Failure}
 use Rattle.timing_reach.specs.Asked.{OnFlow, ReadsFlow}
 use Rattle.timing_reach.specs.Shapes.{HasShape}
 
--- the answer of `shape` on the flow of this media, over a capture of this text
+-- the answer of `shape` for the flow of this media, over a capture with these contents
 abbrev pub HasShapeIn : ShapeJob → Media → (text : List ℕ) → Answer → Type 0
 HasShapeIn job m text answer = OnFlow job.flow.tai m (HasShape job.list job.flow.tai job.kind m) text answer
 
--- `shape`: the description, then the capture
+-- `shape` reads the SDP, then the capture
 abbrev pub FollowsShape : ShapeJob → Inputs → Result Answer Failure → Type 0
 FollowsShape job i outcome = Yields outcome (ReadsSession i outcome job.flow.sdp (λ media.
     ReadsFlow i outcome job.flow (HasShapeIn job) (slice_get media job.flow.media)))

@@ -1,4 +1,5 @@
--- A capture that `shape` writes, read again with the same seconds. Stamps are in nanoseconds. This project's profile.
+-- A capture that `shape` wrote, read again with the same `--tai`. Capture timestamps are nanoseconds. This project's
+-- profile.
 use Rattle.std.specs.Prelude.{◌≡◌, ◌≤◌, ◌^◌, ℕ, List, length}
 use Rattle.timing_base.specs.Captures.{IsStamp, Record}
 use Rattle.timing_base.specs.Judged.{JudgedRun, in_one_run, judged, whole_frames}
@@ -7,16 +8,17 @@ use Rattle.timing_base.specs.declared.capture.FileNote.TheVariants.{End}
 use Rattle.pcap_reader.specs.Records.{Records}
 use Rattle.udp_rtp.specs.Flow.{flow}
 
--- a record as a capture can hold it (pcap-savefile(5)), of at most 262,144 bytes
+-- a packet record that a capture can have (pcap-savefile(5)): its timestamp fits, and it has at most 262,144 bytes
 pub record CanBeHeld (r : Record) : Type 0 where
   pub stamp : IsStamp r.stamp
   pub short : length r.bytes ≤ 262144
 
--- the run of the same groups, between the same packets, of which the judged ones came so
+-- the same run with other capture timestamps of the judged packets
 abbrev pub came_at : JudgedRun → (stamps : List ℕ) → JudgedRun
 came_at run stamps = record run { stamps = stamps }
 
--- a capture of this text is whole, and the flow of this media in it is judged in this one run; `tai` is in seconds
+-- a capture with these contents is whole, and the flow of this media in it is judged in this one run; `tai` is in
+-- seconds
 pub record IsJudgedAs (tai : ℕ) (m : Media) (text : List ℕ) (run : JudgedRun) : Type 0 where
   pub items : List Record
   pub records : Records text (2 ^ 40) items End

@@ -1,7 +1,7 @@
--- What `shape` prints of a flow that is judged in one run: its packets leave as a plan that is least at each packet has
--- it, so that neither the bucket nor the virtual receiver buffer of a sender type ever holds too many (SMPTE ST
--- 2110-21). It is a list of the delayed packets, or the flow as a capture file (pcap-savefile(5)). Stamps and
--- departures are in nanoseconds, and packets, judged ones and reads count from 0. This project's profile.
+-- The output of `shape` for a flow that is judged in one run. Its packets leave by the plan in which each leaves as
+-- early as in any plan that never overfills the leaky bucket or the virtual receiver buffer of a sender type (SMPTE ST
+-- 2110-21). The output is a list of the delayed packets, or the flow as a capture (pcap-savefile(5)). Capture
+-- timestamps and departures are nanoseconds. Packets, judged packets and reads count from 0. This project's profile.
 use Rattle.std.specs.Prelude.{◌≡◌, ◌⊎◌, ◌<◌, ◌≤◌, ◌+◌, ◌-◌, ◌*◌, ◌^◌, ℕ, Bool, true, false, nat_lt, max, if◌then◌else◌}
 use Rattle.std.specs.Prelude.{List, [], ◌∷◌, ◌++◌, length, take, slice_index, slice_index_or, is_some, codes}
 use Rattle.std.specs.Fmt.{decimal}
@@ -19,71 +19,72 @@ use Rattle.timing_report.specs.declared.status.Status.TheVariants as status
 use Rattle.timing_reach.specs.steps.Answers.{Answer}
 use Rattle.udp_rtp.specs.Flow.{flow_packet}
 
--- the instant of TAI from which on a capture, whose clock is `tai` seconds behind, has no stamp
+-- the first instant of TAI that a capture can't have as a timestamp if its clock is `tai` seconds behind, in
+-- nanoseconds
 abbrev pub end_of : (tai : ℕ) → ℕ
 end_of tai = (2 ^ 32 + tai) * 10 ^ 9
 
--- packets with these stamps leave so, as early as in any plan, and each before `end`
+-- packets with these capture timestamps leave at these instants: as early as in any plan, and all before `end`
 pub record LeaveInTime (m : Media) (n : ℕ) (kind : Kind) (end : ℕ) (stamps departures : List ℕ) : Type 0 where
   pub shaped : Shaped m n kind stamps departures
   pub in_time : (i : ℕ) → i < length departures → slice_index departures i < end
 
--- packet i is the first that no plan lets leave before `end`
+-- packet i is the first that leaves at `end` or later in every plan
 pub record IsLate (m : Media) (n : ℕ) (kind : Kind) (end : ℕ) (stamps : List ℕ) (i : ℕ) : Type 0 where
   pub within : i < length stamps
   pub departures : List ℕ
   pub before : LeaveInTime m n kind end (take i stamps) departures
   pub late : (others : List ℕ) → Plan m n kind (take (i + 1) stamps) others → end ≤ slice_index others i
 
--- by how much each packet is delayed
+-- the delay of each packet, in nanoseconds
 abbrev pub delays : (stamps departures : List ℕ) → List ℕ
 delays [] departures = []
 delays (a ∷ stamps) [] = []
 delays (a ∷ stamps) (d ∷ departures) = (d - a) ∷ delays stamps departures
 
--- the greatest of these, 0 where there is none
+-- the greatest of these delays; 0 without a packet
 abbrev pub greatest : List ℕ → ℕ
 greatest [] = 0
 greatest (d ∷ ds) = max d (greatest ds)
 
--- what holds a packet back
+-- the limit that holds a packet back
 abbrev pub bound_text : Bound → List ℕ
 bound_text Arrival = codes "nothing"
 bound_text (Bucket from) = codes "bucket from " ++ decimal from
 bound_text (Buffer read) = codes "read " ++ decimal read
 bound_text Order = codes "order"
 
--- `packet I delayed D ns by ..`, with the end of the line
+-- `packet I delayed D ns by ..`, with the newline
 abbrev pub delayed_line : (packet delay : ℕ) → Bound → List ℕ
 delayed_line packet delay bound =
     codes "packet " ++ (decimal packet ++ (codes " delayed "
     ++ (decimal delay ++ (codes " ns by " ++ (bound_text bound ++ codes "\n")))))
 
--- the line of a packet: none where nothing holds it back
+-- the line of a packet; empty if nothing holds it back
 abbrev pub packet_line : (packet delay : ℕ) → Bound → List ℕ
 packet_line packet delay Arrival = []
 packet_line packet delay (Bucket from) = delayed_line packet delay (Bucket from)
 packet_line packet delay (Buffer read) = delayed_line packet delay (Buffer read)
 packet_line packet delay Order = delayed_line packet delay Order
 
--- the lines of packets, the first of them with this number
+-- the lines of packets, the first of which has this number
 abbrev pub packet_lines : (packet : ℕ) → (delays : List ℕ) → List Bound → List ℕ
 packet_lines packet [] bounds = []
 packet_lines packet (d ∷ ds) [] = []
 packet_lines packet (d ∷ ds) (b ∷ bs) = packet_line packet d b ++ packet_lines (packet + 1) ds bs
 
--- `delayed X of P, greatest D ns`, with the end of the line
+-- `delayed X of P, greatest D ns`, with the newline
 abbrev pub delays_line : (delayed packets most : ℕ) → List ℕ
 delays_line delayed packets most =
     codes "delayed " ++ (decimal delayed ++ (codes " of "
     ++ (decimal packets ++ (codes ", greatest " ++ (decimal most ++ codes " ns\n")))))
 
--- what holds each packet back
+-- the limit that holds each packet back
 pub record AreBounds (m : Media) (n : ℕ) (kind : Kind) (stamps departures : List ℕ) (bounds : List Bound) : Type 0 where
   pub each : length bounds ≡ length stamps
   pub bound : (i : ℕ) → i < length stamps → BoundAt m n kind stamps departures i (slice_index_or bounds i Arrival)
 
--- the list of the delayed packets: a line for each, and the last line over all
+-- the list of the delayed packets: a line for each, and a last line for all
 pub record IsList (m : Media) (n : ℕ) (kind : Kind) (stamps departures : List ℕ) (text : List ℕ) : Type 0 where
   pub bounds : List Bound
   pub are : AreBounds m n kind stamps departures bounds
@@ -91,29 +92,29 @@ pub record IsList (m : Media) (n : ℕ) (kind : Kind) (stamps departures : List 
       ++ delays_line (count_by (nat_lt 0) (delays stamps departures)) (length (delays stamps departures))
       (greatest (delays stamps departures))
 
--- the records of a media's flow
+-- the packet records of the flow of a media
 abbrev pub flow_records : Media → List Record → List Record
 flow_records m items = filter (λ r. is_some (flow_packet m r)) items
 
--- when packet k of a flow leaves, which came at `stamp`, both as its capture has it: one before the judged packets as
--- it came, a judged one as planned, and one behind them no earlier than the last of them
+-- the departure of packet k of a flow as a timestamp of its capture. A packet before the judged ones keeps its own
+-- timestamp, a judged one leaves as planned, and one behind them leaves no earlier than the last of them.
 abbrev pub leaves_at : (tai head : ℕ) → (departures : List ℕ) → (k stamp : ℕ) → ℕ
 leaves_at tai head departures k stamp =
     if nat_lt k head then stamp
     else if nat_lt k (head + length departures) then slice_index departures (k - head) - tai * 10 ^ 9
     else max (stamp + tai * 10 ^ 9) (slice_index departures (length departures - 1)) - tai * 10 ^ 9
 
--- the records of packets that leave so, the first of them packet k
+-- the packet records of packets that leave at these instants, the first of which is packet k
 abbrev pub records_text : (leaves : ℕ → ℕ → ℕ) → (k : ℕ) → List Record → List ℕ
 records_text leaves k [] = []
 records_text leaves k (r ∷ rs) =
     record_head (leaves k r.stamp) (length r.bytes) ++ (r.bytes ++ records_text leaves (k + 1) rs)
 
--- the capture of a flow with these records, of whose packets the judged ones, behind `head` others, leave so
+-- the capture of a flow with these packet records; the judged packets, behind `head` others, leave at these instants
 abbrev pub shaped_capture : (tai head : ℕ) → (departures : List ℕ) → List Record → List ℕ
 shaped_capture tai head departures records = file_head ++ records_text (leaves_at tai head departures) 0 records
 
--- what is printed of packets that leave so: their list, or the capture
+-- the output for packets that leave at these instants: their list, or the capture
 abbrev pub Prints : (list : Bool) → (tai : ℕ) → Kind → Media → List Record → JudgedRun → (departures text : List ℕ)
     → Type 0
 Prints true tai kind m items run departures text = IsList m run.n kind run.stamps departures text
@@ -128,19 +129,19 @@ pub record HasPlan (list : Bool) (tai : ℕ) (kind : Kind) (m : Media) (items : 
   pub prints : Prints list tai kind m items run departures text
   pub answer_is : answer ≡ record { text = text; status = status.Pass }
 
--- `not shaped: packet I`, with the end of the line
+-- `not shaped: packet I`, with the newline
 abbrev pub not_shaped : (packet : ℕ) → Answer
 not_shaped packet = record {
   text = codes "not shaped: packet " ++ (decimal packet ++ codes "\n");
   status = status.NotAllJudged;
 }
 
--- some judged packet is late
+-- a judged packet is late
 pub record HasLate (tai : ℕ) (kind : Kind) (m : Media) (run : JudgedRun) (answer : Answer) : Type 0 where
   pub packet : ℕ
   pub late : IsLate m run.n kind (end_of tai) run.stamps packet
   pub answer_is : answer ≡ not_shaped packet
 
--- the answer on the judged packets of this video, in a capture of these records
+-- the answer for the judged packets of this media, in a capture with these packet records
 abbrev pub HasShape : (list : Bool) → (tai : ℕ) → Kind → Media → List Record → JudgedRun → Answer → Type 0
 HasShape list tai kind m items run answer = HasPlan list tai kind m items run answer ⊎ HasLate tai kind m run answer

@@ -1,7 +1,7 @@
--- What the texts of `skew` define, in the order in which they are read: the session description, and then one capture
--- or two. Two flows that carry the same packets by two paths (SMPTE ST 2022-7; RFC 7104) are compared: the first is of
--- the first capture, the second of the last. Captures and media count from 0, records from 1; skews are nanoseconds.
--- This project's profile.
+-- The output and status of `skew`, by the contents of its inputs, in the order in which these are read: the SDP, then
+-- one capture or two. Two flows that carry the same packets on two paths (SMPTE ST 2022-7; RFC 7104) are compared. The
+-- first flow is in the first capture, the second in the last. Captures and media count from 0, packet records from 1;
+-- skews are nanoseconds. This project's profile.
 use Rattle.std.specs.Prelude.{◌≡◌, ◌+◌, ◌-◌, ◌==◌, ◌||◌, if◌then◌else◌, ℕ, Bool, List, [], ◌++◌, length, slice_get}
 use Rattle.std.specs.Prelude.{slice_index_or, Option, Some, None, Result, codes}
 use Rattle.std.specs.Fmt.{decimal, signed_decimal}
@@ -26,20 +26,20 @@ use Rattle.timing_reach.specs.steps.Answers.{Yields}
 use Rattle.timing_reach.specs.declared.steps.failure.Failure.{Failure}
 use Rattle.timing_reach.specs.Asked.{no_such_media}
 
--- `pair 1.A F.B: `, F the number of captures
+-- `pair 1.A F.B: `; F is the number of captures
 abbrev pub pair_head : SkewJob → List ℕ
 pair_head job = codes "pair 1." ++ (decimal (job.media + 1)
     ++ (codes " " ++ (decimal (length job.captures) ++ (codes "."
     ++ (decimal (job.pair + 1) ++ codes ": ")))))
 
--- `matched M, first only X, second only Y, repeated Z, unread U`, with the end of the line
+-- `matched M, first only X, second only Y, repeated Z, unread U`, with the newline
 abbrev pub counts_text : SkewRow → List ℕ
 counts_text row = codes "matched " ++ (decimal row.matched
     ++ (codes ", first only " ++ (decimal row.first_only ++ (codes ", second only "
     ++ (decimal row.second_only ++ (codes ", repeated " ++ (decimal row.repeated
     ++ (codes ", unread " ++ (decimal row.unread ++ codes "\n")))))))))
 
--- `WORD D ns at records R and T`, with the end of the line; nothing where no number is matched
+-- `WORD D ns at records R and T`, with the newline; empty if no number is matched
 abbrev pub extreme_line : List ℕ → Option Extreme → List ℕ
 extreme_line word None = []
 extreme_line word (Some e) =
@@ -51,44 +51,46 @@ abbrev pub row_text : SkewJob → SkewRow → List ℕ
 row_text job row = pair_head job ++ (counts_text row ++ (extreme_line (codes "least") row.least
     ++ extreme_line (codes "greatest") row.greatest))
 
--- 4 where no number is matched, or a capture was refused for its bytes; else 0
+-- 4 if no number is matched, or a capture was refused as malformed; else 0
 abbrev pub skew_status : (refused : Bool) → SkewRow → Status
 skew_status refused row = if (row.matched == 0) || refused then status.NotAllJudged else status.Pass
 
--- the answer on captures that end so and flows that compare so: a line for each capture, and the lines of the pair
+-- the answer for captures that end in these ways and this comparison: a line for each capture, and the lines of the
+-- pair
 abbrev pub skewed : SkewJob → List FileNote → SkewRow → Answer
 skewed job notes row = record {
   text = text_of_lines (files_lines 0 job.captures notes) ++ row_text job row;
   status = skew_status (list_any is_refused notes) row;
 }
 
--- the first and the last of some captures
+-- the packet records of the first capture
 abbrev pub first_of : List (List Record) → List Record
 first_of files = slice_index_or files 0 []
 
+-- the packet records of the last capture
 abbrev pub last_of : List (List Record) → List Record
 last_of files = slice_index_or files (length files - 1) []
 
--- the answer of `skew` on these two media, over captures of these texts
+-- the answer of `skew` for these two media, over captures with these contents
 pub record HasSkew (job : SkewJob) (a b : Media) (texts : List (List ℕ)) (answer : Answer) : Type 0 where
   pub files : List (List Record)
   pub notes : List FileNote
   pub records : AreRecords texts files notes
   pub answer_is : answer ≡ skewed job notes (skew (flow (first_of files) a) (flow (last_of files) b))
 
--- where the description hasn't one of the media no capture is read; else the captures lead on
+-- if the SDP doesn't have one of the media, no capture is read; else the captures are read
 abbrev pub ReadsPair : Inputs → Result Answer Failure → SkewJob → (first second : Option Media) → Type 0
 ReadsPair i outcome job (Some a) (Some b) =
     ReadsCaptures i outcome job.captures (λ texts. Gives outcome (HasSkew job a b texts))
 ReadsPair i outcome job None second = Gives outcome (λ answer. answer ≡ no_such_media)
 ReadsPair i outcome job (Some a) None = Gives outcome (λ answer. answer ≡ no_such_media)
 
--- `skew`: the description, then the captures
+-- `skew` reads the SDP, then the captures
 abbrev pub FollowsSkew : SkewJob → Inputs → Result Answer Failure → Type 0
 FollowsSkew job i outcome = Yields outcome (ReadsSession i outcome job.sdp (λ media.
     ReadsPair i outcome job (slice_get media job.media) (slice_get media job.pair)))
 
--- the count of the name of this input rose
+-- the count of faults of the name of this input rose
 abbrev pub SkewInputRose : SkewJob → Inputs → Input → Type 0
 SkewInputRose job i input.Sdp = HasRisen i job.sdp
 SkewInputRose job i input.Report = ⊥

@@ -1,5 +1,6 @@
--- What `window` prints of a flow that is judged in one run: for each sender type of SMPTE ST 2110-21 the offsets that
--- would keep its buffer. Offsets are in microseconds, and judged packets count from 0. This project's profile.
+-- The output of `window` for a flow that is judged in one run: for each sender type of SMPTE ST 2110-21 the offsets
+-- with which the receiver buffer would neither underflow nor overflow. Offsets are microseconds, and judged packets
+-- count from 0. This project's profile.
 use Rattle.std.specs.Prelude.{◌≡◌, ℕ, List, [], ◌++◌, Option, Some, None, codes}
 use Rattle.std.specs.Fmt.{decimal}
 use Rattle.timing_base.specs.Judged.{JudgedRun}
@@ -15,7 +16,7 @@ use Rattle.timing_report.specs.declared.status.Status.TheVariants as status
 use Rattle.timing_reach.specs.steps.Answers.{Answer}
 use Rattle.timing_reach.specs.declared.window.windows.Windows.{Windows}
 
--- ` at packet I`, where a packet binds
+-- ` at packet I`, if a packet binds the end
 abbrev pub binding_text : Option ℕ → List ℕ
 binding_text None = []
 binding_text (Some packet) = codes " at packet " ++ decimal packet
@@ -25,7 +26,7 @@ abbrev pub end_text : WindowEnd → List ℕ
 end_text Absent = codes "none"
 end_text (At micros binding) = decimal micros ++ binding_text binding
 
--- `K lower A, upper B`, with the end of the line
+-- `K lower A, upper B`, with the newline
 abbrev pub window_line : Kind → Window → List ℕ
 window_line kind w =
     kind_name kind ++ (codes " lower " ++ (end_text w.lower ++ (codes ", upper " ++ (end_text w.upper ++ codes "\n"))))
@@ -34,13 +35,13 @@ window_line kind w =
 abbrev pub windows_text : Windows → List ℕ
 windows_text w = window_line N w.narrow ++ (window_line NL w.narrow_linear ++ window_line W w.wide)
 
--- the windows of packets with these stamps, n of them in each group
+-- the windows of packets with these capture timestamps, `n` of them in each frame or field
 pub record AreWindowsOf (m : Media) (n : ℕ) (stamps : List ℕ) (w : Windows) : Type 0 where
   pub narrow : IsWindow m n stamps N w.narrow
   pub narrow_linear : IsWindow m n stamps NL w.narrow_linear
   pub wide : IsWindow m n stamps W w.wide
 
--- the three lines of the judged packets of this video, and status 0
+-- the three lines for the judged packets of this media, and status 0
 pub record HasLines (m : Media) (run : JudgedRun) (answer : Answer) : Type 0 where
   pub windows : Windows
   pub are : AreWindowsOf m run.n run.stamps windows

@@ -1,2 +1,3 @@
+-- these serve only the proofs
 pub mod Flows
 pub mod Found

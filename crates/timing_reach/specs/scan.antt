@@ -1,1 +1,2 @@
+-- these serve only the proofs
 pub mod Scanning

@@ -1,3 +1,4 @@
+-- these serve only the proofs
 pub mod Keeping
 pub mod Readings
 pub mod Leaving

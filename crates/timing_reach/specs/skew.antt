@@ -1,3 +1,4 @@
+-- these serve only the proofs
 pub mod Added
 pub mod Awaits
 pub mod Paired

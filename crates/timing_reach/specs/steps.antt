@@ -1,7 +1,7 @@
--- what is promised
+-- the definitions that the public clauses cite
 pub mod Answers
 pub mod Ran
 pub mod Ends
--- these only serve proofs
+-- these serve only the proofs
 pub mod Fetched
 pub mod Taken

@@ -1,2 +1,3 @@
+-- these serve only the proofs
 pub mod Gauging
 pub mod Readings

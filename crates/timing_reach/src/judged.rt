@@ -1,8 +1,7 @@
-//! What commands over one flow share. The media of a job is found in its description, and the packets of its flow go
-//! to what takes them while the capture is read.
+//! The common parts of the commands on one flow: the media of a job is looked up in its SDP, and the packets of its
+//! flow are taken from its capture while that is read.
 
 pub mod captures;
-pub mod feeding;
 pub mod flows;
 mod media;
 pub mod words;

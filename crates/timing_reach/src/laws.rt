@@ -1,5 +1,4 @@
-//! What holds of the definitions themselves. Each function is a theorem: it does nothing, and its
-//! clauses are proved.
+//! Laws of the definitions. Each function is a theorem: it does nothing, and its clauses are proved.
 
 pub mod shapes;
 
@@ -23,7 +22,7 @@ ghost use Rattle.timing_reach.specs.Skewed.{HasSkew, first_of, last_of, skew_sta
 ghost use Rattle.timing_reach.specs.Windows.{HasLines, window_line};
 ghost use Rattle.timing_reach.specs.Worked.{bound_at, from_to, narrow_frame, pair_of};
 
-/// The texts of `window` have one answer.
+/// The contents of the inputs of `window` have exactly one answer.
 pub fn one_window_answer()
     ensures some { (tai : ℕ) (media : Media) (text : List ℕ)
         → (answer : Answer) × HasWindow tai media text answer }
@@ -31,7 +30,7 @@ pub fn one_window_answer()
         → HasWindow tai media text a → HasWindow tai media text b → a ≡ b }
 {}
 
-/// A frame of a narrow sender, at 50 frames per second with 20 packets per frame.
+/// The answer for a frame of a narrow sender, at 50 frames per second with 20 packets in a frame.
 #[tactic(auto, unfolding(timing_report::proofs::Numerals::numerals))]
 pub fn narrow_by_hand()
     ensures { (answer : Answer) → HasLines hd_50 narrow_frame answer → answer ≡ record {
@@ -42,7 +41,7 @@ pub fn narrow_by_hand()
     } }
 {}
 
-/// The lines of ends that no packet binds, and of ends that aren't there.
+/// Lines with ends that no packet binds, and with ends that don't exist.
 #[tactic(auto, unfolding(timing_report::proofs::Numerals::numerals))]
 pub fn lines_by_hand()
     ensures every { window_line W (from_to (At 0 None) (At 1000000 None))
@@ -53,8 +52,8 @@ pub fn lines_by_hand()
         ≡ codes "N lower 1 at packet 0, upper none\n" }
 {}
 
-/// A media that isn't there, a flow without packets, one without a whole frame, and one with gaps: its
-/// runs aren't looked into.
+/// A media that doesn't exist, a flow without packets, one without a whole frame, and one with gaps: its runs aren't
+/// measured.
 #[tactic(auto, unfolding(timing_report::proofs::Numerals::numerals))]
 pub fn unjudged_by_hand()
     ensures no_media { no_such_media
@@ -73,7 +72,7 @@ pub fn unjudged_by_hand()
         → answer ≡ not_judged media (verdict.Runs (map (run_of media) runs)) }
 {}
 
-/// The texts of `skew` have one answer.
+/// The contents of the inputs of `skew` have exactly one answer.
 pub fn one_skew_answer()
     ensures some { (job : SkewJob) (a b : Media) (texts : List (List ℕ))
         → (answer : Answer) × HasSkew job a b texts answer }
@@ -81,7 +80,7 @@ pub fn one_skew_answer()
         → HasSkew job a b texts x → HasSkew job a b texts y → x ≡ y }
 {}
 
-/// A path and one that is longer, either way round; and captures without a packet of the second flow.
+/// A path and a longer one, in either order; and captures without a packet of the second flow.
 #[tactic(auto, unfolding(timing_report::proofs::Numerals::numerals))]
 pub fn skew_by_hand()
     ensures pair { skewed (pair_of 0 1 (codes "a.pcap") (codes "b.pcap"))
@@ -113,8 +112,8 @@ pub fn skew_by_hand()
         } }
 {}
 
-/// The first flow is of the first capture and the second of the last; one match is enough for status 0,
-/// unless a capture was refused.
+/// The first flow is in the first capture and the second in the last. One match is enough for status 0, unless a
+/// capture was refused.
 pub fn pairs_by_hand()
     ensures first { (x y : List Record) → first_of (x ∷ y ∷ []) ≡ x }
     ensures last { (x y : List Record) → last_of (x ∷ y ∷ []) ≡ y }
@@ -123,7 +122,7 @@ pub fn pairs_by_hand()
     ensures refused { skew_status true (told 40 0 0 0 0 None None) ≡ status.NotAllJudged }
 {}
 
-/// The text of `scan` has one answer.
+/// The contents of the capture of `scan` have exactly one answer.
 pub fn one_scan_answer()
     ensures some { (job : ScanJob) (text : List ℕ) → (answer : Answer) × HasScan job text answer }
     ensures once { (job : ScanJob) (text : List ℕ) (a b : Answer)

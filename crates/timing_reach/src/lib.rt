@@ -1,14 +1,20 @@
-//! The commands that look deeper into one flow, or two: `window`, which offsets would keep the buffer of a
-//! flow, `shape`, when its packets would leave if they were delayed as little as the limits of a sender type
-//! allow, and `skew`, how far two flows with the same packets lie apart; and `scan`, what a capture holds.
+//! The commands `window`, `shape`, `skew` and `scan`.
+//!
+//! - `window` prints the offsets with which the receiver buffer of a flow would neither underflow nor overflow.
+//! - `shape` delays the packets of a flow as little as the limits of a sender type allow.
+//! - `skew` prints how far two flows with the same packets are apart.
+//! - `scan` lists the streams of a capture.
 //!
 //! Each capture is read once: `window` measures a flow while it is judged, and `shape` keeps it until it is known which
-//! packets are judged. Captures, media and judged packets count from 0, and records from 1; stamps are nanoseconds.
+//! packets are judged. Captures, media and judged packets count from 0, and packet records from 1; capture timestamps
+//! are nanoseconds.
 //!
-//! - `judged`: what commands over one flow share.
-//! - `laws`: texts have one answer; what `shape` writes is read back; answers worked by hand.
-//! - `scan`, `shape`, `skew`, `window`: these commands.
-//! - `steps`: what every command of the analyser does: it fetches, takes records and prints.
+//! The modules:
+//!
+//! - `judged`: the common parts of the commands on one flow.
+//! - `laws`: contents have one answer; what `shape` writes is read back; answers that are worked by hand.
+//! - `scan`, `shape`, `skew`, `window`: the commands.
+//! - `steps`: the common steps of all commands: opening inputs, taking packet records, and printing.
 #![tactic(auto)]
 
 pub mod judged;

@@ -1,4 +1,4 @@
-//! `scan`: what a capture holds, before there is a description of it.
+//! `scan`: lists the streams of a capture and what else it contains, without an SDP.
 
 mod words;
 
@@ -22,14 +22,16 @@ use timing_base::{FileNote, ScanJob};
 use timing_outside::{Shelf, Sink};
 use timing_report::{Input, Status};
 
-/// What a capture holds, and how it ends.
+/// The result of a scan.
 #[derive(Drop)]
 pub struct Scanned {
+    /// How the capture ends.
     pub note: FileNote,
+    /// The streams of the capture, and what else it contains.
     pub found: Found,
 }
 
-/// Reads the capture of a job: it is fetched for that.
+/// Opens and reads the capture of a job.
 fn read_capture<H: Shelf>(alloc: Global, job: &ScanJob, shelf: &mut H) -> Result<Scanned, Failure>
     ensures told { IfOk result (λ read. (text : List ℕ)
         → classic_texts (H.text shelf.old) job.now.capture ≡ Some text
@@ -48,7 +50,7 @@ fn read_capture<H: Shelf>(alloc: Global, job: &ScanJob, shelf: &mut H) -> Result
     })
 }
 
-/// The answer on a capture in which this was found.
+/// Returns the answer for a capture with this result.
 fn answer_scanned(alloc: Global, job: &ScanJob, read: &Scanned) -> Result<Answer, Failure>
     ensures answered { IfOk result (HasStatus scan_ends) }
     ensures answers { IfOk result (λ answer. answer
@@ -58,7 +60,7 @@ fn answer_scanned(alloc: Global, job: &ScanJob, read: &Scanned) -> Result<Answer
     Ok(scanned(alloc, job, read)?)
 }
 
-/// The answer of a job, or why there is none.
+/// Returns the answer of a job, or the reason why there is none.
 fn answer_scan<H: Shelf>(alloc: Global, job: &ScanJob, shelf: &mut H) -> Result<Answer, Failure>
     ensures follows { FollowsScan job.now (seen_of H.Shelf shelf.old shelf.new) result }
     ensures answers { IfOk result (HasStatus scan_ends) }
@@ -69,8 +71,8 @@ fn answer_scan<H: Shelf>(alloc: Global, job: &ScanJob, shelf: &mut H) -> Result<
     answer_scanned(alloc, job, &read)
 }
 
-/// Prints on `out` what the capture of a job holds. On `err` it tells why there is no answer. The capture is read
-/// once.
+/// Runs `scan`: reads the capture once, and prints on `out` what it contains. Prints on `err` the reason if there is no
+/// output.
 pub fn scan_one<H: Shelf, K: Sink>(
     alloc: Global,
     job: &ScanJob,

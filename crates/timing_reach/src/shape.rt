@@ -1,4 +1,4 @@
-//! `shape`: a flow whose packets leave as early as the limits of a sender type allow.
+//! `shape`: delays the packets of a flow as little as the limits of a sender type allow.
 
 mod copy;
 mod delays;
@@ -35,7 +35,7 @@ use timing_base::{Kind, Media, ShapeJob, Verdict};
 use timing_outside::{Shelf, Sink};
 use timing_report::{Input, Status};
 
-/// The answer on a flow that is kept: on its judged packets, where it is judged in one run, or the verdict on another.
+/// Returns the answer for a flow that is kept: its shaped packets if it is judged in one run, else its verdict.
 fn told_of(
     alloc: Global,
     media: &Media,
@@ -58,7 +58,7 @@ fn told_of(
     }
 }
 
-/// Reads the flow of a job, and keeps it while it is judged: its capture is fetched for that.
+/// Opens the capture of a job, reads its flow, and keeps the packets while the flow is judged.
 fn read<H: Shelf>(
     alloc: Global,
     job: &ShapeJob,
@@ -80,7 +80,7 @@ fn read<H: Shelf>(
     Ok(reading.finish()?)
 }
 
-/// The answer on a flow of which a reading came to this.
+/// Returns the answer for a flow that was read with this result.
 fn answer_kept(
     alloc: Global,
     job: &ShapeJob,
@@ -99,7 +99,8 @@ fn answer_kept(
     Ok(told_of(alloc, media, job.kind, flow.tai, kept)?)
 }
 
-/// The answer on the flow of this media: on what was read, also where the shelf doesn't tell the text of the capture.
+/// Returns the answer for the flow of this media, from the packet records that were read, also if the contents of the
+/// capture aren't known.
 fn answer_on<H: Shelf>(
     alloc: Global,
     job: &ShapeJob,
@@ -118,7 +119,7 @@ fn answer_on<H: Shelf>(
     answer_kept(alloc, job, media, kept)
 }
 
-/// The answer of a job, or why there is none.
+/// Returns the answer of a job, or the reason why there is none.
 fn answer_shape<H: Shelf>(alloc: Global, job: &ShapeJob, shelf: &mut H) -> Result<Answer, Failure>
     ensures follows { FollowsShape job.now (seen_of H.Shelf shelf.old shelf.new) result }
     ensures answers { IfOk result (HasStatus look_ends) }
@@ -132,8 +133,9 @@ fn answer_shape<H: Shelf>(alloc: Global, job: &ShapeJob, shelf: &mut H) -> Resul
     }
 }
 
-/// Prints on `out` the flow of a job as a capture in which its judged packets leave as early as the limits of
-/// a sender type allow, or the list of those that are delayed. On `err` it tells why there is no answer.
+/// Runs `shape`: prints on `out` the flow of a job as a capture in which its judged packets leave as early as the
+/// limits of a sender type allow, or the list of those that are delayed. Prints on `err` the reason if there is no
+/// output.
 pub fn shape_one<H: Shelf, K: Sink>(
     alloc: Global,
     job: &ShapeJob,

@@ -1,4 +1,4 @@
-//! `skew`: how far two flows with the same packets lie apart.
+//! `skew`: prints how far two flows with the same packets are apart.
 
 mod compare;
 mod paired;
@@ -21,7 +21,7 @@ use timing_base::{Media, SkewJob};
 use timing_outside::{Shelf, Sink};
 use timing_report::Status;
 
-/// The answer on the flows of these media.
+/// Returns the answer for the flows of these two media.
 fn answer_pair<H: Shelf>(
     alloc: Global,
     job: &SkewJob,
@@ -40,7 +40,7 @@ fn answer_pair<H: Shelf>(
     Ok(skewed(alloc, job, &compared)?)
 }
 
-/// The answer with the second media of a session of these media.
+/// Returns the answer with the second media of a session.
 fn answer_second<H: Shelf>(
     alloc: Global,
     job: &SkewJob,
@@ -60,7 +60,7 @@ fn answer_second<H: Shelf>(
     }
 }
 
-/// The answer over a session of these media.
+/// Returns the answer over a session of these media.
 fn answer_over<H: Shelf>(
     alloc: Global,
     job: &SkewJob,
@@ -80,8 +80,8 @@ fn answer_over<H: Shelf>(
     }
 }
 
-/// The answer of a job, or why there is none. Where the description hasn't one of the media, no capture
-/// is fetched. The captures are fetched in order and then read in order.
+/// Returns the answer of a job, or the reason why there is none. If the SDP doesn't have one of the media, no capture
+/// is opened. All captures are opened in order before the first one is read.
 fn answer_skew<H: Shelf>(alloc: Global, job: &SkewJob, shelf: &mut H) -> Result<Answer, Failure>
     ensures follows { FollowsSkew job.now (seen_of H.Shelf shelf.old shelf.new) result }
     ensures answers { IfOk result (HasStatus look_ends) }
@@ -94,7 +94,8 @@ fn answer_skew<H: Shelf>(alloc: Global, job: &SkewJob, shelf: &mut H) -> Result<
     }
 }
 
-/// Prints on `out` how far the two flows of a job lie apart. On `err` it tells why there is no answer.
+/// Runs `skew`: prints on `out` how far the two flows of a job are apart. Prints on `err` the reason if there is no
+/// output.
 pub fn skew_one<H: Shelf, K: Sink>(
     alloc: Global,
     job: &SkewJob,

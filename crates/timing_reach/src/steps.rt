@@ -1,7 +1,8 @@
-//! The steps that every command of the analyser takes: the words' files are fetched, the description
-//! is read, the answer is printed, and standard error is told why there is none.
+//! The common steps of all commands: opening the inputs, reading the SDP, printing the answer, and printing on standard
+//! error why there is none.
 //!
-//! What the texts of a request define is an [`Answer`]; why a run has none is a [`Failure`].
+//! The result that the contents of a request's inputs define is an [`Answer`]; the reason why a run has none is a
+//! [`Failure`].
 
 mod answer;
 mod failure;

@@ -1,4 +1,4 @@
-//! `window`: which offsets would keep the buffer of a flow.
+//! `window`: prints the offsets with which the receiver buffer of a flow would neither underflow nor overflow.
 
 mod gauge;
 mod meters;
@@ -29,7 +29,7 @@ use timing_base::{FlowJob, Media, Verdict};
 use timing_outside::{Shelf, Sink};
 use timing_report::{Input, Status};
 
-/// The lines of a flow that is judged in one run, or the verdict on another.
+/// Returns the lines for a flow that is judged in one run, or the verdict on any other.
 fn told_of(alloc: Global, media: &Media, measured: &Measured) -> Result<Answer, OutOfMemory>
     requires { HasWindows measured.now }
     ensures answered { IfOk result (HasStatus look_ends) }
@@ -43,7 +43,7 @@ fn told_of(alloc: Global, media: &Media, measured: &Measured) -> Result<Answer, 
     }
 }
 
-/// The answer on a flow of which a reading came to this.
+/// Returns the answer for a flow that was read with this result.
 fn answer_measured(alloc: Global, media: &Media, measured: &Measured) -> Result<Answer, Failure>
     requires { HasWindows measured.now }
     ensures answered { IfOk result (HasStatus look_ends) }
@@ -55,7 +55,7 @@ fn answer_measured(alloc: Global, media: &Media, measured: &Measured) -> Result<
     Ok(told_of(alloc, media, measured)?)
 }
 
-/// Reads the flow of a job, and measures it while it is judged: its capture is fetched for that.
+/// Opens the capture of a job, reads its flow, and measures the flow while it is judged.
 fn measure<H: Shelf>(
     alloc: Global,
     job: &FlowJob,
@@ -76,7 +76,7 @@ fn measure<H: Shelf>(
     Ok(reading.finish()?)
 }
 
-/// The answer on the flow of this media.
+/// Returns the answer for the flow of this media.
 fn answer_on<H: Shelf>(
     alloc: Global,
     job: &FlowJob,
@@ -94,7 +94,7 @@ fn answer_on<H: Shelf>(
     answer_measured(alloc, media, &measured)
 }
 
-/// The answer of a job, or why there is none.
+/// Returns the answer of a job, or the reason why there is none.
 fn answer_window<H: Shelf>(alloc: Global, job: &FlowJob, shelf: &mut H) -> Result<Answer, Failure>
     ensures follows { FollowsWindow job.now (seen_of H.Shelf shelf.old shelf.new) result }
     ensures answers { IfOk result (HasStatus look_ends) }
@@ -108,8 +108,8 @@ fn answer_window<H: Shelf>(alloc: Global, job: &FlowJob, shelf: &mut H) -> Resul
     }
 }
 
-/// Prints on `out` which offsets would keep the buffer of the flow of a job, for each sender type. On
-/// `err` it tells why there is no answer.
+/// Runs `window`: prints on `out`, for each sender type, the offsets with which the receiver buffer of a flow would
+/// neither underflow nor overflow. Prints on `err` the reason if there is no output.
 pub fn window_one<H: Shelf, K: Sink>(
     alloc: Global,
     job: &FlowJob,

@@ -1,10 +1,10 @@
--- what is promised
+-- the definitions that the public clauses cite
 pub mod Outcomes
 pub mod Status
 pub mod Text
 pub mod Verdict
 pub mod Words
--- rows that are worked by hand
+-- values of the examples that are worked by hand
 pub mod Worked
--- what is promised of this module
+-- the definitions for the JSON report
 pub mod json_report

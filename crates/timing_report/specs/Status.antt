@@ -1,4 +1,4 @@
--- The exit statuses of the program, and the one line that each has on standard error.
+-- The exit statuses of the program, and for each of them the first line on standard error.
 use Rattle.std.specs.Prelude.{ℕ, ◌+◌, List, [], ◌++◌, codes}
 use Rattle.std.specs.Fmt.{decimal}
 use Rattle.sdp_reader.specs.Fault.{fault_text}
@@ -8,7 +8,7 @@ use Rattle.timing_report.specs.declared.status.Status.{Status}
 use Rattle.timing_report.specs.declared.status.Status.TheVariants.{Pass, Fail, Usage, SdpRefused, NotAllJudged}
 use Rattle.timing_report.specs.declared.status.Status.TheVariants.{ReadFault, WriteFault, OutOfMemory, ReportRefused}
 
--- what the process ends with
+-- the exit status of the process
 abbrev pub code_of : Status → ℕ
 code_of Pass = 0
 code_of Fail = 1
@@ -20,13 +20,13 @@ code_of WriteFault = 6
 code_of OutOfMemory = 7
 code_of ReportRefused = 9
 
--- an input as the line names it; captures count from 1 there
+-- the name of an input in that line; captures count from 1 there, and from 0 in `Input`
 abbrev pub input_name : Input → List ℕ
 input_name Sdp = codes "sdp"
 input_name Report = codes "report"
 input_name (Capture file) = codes "capture " ++ decimal (file + 1)
 
--- the line, with its end; nothing where the report was printed
+-- the line with its newline; empty for the statuses with which the report was printed
 abbrev pub error_line : Status → List ℕ
 error_line Pass = []
 error_line Fail = []

@@ -1,4 +1,4 @@
--- Values for examples that are worked by hand: what is judged of two frames of the plain media, with 20 packets per
+-- Values of the examples that are worked by hand: the results for two frames of the plain media, with 20 packets in a
 -- frame.
 use Rattle.std.specs.Prelude.{ℕ, ◌+◌, false, List, [], ◌∷◌, Some, None, codes}
 use Rattle.timing_base.specs.Jobs.{CheckJob}
@@ -12,7 +12,7 @@ use Rattle.timing_base.specs.declared.row.RunVerdict.TheVariants as run_verdict
 use Rattle.timing_base.specs.declared.row.Verdict.{Verdict}
 use Rattle.timing_base.specs.declared.row.Verdict.TheVariants.{Runs}
 
--- two frames, with these peaks of the bucket and of the buffer, and these verdicts
+-- two frames with these peaks of the bucket and of the buffer, and these verdicts on N, NL and W
 abbrev pub two_frames : (bucket gapped linear : ℕ) → (n nl w : KindVerdict) → Judged
 two_frames bucket gapped linear n nl w = record {
   n = 20;
@@ -26,31 +26,33 @@ two_frames bucket gapped linear n nl w = record {
   kinds = n ∷ nl ∷ w ∷ [];
 }
 
--- a fail
+-- a violation
 abbrev pub fail : Broken → (from to count limit : ℕ) → KindVerdict
 fail model from to count limit = Fail record { model = model; from = from; to = to; count = count; limit = limit }
 
--- each packet alone in the bucket and in the buffer
+-- every packet alone in the bucket and in the buffer
 abbrev pub narrow : Judged
 narrow = two_frames 1 1 1 Pass Pass Pass
 
--- a run from record 1 that is judged so, and one after a lost packet, from this record on, without a whole frame
+-- two runs: one from record 1 with this result, and one after a lost packet, from record `rec` on, without a whole
+-- frame
 abbrev pub two_runs : Judged → ℕ → Verdict
 two_runs judged rec = Runs (
     record { rec = 1; number = 2; expected = None; verdict = run_verdict.Judged judged }
     ∷ record { rec = rec; number = rec + 2; expected = Some (rec + 1); verdict = run_verdict.NoWholeFrame 9 } ∷ [])
 
--- five at once in the second frame, which only W allows
+-- five packets at once in the second frame, which only W allows
 abbrev pub wide : Judged
 wide = two_frames 5 5 5 (fail Bucket 20 24 5 4) (fail Bucket 20 24 5 4) Pass
 
--- the flow of the first media of the first capture, and that of the second media
+-- the flow of the first media of the first capture
 abbrev pub first_flow : Verdict → Row
 first_flow verdict = record { key = record { file = 0; media = 0 }; verdict = verdict }
 
+-- the flow of the second media of the first capture
 abbrev pub second_flow : Verdict → Row
 second_flow verdict = record { key = record { file = 0; media = 1 }; verdict = verdict }
 
--- the check of one capture
+-- a `check` of one capture
 abbrev pub check_of : List ℕ → CheckJob
 check_of name = record { sdp = codes "p.sdp"; captures = name ∷ []; workers = 0; tai = 0; json = false; joined = false }

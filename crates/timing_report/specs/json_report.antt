@@ -1,6 +1,6 @@
--- what is promised
+-- the definitions that the public clauses cite
 pub mod Fails
 pub mod Json
 pub mod Reading
--- these only serve proofs
+-- these serve only the proofs
 pub mod Members

@@ -1,4 +1,4 @@
-//! The report as JSON (RFC 8259): made from rows, and read back for the fails that it tells.
+//! The report as JSON (RFC 8259): written from the results of flows, and read back for its violations.
 
 pub mod laws;
 mod object;

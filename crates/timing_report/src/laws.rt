@@ -1,5 +1,5 @@
-//! The texts and statuses tried by hand. Each function is a theorem: it does nothing, and its
-//! clauses are proved.
+//! Texts and statuses that are worked by hand, and a law. Each function is a theorem: it does nothing, and its clauses
+//! are proved.
 
 ghost use Rattle.std.specs.Prelude.{◌≡◌, ◌<◌, ◌++◌, ◌∷◌, [], List, All, Some, None, true, false, codes};
 ghost use Rattle.timing_base.specs.declared.capture.FileNote.TheVariants as note;
@@ -37,7 +37,7 @@ pub fn codes_by_hand()
     ensures report_refused { code_of ReportRefused ≡ 9 }
 {}
 
-/// The lines on standard error. The inputs' captures count from 0, those of the lines from 1.
+/// The lines on standard error. Captures count from 0 in `Input`, and from 1 in the lines.
 #[tactic(auto, unfolding(crate::proofs::Numerals::numerals))]
 pub fn lines_by_hand()
     ensures usage { error_line Usage ≡ codes "usage: check, verify, verify-report or selftest\n" }
@@ -61,7 +61,7 @@ pub fn ssrc_by_hand()
     ensures letters { ssrc_text 0xdeadbe0f ≡ codes "deadbe0f" }
 {}
 
-/// Where the report was printed, standard error gets nothing.
+/// With the statuses 0, 1 and 4 nothing is printed on standard error.
 pub fn no_lines_by_hand()
     ensures pass { error_line Pass ≡ [] }
     ensures fail { error_line Fail ≡ [] }
@@ -81,7 +81,7 @@ pub fn plain_narrow_by_hand()
         ++ codes "  W pass, bucket 1 of 16, buffer 1 of 720\nstatus 0\n")))) }
 {}
 
-/// The lines of captures. Captures count from 0 in their places, and from 1 in the lines.
+/// The lines of captures. Captures count from 0 in the arguments, and from 1 in the lines.
 #[tactic(auto, unfolding(crate::proofs::Numerals::numerals))]
 pub fn files_by_hand()
     ensures end { file_text 0 note.End (codes "a.pcap") ≡ codes "file 1 end a.pcap" }
@@ -101,7 +101,7 @@ pub fn files_by_hand()
         ≡ codes "file 1 refused TooLong x" }
 {}
 
-/// Flows without a verdict.
+/// Flows that were not judged.
 #[tactic(auto, unfolding(crate::proofs::Numerals::numerals))]
 pub fn unjudged_by_hand()
     ensures absent { unjudged_text unjudged.Absent ≡ codes "absent" }
@@ -130,8 +130,8 @@ pub fn unjudged_by_hand()
         ≡ codes "refused at record 262146: FrameTooLarge" }
 {}
 
-/// Types that fail: late by the gapped reads, five packets at once, and a limit that the
-/// description gives for the declared type alone.
+/// Sender types: one too late for the gapped reads, five packets at once, and a C_MAX that the SDP gives for the
+/// declared type alone.
 #[tactic(auto, unfolding(crate::proofs::Numerals::numerals))]
 pub fn types_by_hand()
     ensures late { type_text plain (two_frames 1 1 1 (fail model.Empty 1 1 1 2)
@@ -153,7 +153,7 @@ pub fn types_by_hand()
         (fail model.Bucket 0 1 2 1) kind_verdict.Pass kind_verdict.Pass) kind.NL
         ≡ codes "NL pass, bucket 2 of 4, buffer 2 of 8" }
 
-    // The gapped peak is that of N alone.
+    // The peak with the gapped reads counts for N alone.
     ensures peak_of_n { type_text plain (two_frames 1 0 1 kind_verdict.Pass
         kind_verdict.Pass kind_verdict.Pass) kind.N ≡ codes "N pass, bucket 1 of 4, buffer 0 of 8" }
     ensures peak_of_w { type_text plain (two_frames 1 0 1 kind_verdict.Pass
@@ -161,7 +161,7 @@ pub fn types_by_hand()
         ≡ codes "W pass, bucket 1 of 16, buffer 1 of 720" }
 {}
 
-/// The line of a judged flow: classes, declarations, and fields in place of frames.
+/// The line of a judged flow: its class, the declared type, and fields instead of frames.
 #[tactic(auto, unfolding(crate::proofs::Numerals::numerals))]
 pub fn judged_by_hand()
     ensures linear { judged_text plain (two_frames 1 1 1 (fail model.Empty 1 1 1 2)
@@ -185,7 +185,7 @@ pub fn judged_by_hand()
         ++ codes "class narrow, declared N" }
 {}
 
-/// A flow in two runs: the lines below its own. Runs count from 1 there.
+/// The lines below the line of a flow with two runs. Runs count from 1 there.
 #[tactic(auto, unfolding(crate::proofs::Numerals::numerals))]
 pub fn two_runs_by_hand()
     ensures { text_of_lines (lines_below plain
@@ -198,7 +198,7 @@ pub fn two_runs_by_hand()
         ++ codes "  run 2 from record 32 number 34 expected 33: no whole frame, head 9\n")))) }
 {}
 
-/// The status of a report: by the declared type, or where none is declared, by any.
+/// The status of a report: by the declared type, or if none is declared, by any type.
 pub fn statuses_by_hand()
     ensures passes { status_of (plain ∷ []) (note.End ∷ [])
         (first_flow (verdict.Judged narrow) ∷ []) ≡ Pass }
@@ -222,25 +222,24 @@ pub fn statuses_by_hand()
     ensures in_runs { status_of (plain ∷ []) (note.End ∷ [])
         (first_flow (verdict.Runs []) ∷ []) ≡ NotAllJudged }
 
-    // Each flow counts by the type that its own media declares: the second passes W alone, which is declared; told
-    // of the first it fails.
+    // Each flow counts by the type that its own media declares. The second flow passes as W alone, which its media
+    // declares. The first media declares N, which that flow would fail.
     ensures each_by_its_own { status_of (plain ∷ video false 50 (Some kind.W) None ∷ []) (note.End ∷ [])
         (first_flow (verdict.Judged narrow) ∷ second_flow (verdict.Judged wide) ∷ []) ≡ Pass }
     ensures not_by_the_others { status_of (plain ∷ video false 50 (Some kind.W) None ∷ []) (note.End ∷ [])
         (first_flow (verdict.Judged wide) ∷ second_flow (verdict.Judged narrow) ∷ []) ≡ Fail }
 
-    // The first capture ends well, and the second is refused.
+    // The first capture is read to its end, and the second is refused.
     ensures second_refused { status_of (plain ∷ []) (note.End ∷ note.Refused (pcap.BadStamp 42) ∷ [])
         (first_flow (verdict.Judged narrow) ∷ []) ≡ NotAllJudged }
 
-    // A flow that is not judged counts before one that fails.
+    // A flow that was not judged decides the status even if another flow fails.
     ensures both { status_of (plain ∷ []) (note.End ∷ []) (first_flow (verdict.Judged (two_frames
         1 1 1 (fail model.Empty 1 1 1 2) kind_verdict.Pass kind_verdict.Pass))
         ∷ first_flow (verdict.Unjudged unjudged.Absent) ∷ []) ≡ NotAllJudged }
 {}
 
-/// The rows of a job are of its captures, of which there are at most 16, and of the media of its
-/// session.
+/// Every result of a job is of one of its captures, at most 16, and of a media of its session.
 pub fn rows_are_of_session()
     ensures { (job : CheckJob) (session : List Media) (rows : List Row)
         → IsCheckJob job → AreRowsOf job session rows

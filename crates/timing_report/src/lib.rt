@@ -1,11 +1,10 @@
-//! What the analyser prints, and how a run ends: texts and statuses as values, made whole before
-//! they are written. Here are the report as lines, verdicts, and statuses with their lines.
+//! The texts and statuses that the analyser prints, made whole as values before they are written.
 //!
-//! - `json_report`: the report as JSON, and the fails that are read of one.
-//! - `laws`: what follows of the definitions, and rows worked by hand.
+//! - The crate itself: the report as lines of text, verdicts, exit statuses and their lines on standard error.
+//! - `laws`: laws of the definitions, and examples that are worked by hand.
 //!
-//! Captures, media and runs count from 0 in values and from 1 in texts; the records of a capture
-//! count from 1 everywhere, and the packets of a judged run from 0.
+//! Captures, media and runs count from 0 in values, and from 1 in texts. Packet records of a capture count from 1
+//! everywhere, and the packets of a judged run from 0.
 #![tactic(auto)]
 
 pub mod json_report;

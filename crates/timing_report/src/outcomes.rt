@@ -1,4 +1,4 @@
-//! What a judged run says of the sender types, and the status of a report.
+//! The result of a judged run for each sender type, and the status of a report.
 
 ghost use Rattle.std.specs.Prelude.{◌≡◌, ◌<◌, length};
 ghost use Rattle.std.specs.List.{list_any, list_all};
@@ -10,7 +10,7 @@ use timing_base::{
     FileNote, FlowKey, Judged, Kind, KindVerdict, Media, PcapFault, Row, Session, Verdict,
 };
 
-/// The verdict on one type.
+/// Returns the verdict on one sender type.
 pub fn verdict_on(judged: &Judged, kind: Kind) -> KindVerdict
     ensures { result ≡ verdict_on judged.now kind }
 {
@@ -22,14 +22,14 @@ pub fn verdict_on(judged: &Judged, kind: Kind) -> KindVerdict
     }
 }
 
-/// Whether a type passes.
+/// Returns whether a judged run passes as this type.
 fn passes(judged: &Judged, kind: Kind) -> bool
     ensures { result ≡ passes judged.now kind }
 {
     matches!(verdict_on(judged, kind), KindVerdict::Pass)
 }
 
-/// The first type, in the order N, NL, W, that passes.
+/// Returns the first type in the order N, NL, W that passes.
 pub fn first_passing(judged: &Judged) -> Option<Kind>
     ensures { result ≡ first_passing judged.now }
 {
@@ -44,7 +44,8 @@ pub fn first_passing(judged: &Judged) -> Option<Kind>
     }
 }
 
-/// The most packets that the buffer held with the reads of the type.
+/// Returns the most packets that the virtual receiver buffer held: with the gapped reads for N, with the linear reads
+/// for NL and W.
 pub fn buffer_peak(judged: &Judged, kind: Kind) -> u64
     ensures { result ≡ buffer_peak judged.now kind }
 {
@@ -55,7 +56,7 @@ pub fn buffer_peak(judged: &Judged, kind: Kind) -> u64
     }
 }
 
-/// The media of a flow.
+/// Returns the media of a flow.
 pub fn media_of(session: &Session, key: FlowKey) -> &Media
     requires { key.media < length session.now }
     ensures { result.now ≡ media_of session.now key }
@@ -63,9 +64,8 @@ pub fn media_of(session: &Session, key: FlowKey) -> &Media
     &session.media.as_slice()[key.media as usize]
 }
 
-/// The status of a report: 4 where a flow was not judged as one run, or a capture was refused for
-/// its bytes; else 1 where the type fails that the description of some flow declares, or where none
-/// is declared all three types; else 0.
+/// Returns the status of a report: `NotAllJudged` if a flow was not judged as one run, or a capture was refused as
+/// malformed; else `Fail` if a flow fails its declared type (if none is declared: all three types); else `Pass`.
 pub fn status_of(session: &Session, notes: &[FileNote], rows: &[Row]) -> Status
     requires { AreOfSession session.now rows.now }
     ensures { result ≡ status_of session.now notes.now rows.now }
@@ -79,7 +79,7 @@ pub fn status_of(session: &Session, notes: &[FileNote], rows: &[Row]) -> Status
     }
 }
 
-/// Whether a capture was refused for its bytes.
+/// Returns whether a capture was refused since it is malformed. A failed read doesn't count.
 pub fn any_refused(notes: &[FileNote]) -> bool
     ensures { result ≡ list_any is_refused notes.now }
 {
@@ -114,7 +114,7 @@ fn any_fails(session: &Session, rows: &[Row]) -> bool
     false
 }
 
-/// Whether a judged flow fails by its declared type.
+/// Returns whether a flow that was judged as one run fails its declared type.
 fn verdict_fails(media: &Media, verdict: &Verdict) -> bool
     ensures { result ≡ verdict_fails media.now verdict.now }
 {
@@ -124,7 +124,7 @@ fn verdict_fails(media: &Media, verdict: &Verdict) -> bool
     }
 }
 
-/// Whether the declared type passes, or where none is declared, some type.
+/// Returns whether the declared type passes, or if none is declared, any of the three.
 fn declared_passes(declared: Option<Kind>, judged: &Judged) -> bool
     ensures { result ≡ declared_passes declared judged.now }
 {

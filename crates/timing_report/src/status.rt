@@ -1,4 +1,4 @@
-//! How a run ends: the status of the process, and its line on standard error.
+//! The end of a run of the program: the exit status, and the first line on standard error.
 
 ghost use Rattle.std.specs.Prelude.{◌≡◌, ◌≤◌, ◌+◌, ◌++◌, length, codes};
 ghost use Rattle.std.specs.Fmt.{decimal};
@@ -9,51 +9,65 @@ use arrayvec::ArrayString;
 use itoa::Buffer;
 use sdp_reader::SdpFault;
 
-/// An input that a command line names.
+/// An input that the command line names.
 #[derive(Clone, Copy, Debug, PartialEq, Eq)]
 pub enum Input {
-    /// The session description.
+    /// The session description (SDP).
     Sdp,
-    /// The report that is verified.
+    /// The report that `verify-report` reads.
     Report,
     /// A capture, counted from 0.
     Capture(u32),
 }
 
-/// How a run ended.
+/// The way a run of the program ended.
 #[derive(Clone, Copy, Debug, PartialEq, Eq)]
 pub enum Status {
-    /// The report was printed, every flow was judged, no capture was refused, and each flow passes as
-    /// the type that its description declares, or where it declares none, as some type. Of a
-    /// verification: every proof was confirmed. Of a flow that is measured or shaped, and of two that are
-    /// compared: what was asked for was printed, and of two flows some number is matched and no capture
-    /// was refused.
+    /// The report was printed, every flow was judged as one run, no capture is malformed, and each flow passes its
+    /// declared type (if none is declared: some type).
+    ///
+    /// For the other commands:
+    ///
+    /// - `verify`, `verify-report`: every violation was confirmed.
+    /// - `window`, `shape`, `selftest`, `help`: the output was printed.
+    /// - `skew`: the output was printed, the two flows have a packet number in common, and no capture is malformed.
+    /// - `scan`: the output was printed, a stream was found (with `--draft`: one with a video), and the capture isn't
+    ///   malformed.
+    /// - `measure`, `series`, `page`: the output was printed, a run was judged, and the capture isn't malformed; with
+    ///   `series` the flow has no fault either.
     Pass,
-    /// The report was printed, every flow was judged, no capture was refused, and some flow fails: as the
-    /// type that its description declares, or where it declares none, as each type. Of a verification: some proof was not confirmed.
+    /// The report was printed, every flow was judged as one run, no capture is malformed, and some flow fails its
+    /// declared type (if none is declared: all types). For `verify` and `verify-report`: a violation was not confirmed.
     Fail,
-    /// The words are no request.
+    /// The command line is invalid.
     Usage,
-    /// The session description has a fault.
+    /// The session description (SDP) is invalid.
     SdpRefused(SdpFault),
-    /// The report was printed, and some flow was not judged as one run, or a capture was refused for
-    /// its bytes. Of a verification: the flow of some proof was not judged. Of a flow that is measured or
-    /// shaped: the description hasn't its media, it was not judged as one run, or a packet can't leave in
-    /// time. Of two flows that are compared: the description hasn't one of the media, no number is matched,
-    /// or a capture was refused.
+    /// The output was printed, and a flow wasn't judged as one run, or a capture is malformed.
+    ///
+    /// For the other commands:
+    ///
+    /// - `verify`, `verify-report`: the flow or the run of a violation wasn't judged.
+    /// - `window`, `shape`: the SDP doesn't have the media, its flow wasn't judged as one run, or with `shape` a packet
+    ///   can't be delayed so far.
+    /// - `skew`: the SDP doesn't have a media, the two flows have no packet number in common, or a capture is
+    ///   malformed.
+    /// - `scan`: no stream was found (with `--draft`: none with a video), or the capture is malformed.
+    /// - `measure`, `series`, `page`: no run was judged, or the capture is malformed; with `series` also if the flow
+    ///   has a fault, or the SDP doesn't have the media.
     NotAllJudged,
-    /// This input couldn't be fetched, or a read of it failed.
+    /// This input couldn't be opened, or a read of it failed.
     ReadFault(Input),
-    /// The output couldn't be written whole.
+    /// A write on standard output failed; what was written is a prefix of the output.
     WriteFault,
     /// Memory ran out.
     OutOfMemory,
-    /// The report that is verified isn't in its form.
+    /// The report that `verify-report` reads is not in the form of a report.
     ReportRefused,
 }
 
 impl Status {
-    /// The exit status of the process.
+    /// Returns the exit status of the process.
     pub fn code(&self) -> u8
         ensures { result ≡ code_of self.now }
     {
@@ -70,8 +84,8 @@ impl Status {
         }
     }
 
-    /// The line that standard error gets, with its end, or nothing where it gets none. It is made
-    /// without memory, so that want of memory can be told too.
+    /// Returns the first line on standard error with its newline, or an empty string for `Pass`, `Fail` and
+    /// `NotAllJudged`. It is built without allocation, so that `OutOfMemory` can be reported too.
     pub fn error_line(&self) -> ArrayString<80>
         ensures { result.bytes ≡ error_line self.now }
     {

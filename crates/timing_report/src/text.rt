@@ -1,4 +1,4 @@
-//! The report as text.
+//! Writes the report as text.
 
 ghost use Rattle.std.specs.Prelude.{◌≡◌, ◌++◌, ◌+◌, ◌<◌, ◌^◌, IfOk, string_bytes};
 ghost use Rattle.std.specs.List.{flat_map};
@@ -12,7 +12,7 @@ use crate::words::NoteText;
 use std::alloc::{AllocError as OutOfMemory, Global};
 use timing_base::{CheckJob, FileName, FileNote, FlowKey, Media, Row, Session, Target, Verdict};
 
-/// Adds the line of a capture, counted from 0.
+/// Adds the line of a capture; `file` counts from 0.
 fn add_file(text: &mut String, file: u64, note: &FileNote, name: &str) -> Result<(), OutOfMemory>
     requires { file + 1 < 2 ^ 64 }
     ensures { IfOk result (λ _. string_bytes text.new
@@ -22,8 +22,8 @@ fn add_file(text: &mut String, file: u64, note: &FileNote, name: &str) -> Result
     writeln!(text, "file {} {note} {name}", file + 1)
 }
 
-/// The report of a job as text. `notes` says how each capture ends, and `rows` are the flows, in
-/// their order. `Err` is want of memory.
+/// Returns the report of a job as text. `notes` has how each capture ends, and `rows` the results of the flows, in
+/// their order. Returns `Err` if memory runs out.
 pub fn text_of(
     alloc: Global,
     job: &CheckJob,
@@ -43,8 +43,8 @@ pub fn text_of(
     Ok(text)
 }
 
-/// Adds the lines of captures of these names that end so, with the ends of the lines. `Err` is want of
-/// memory.
+/// Adds a line with its newline for each capture, by their names and how each ends. If the lists differ in length, the
+/// shorter one counts. Returns `Err` if memory runs out; `text` may then have a part of the lines.
 pub fn add_files(
     text: &mut String,
     captures: &[FileName],
@@ -93,7 +93,7 @@ fn add_flow_head(text: &mut String, key: FlowKey, target: Target) -> Result<(), 
     write!(text, "flow {file}.{media} {target} ")
 }
 
-/// Adds the verdict of a flow, and the lines below.
+/// Adds the verdict of a flow, and the lines below it.
 fn add_flow_verdict(text: &mut String, media: &Media, verdict: &Verdict) -> Result<(), OutOfMemory>
     ensures { IfOk result (λ _. string_bytes text.new ≡ string_bytes text.old
         ++ (ended (verdict_text media.now verdict.now)

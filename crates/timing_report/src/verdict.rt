@@ -1,4 +1,4 @@
-//! The text of one verdict: its line, and the lines of the types below it.
+//! Writes the text of one verdict: its line, and the lines of the sender types below it.
 
 ghost use Rattle.std.specs.Prelude.{◌≡◌, ◌≤◌, ◌<◌, ◌++◌, IfOk, length, codes, string_bytes};
 ghost use Rattle.timing_report.specs.Outcomes.{first_passing};
@@ -15,8 +15,8 @@ use timing_base::{
     FailProof, Judged, Kind, KindVerdict, Media, Run, RunVerdict, Unjudged, Verdict,
 };
 
-/// The text of a verdict on a flow of this media, as a line of the report has it, without the end of
-/// the line. `Err` is want of memory.
+/// Returns the text of a verdict on a flow of this media, as it stands in the line of the report, without a newline.
+/// Returns `Err` if memory runs out.
 pub fn verdict_of(alloc: Global, media: &Media, verdict: &Verdict) -> Result<String, OutOfMemory>
     ensures { IfOk result (λ s. string_bytes s ≡ verdict_text media.now verdict.now) }
 {
@@ -94,7 +94,7 @@ fn add_counts(text: &mut String, media: &Media, judged: &Judged) -> Result<(), O
     )
 }
 
-/// The class of a judged run.
+/// Returns the class of a judged run.
 fn class_of(judged: &Judged) -> &'static str
     ensures { result.now ≡ class_name (first_passing judged.now) }
 {
@@ -117,7 +117,7 @@ pub(crate) fn add_lines_below(
     }
 }
 
-/// Adds the lines of the three types.
+/// Adds the lines of the three sender types, each behind the indentation `space`.
 fn add_types(
     text: &mut String,
     space: &str,
@@ -169,7 +169,7 @@ fn add_runs(text: &mut String, media: &Media, runs: &[Run]) -> Result<(), OutOfM
     Ok(())
 }
 
-/// Adds the lines of a run, counted from 0.
+/// Adds the line of a run and the lines below it; `index` counts runs from 0.
 fn add_run(text: &mut String, media: &Media, index: usize, run: &Run) -> Result<(), OutOfMemory>
     requires { index < 1025 }
     ensures { IfOk result (λ _. string_bytes text.new
@@ -205,7 +205,7 @@ fn add_judged_run(text: &mut String, media: &Media, judged: &Judged) -> Result<(
     add_types(text, "    ", media, judged)
 }
 
-/// Adds the line of a run up to its verdict.
+/// Adds the line of a run up to its verdict; `index` counts runs from 0, the line from 1.
 fn add_run_head(text: &mut String, index: usize, run: &Run) -> Result<(), OutOfMemory>
     requires { index < 1025 }
     ensures { IfOk result (λ _. string_bytes text.new
@@ -223,7 +223,7 @@ fn add_run_head(text: &mut String, index: usize, run: &Run) -> Result<(), OutOfM
     )
 }
 
-/// The number that would have gone on from the run before, as the report writes it.
+/// The extended sequence number that would have continued the run before, as the report writes it.
 #[derive(Clone, Copy, Debug)]
 struct Expected {
     number: Option<u32>,
@@ -243,7 +243,7 @@ impl fmt::Display for Expected {
     }
 }
 
-/// What a judged run shows of a type.
+/// The verdict on a sender type, as the report writes it.
 #[derive(Clone, Copy, Debug)]
 struct Outcome {
     verdict: KindVerdict,
@@ -266,7 +266,7 @@ impl fmt::Display for Outcome {
     }
 }
 
-/// A fail, as the report writes it.
+/// A violation, as the report writes it.
 #[derive(Clone, Copy, Debug)]
 struct ProofText {
     proof: FailProof,

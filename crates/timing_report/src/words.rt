@@ -1,4 +1,4 @@
-//! The words of what is told: sender types, classes, models, groups, SSRCs, and the faults of packets and
+//! The words of the reports: sender types, classes, models, frame or field, SSRCs, and the faults of packets and
 //! captures.
 
 ghost use Rattle.std.specs.Prelude.{◌≡◌};
@@ -7,7 +7,7 @@ ghost use Rattle.timing_report.specs.Words.{kind_name, declared_name, class_name
 use std::fmt;
 use timing_base::{Broken, FileNote, Kind, PacketFault, PcapFault};
 
-/// A sender type.
+/// Returns the name of a sender type.
 pub fn kind_name(kind: Kind) -> &'static str
     ensures { result.now ≡ kind_name kind }
 {
@@ -18,7 +18,7 @@ pub fn kind_name(kind: Kind) -> &'static str
     }
 }
 
-/// The type that the description declares.
+/// Returns the name of the type that the SDP declares, or `none`.
 pub fn declared_name(declared: Option<Kind>) -> &'static str
     ensures { result.now ≡ declared_name declared }
 {
@@ -28,7 +28,7 @@ pub fn declared_name(declared: Option<Kind>) -> &'static str
     }
 }
 
-/// The class of a flow, by the first type that passes.
+/// Returns the class of a flow, by the first type that passes.
 pub fn class_name(passing: Option<Kind>) -> &'static str
     ensures { result.now ≡ class_name passing }
 {
@@ -40,7 +40,8 @@ pub fn class_name(passing: Option<Kind>) -> &'static str
     }
 }
 
-/// The model that a sender breaks.
+/// Returns the name of the model that a violation is of: the leaky bucket, or the receiver buffer (overflow or
+/// underflow).
 pub fn model_name(model: Broken) -> &'static str
     ensures { result.now ≡ model_name model }
 {
@@ -51,16 +52,17 @@ pub fn model_name(model: Broken) -> &'static str
     }
 }
 
-/// A group of an interlaced picture, or of another.
+/// Returns `field` if the video is interlaced, else `frame`.
 pub fn group_name(interlaced: bool) -> &'static str
     ensures { result.now ≡ group_name interlaced }
 {
     if interlaced { "field" } else { "frame" }
 }
 
-/// A synchronisation source as eight digits of hexadecimal.
+/// An SSRC, as eight lower-case hexadecimal digits.
 #[derive(Clone, Copy, Debug)]
 pub struct SsrcText {
+    /// The synchronization source (RFC 3550, section 5.1).
     pub ssrc: u32,
 }
 
@@ -75,9 +77,10 @@ impl fmt::Display for SsrcText {
     }
 }
 
-/// The fault of a packet, as the report writes it.
+/// The fault of a packet, as the report writes it: its name, and its numbers. Capture timestamps are nanoseconds.
 #[derive(Clone, Copy, Debug)]
 pub struct PacketFaultText {
+    /// The fault.
     pub fault: PacketFault,
 }
 
@@ -105,7 +108,7 @@ impl fmt::Display for PacketFaultText {
     }
 }
 
-/// The fault of a capture, as the report writes it.
+/// The fault of a capture, as the report writes it: its name, and the packet record, counted from 1.
 #[derive(Clone, Copy, Debug)]
 struct PcapFaultText {
     fault: PcapFault,
@@ -130,9 +133,10 @@ impl fmt::Display for PcapFaultText {
     }
 }
 
-/// How a capture ends, as the report writes it.
+/// The way in which a capture ends, as the report writes it. A cut is named by its byte offset, from 0.
 #[derive(Clone, Copy, Debug)]
 pub struct NoteText {
+    /// The end of the capture.
     pub note: FileNote,
 }
 

@@ -1,4 +1,5 @@
--- What each request and its texts define, in the order in which its inputs are read.
+-- The output and status that each command line and the contents of its inputs define. Inputs are read in the order in
+-- which they stand here.
 use Rattle.std.specs.Prelude.{◌≡◌, ⊤, Bool, IsTrue, true, false, ℕ, List, [], ◌∷◌, All, Option, Some, None, Result}
 use Rattle.timing_base.specs.Jobs.{IsCaptureJob, IsFlowJob}
 use Rattle.pcapng_reader.specs.Bytes.{AreBytes}
@@ -22,23 +23,23 @@ use Rattle.timing_measure.specs.series.Series.{FollowsSeries}
 use Rattle.timing_top.specs.verify.Asked.{FollowsReport, FollowsVerify, ReportInputRose, VerifyInputRose}
 use Rattle.timing_top.specs.SelfTest.{HasSelfTest}
 
--- `selftest` with so many frames, for which nothing is read
+-- `selftest` with this many frames, which reads nothing
 abbrev pub FollowsSelfTest : ℕ → Result Answer Failure → Type 0
 FollowsSelfTest frames outcome = Yields outcome (Gives outcome (HasSelfTest frames))
 
--- the text of `help`, or of `help` with a command, and status 0
+-- the answer of `help`, or of `help` with a command, with status 0
 abbrev pub page : Option Command → Answer
 page named = record { text = help_text named; status = status.Pass }
 
--- `help`, for which nothing is read
+-- `help`, which reads nothing
 abbrev pub FollowsHelp : Option Command → Result Answer Failure → Type 0
 FollowsHelp named outcome = Yields outcome (Gives outcome (λ answer. answer ≡ page named))
 
--- one answer, for which nothing is read
+-- an answer without output, for which nothing is read
 abbrev pub FollowsAtOnce : Status → Result Answer Failure → Type 0
 FollowsAtOnce ends outcome = Yields outcome (Gives outcome (λ answer. answer ≡ silent ends))
 
--- words that are no request, and a request. The number of workers is in none of it
+-- the outcome that a request defines; `None` is an invalid command line. No definition depends on the number of workers
 abbrev pub Follows : Option Request → Inputs → Result Answer Failure → Type 0
 Follows None i outcome = FollowsAtOnce status.Usage outcome
 Follows (Some (request.Check job)) i outcome = FollowsCheck job i outcome
@@ -54,7 +55,7 @@ Follows (Some (request.Series job)) i outcome = FollowsSeries job i outcome
 Follows (Some (request.Page job)) i outcome = FollowsPage job i outcome
 Follows (Some (request.Help named)) i outcome = FollowsHelp named outcome
 
--- the count of the name of this input of the request rose; what reads nothing has none
+-- the count of faults of this input's name rose; for a request that reads nothing this is false
 abbrev pub InputRose : Option Request → Inputs → Input → Type 0
 InputRose (Some (request.Check job)) i input = CheckInputRose job i input
 InputRose (Some (request.Verify job)) i input = VerifyInputRose job i input
@@ -68,7 +69,7 @@ InputRose (Some (request.Series job)) i input = FlowInputRose job.flow i input
 InputRose (Some (request.Page job)) i input = PageInputRose job i input
 InputRose other i input = ⊥
 
--- the names of a request's inputs, where it reads any
+-- the names of a request's inputs
 abbrev pub names_of : Option Request → List (List ℕ)
 names_of (Some (request.Check job)) = job.sdp ∷ job.captures
 names_of (Some (request.Verify job)) = job.sdp ∷ job.captures
@@ -82,15 +83,15 @@ names_of (Some (request.Series job)) = job.flow.sdp ∷ job.flow.capture ∷ []
 names_of (Some (request.Page job)) = job.sdp ∷ job.capture ∷ []
 names_of other = []
 
--- where `measure`, `series` or `page` is asked for: its job is within its limits, as that of all words is, and these
--- texts are of bytes, as those of all files are
+-- for `measure`, `series` and `page`: the job is within its limits, as that of every command line is, and the contents
+-- are bytes, as those of every file are
 abbrev pub MeasuresBytes : Option Request → List (List ℕ) → Type 0
 MeasuresBytes (Some (request.Measure job)) told = IsCaptureJob job × All AreBytes told
 MeasuresBytes (Some (request.Series job)) told = IsFlowJob job.flow × All AreBytes told
 MeasuresBytes (Some (request.Page job)) told = IsCaptureJob job × All AreBytes told
 MeasuresBytes other told = ⊤
 
--- what was seen of a shelf that tells by a test which names it lacks; the laws speak of such shelves
+-- the inputs as seen on a shelf that lacks the names for which `lacking` is true; the laws are about such shelves
 abbrev pub seen : (texts : List ℕ → Option (List ℕ)) → (lacking : List ℕ → Bool) → (before now : List ℕ → ℕ) → Inputs
 seen texts lacking before now =
     record { texts = texts; lacks = λ name. IsTrue (lacking name); before = before; now = now }

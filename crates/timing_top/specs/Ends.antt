@@ -1,4 +1,4 @@
--- With which statuses a run of a request may end, whatever the texts are that it reads, and when nothing is printed.
+-- The statuses that a run of a request may end with, whatever its inputs contain, and when nothing is printed.
 use Rattle.std.specs.Prelude.{◌≡◌, Bool, true, false, not, if◌then◌else◌, Option, Some, None, []}
 use Rattle.timing_words.specs.declared.request.Request.{Request}
 use Rattle.timing_words.specs.declared.request.Request.TheVariants as request
@@ -9,35 +9,35 @@ use Rattle.timing_reach.specs.steps.Ran.{Appended, Output}
 use Rattle.timing_measure.specs.series.Streams.{is_silent_stream}
 use Rattle.timing_top.specs.Runs.{prints_whole}
 
--- the words are a request
+-- the command line is valid
 abbrev pub is_request : Option Request → Bool
 is_request (Some asked) = true
 is_request None = false
 
--- inputs are read: of all requests but `selftest` and `help`
+-- the request reads inputs: all but `selftest` and `help`
 abbrev pub reads_inputs : Option Request → Bool
 reads_inputs (Some (request.SelfTest job)) = false
 reads_inputs (Some (request.Help named)) = false
 reads_inputs asked = is_request asked
 
--- a description is read: of all that read inputs but `scan`
+-- the request reads an SDP: all that read inputs, except `scan`
 abbrev pub reads_sdp : Option Request → Bool
 reads_sdp (Some (request.Scan job)) = false
 reads_sdp asked = reads_inputs asked
 
--- limits or fails are checked, and may be not kept or not confirmed: of `check`, `verify` and `verify-report`
+-- the request may end with status 1: `check`, `verify` and `verify-report`
 abbrev pub checks : Option Request → Bool
 checks (Some (request.Check job)) = true
 checks (Some (request.Verify job)) = true
 checks (Some (request.VerifyReport job)) = true
 checks asked = false
 
--- a report is read: of `verify-report`
+-- the request reads a report: `verify-report`
 abbrev pub reads_report : Option Request → Bool
 reads_report (Some (request.VerifyReport job)) = true
 reads_report asked = false
 
--- a run may end with this status
+-- a run of the request may end with this status
 abbrev pub may_end : Option Request → Status → Bool
 may_end asked status.Pass = is_request asked
 may_end asked status.Fail = checks asked
@@ -49,13 +49,13 @@ may_end asked status.WriteFault = is_request asked
 may_end asked status.OutOfMemory = true
 may_end asked status.ReportRefused = reads_report asked
 
--- beside this status nothing is printed on standard output. `series` prints while it reads: where its capture couldn't
--- be read, or memory ran out, a front of its text may stand
+-- with this status nothing is printed on standard output. `series` prints while it reads: if its capture can't be read,
+-- or memory runs out, a prefix of its rows may have been printed
 abbrev pub is_silent_for : Option Request → Status → Bool
 is_silent_for asked ends = if prints_whole asked then is_silent ends else is_silent_stream ends
 
--- a run of a request, by its status and its output: it has one of the statuses that it may end with, and where that is
--- silent nothing was printed
+-- a run of a request by its status and its output: the status is one that it may end with, and if that status is
+-- silent, nothing was printed
 pub record Ends (asked : Option Request) (o : Output) (ends : Status) : Type 0 where
   pub status_is : may_end asked ends ≡ true
   pub silent : is_silent_for asked ends ≡ true → Appended o []

@@ -1,4 +1,4 @@
--- What was found in captures, and how their judging goes on.
+-- The results of judging captures, and the conditions under which judging goes on.
 use Rattle.std.specs.Prelude.{◌≡◌, ◌≤◌, ◌+◌, ◌^◌, ℕ, List, [], ◌∷◌, ◌++◌, length, All, IfErr, IfOk, Option, Some}
 use Rattle.std.specs.Prelude.{Result, Ok}
 use Rattle.timing_base.specs.Captures.{Record, joined}
@@ -27,9 +27,8 @@ use Rattle.timing_reach.specs.steps.Taken.{TakesText}
 use Rattle.timing_reach.specs.declared.steps.failure.Failure.{Failure}
 use Rattle.timing_top.specs.declared.captures.Found.{Found}
 
--- the description of a job is there and was read as the session of these media, and these are the sources of its
--- captures,
--- each whole and without a fault
+-- the SDP of a job was read as the session of these media, and these are the sources of its captures, each at its start
+-- and without a failed read
 pub record IsOpened {S : Type 0} (name : S → List ℕ) (left : S → Option (List ℕ)) (faults : S → ℕ) (job : CheckJob)
     (i : Inputs) (media : List Media) (sources : List S) : Type 0 where
   pub there : ¬ i.lacks job.sdp
@@ -40,15 +39,15 @@ pub record IsOpened {S : Type 0} (name : S → List ℕ) (left : S → Option (L
   pub count : length sources ≡ length job.captures
   pub fresh : All (λ source. faults source ≡ 0) sources
 
--- the same of a shelf, before and after
+-- the SDP of a job was read, and these are the sources of its captures, as seen on a shelf before and after
 abbrev pub Opens : {H S : Type 0} → CheckJob → shelf.Ghosts H S → source.Ghosts S → (old new : H) → List Media
     → List (Classic S) → Type 0
 Opens job tells from old new media sources =
     IsOpened (name_of from.name) (left_of from.left) (faults_of from.faults) job (seen_of tells old new) media sources
 
--- what the judging of captures comes to. Where their texts are told, what was found has these rows; there is a note for
--- each capture, and the rows are of the session's media. Where nothing was found, memory ran out, or the count of a
--- capture's name rose
+-- the outcome of judging captures. If the contents of the captures are known, the results are `rows` of their packet
+-- records, with one note for each capture, and every result is of a media of the session. If there is no result, memory
+-- ran out, or the count of faults of a capture's name rose
 pub record IsJudged {S : Type 0} (name : S → List ℕ) (left : S → Option (List ℕ)) (faults : S → ℕ) (i : Inputs)
     (sources : List S)
     (rows : List (List Record) → List Row) (media : List Media) (outcome : Result Found Failure) : Type 0 where
@@ -61,7 +60,7 @@ pub record IsJudged {S : Type 0} (name : S → List ℕ) (left : S → Option (L
       → IfErr outcome (λ e.
       OnReadFault e (λ x. (number : ℕ) × (x ≡ input.Capture number) × CaptureRose i.before i.now names number))
 
--- the same of the captures of a shelf, before and after
+-- the outcome of judging the captures of a shelf, as seen on it before and after
 abbrev pub Judges : {H S : Type 0} → (rows : List (List Record) → List Row) → List Media → shelf.Ghosts H S
     → source.Ghosts S
     → (old new : H) → List (Classic S) → Result Found Failure → Type 0
@@ -69,14 +68,14 @@ Judges rows media tells from old new sources outcome =
     IsJudged (name_of from.name) (left_of from.left) (faults_of from.faults) (seen_of tells old new)
     sources rows media outcome
 
--- captures that may be judged: they and the media are few, no read of them has failed, and few seconds are added
+-- captures that may be judged: at most 16 and 64 media, no read of them has failed, and at most 1,000 seconds are added
 pub record AreReady {S : Type 0} (faults : S → ℕ) (sources : List S) (media : List Media) (tai : ℕ) : Type 0 where
   pub few : length sources ≤ 16
   pub fresh : All (λ source. faults source ≡ 0) sources
   pub few_media : length media ≤ 64
   pub few_seconds : tai ≤ 1000
 
--- one capture more was judged by itself: its note and its rows stand at the ends
+-- one more capture was judged by itself: its note and its results were appended
 pub record FindsNext (text : List ℕ) (media : List Media) (tai file : ℕ) (old_notes new_notes : List FileNote)
     (old_rows new_rows : List Row) : Type 0 where
   pub items : List Record
@@ -85,7 +84,7 @@ pub record FindsNext (text : List ℕ) (media : List Media) (tai file : ℕ) (ol
   pub notes : new_notes ≡ old_notes ++ note ∷ []
   pub rows : new_rows ≡ old_rows ++ rows_of tai file media items
 
--- one capture more was taken behind so many records: its note stands at the end, and its records are counted
+-- one more capture was taken after `before` records: its note was appended, and its records were added to the count
 pub record JoinsNext (text : List ℕ) (before after : ℕ) (old new : Bank) (old_notes new_notes : List FileNote) : Type 0
   where
     pub taken : Taken
@@ -93,7 +92,8 @@ pub record JoinsNext (text : List ℕ) (before after : ℕ) (old new : Bank) (ol
     pub notes : new_notes ≡ old_notes ++ taken.note ∷ []
     pub count : after ≡ before + taken.records
 
--- the captures of these texts were taken as one: how they end, their count of records, and the bank that was fed them
+-- the captures with these contents were taken as one: how each ends, the number of their packet records, and the bank
+-- of judges that was given them
 pub record AreJoined (texts : List (List ℕ)) (media : List Media) (tai : ℕ) (notes : List FileNote) (count : ℕ)
     (bank : Bank) : Type 0 where
   pub files : List (List Record)

@@ -1,9 +1,9 @@
--- What `check` promises, in one sentence. Whatever the words, the session description and the captures are, and with
--- every number of workers: a description that is refused is answered by its first fault, and for any other exactly the
--- one report is printed. In it a sender type passes exactly where no interval of judged packets has more than C_MAX,
--- less the drain ticks in it, and at every instant the receiver buffer holds between nothing and VRX_FULL (SMPTE ST
--- 2110-21); and each fail names an interval that its numbers confirm. Where that isn't printed whole, a write failed,
--- an input couldn't be read, or memory ran out, and the status says which.
+-- The promise of `check`, for every command line, every SDP and all captures, and every number of workers. If the SDP
+-- is invalid, the status names its first fault. Else exactly one report is defined. In it a sender type passes exactly
+-- if no interval of judged packets has more packets than C_MAX plus the drain ticks in it, and at every instant the
+-- receiver buffer holds between nothing and VRX_FULL (SMPTE ST 2110-21). Every violation names an interval that its
+-- numbers confirm. If the report isn't printed whole, a write failed, an input couldn't be read, or memory ran out, and
+-- the status gives the reason.
 use Rattle.std.specs.Prelude.{◌≡◌, ◌⊎◌, ℕ, List, [], map, All, Ok, Err}
 use Rattle.std.specs.Io.KnownBytes.{Keeps}
 use Rattle.timing_base.specs.Jobs.{CheckJob}
@@ -20,21 +20,22 @@ use Rattle.timing_top.specs.Check.{CheckInputRose}
 use Rattle.timing_top.specs.Exact.{IsExactRow}
 use Rattle.timing_top.specs.Report.{HasReport, rows}
 
--- the same job with this number of workers; with 0 all goes on one thread
+-- the same job with this number of workers; 0 is one thread
 abbrev pub with_workers : ℕ → CheckJob → CheckJob
 with_workers workers job = record job { workers = workers }
 
--- the one report of a job over a session of these media and captures of these texts: it is that of every number of
--- workers, and each of its rows is exact
+-- the only report of a job over these media and captures with these contents; it is the same for every number of
+-- workers, and each of its results is exact
 pub record IsTheReport (job : CheckJob) (media : List Media) (captures : List (List ℕ)) (report : Answer) : Type 0 where
   pub defined : HasReport job media (map classic captures) report
   pub only : (other : Answer) → HasReport job media (map classic captures) other → other ≡ report
   pub workers : (number : ℕ) → HasReport (with_workers number job) media (map classic captures) report
   pub rows_are : All (IsExactRow job.joined job.tai media defined.files) (rows job media defined.files)
 
--- a run of `check` over a description and captures of these texts, by its status and what it left on its output: the
--- description is refused, and nothing was printed; or the report was printed; or a write failed whose count rose, and a
--- front of the report was printed; or an input couldn't be read whose count rose, and it is named; or memory ran out
+-- a run of `check` on an SDP and captures with these contents, by its status and its output. `refused`: the SDP is
+-- invalid, and nothing was printed. `reported`: the report was printed. `unwritten`: a write failed, the count of
+-- faults of the output rose, and a prefix of the report was printed. `unread`: the count of faults of an input rose,
+-- the status names that input, and nothing was printed. `out_of_memory`: memory ran out, and nothing was printed.
 pub data Headline (job : CheckJob) (sdp : List ℕ) (captures : List (List ℕ)) (i : Inputs) (o : Output) (ends : Status)
     : Type 0 where
   refused : (fault : SdpFault) → session sdp ≡ Err fault
@@ -51,6 +52,6 @@ pub data Headline (job : CheckJob) (sdp : List ℕ) (captures : List (List ℕ))
       → Headline job sdp captures i o ends
   out_of_memory : ends ≡ status.OutOfMemory → Keeps o.old o.new → Headline job sdp captures i o ends
 
--- a run on words that are no request: nothing was printed, and the status says so; or memory ran out
+-- a run with an invalid command line: nothing was printed, and the status is 2, or memory ran out
 abbrev pub NoRequest : Output → Status → Type 0
 NoRequest o ends = ((ends ≡ status.Usage) × Appended o []) ⊎ ((ends ≡ status.OutOfMemory) × Keeps o.old o.new)

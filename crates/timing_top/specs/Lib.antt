@@ -1,15 +1,15 @@
--- what is promised
+-- the definitions that the public clauses cite
 pub mod Asked
 pub mod Check
 pub mod Ends
 pub mod Report
 pub mod Runs
 pub mod SelfTest
--- what the laws say of reports
+-- the definitions of the laws on reports
 pub mod Headline
 pub mod Exact
 pub mod ReadBack
--- what judging and reporting say to each other
+-- the definitions between judging and reporting
 pub mod Found
--- what is promised of this module
+-- the definitions for `verify` and `verify-report`
 pub mod verify

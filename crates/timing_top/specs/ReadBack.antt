@@ -1,17 +1,15 @@
--- Reports that are read back by `verify-report`.
+-- Reports that `verify-report` reads back.
 use Rattle.std.specs.Prelude.{ℕ, List, map, All, IsUtf8}
 use Rattle.timing_base.specs.Jobs.{CheckJob, IsCheckJob, ReportJob}
 use Rattle.timing_base.specs.Media.{IsMedia, IsSession, Media}
 use Rattle.pcapng_reader.specs.Bytes.{AreBytes}
 
--- the job of `verify-report` on the report of this name, over the description and the captures that the report is of
+-- the job of `verify-report` on the report with this name, with the SDP and the captures of that report
 abbrev pub reading_back : CheckJob → (name : List ℕ) → ReportJob
 reading_back job name =
     record { sdp = job.sdp; report = name; tai = job.tai; captures = job.captures; joined = job.joined }
 
--- what a report is made of is within its limits: the job, a session of these media, and captures that have these texts
--- by
--- their names
+-- the inputs of a report are within their limits: the job, a session of these media, and captures with these contents
 pub record IsReadable (job : CheckJob) (media : List Media) (text : List ℕ → List ℕ) : Type 0 where
   pub job_is : IsCheckJob job
   pub session : IsSession media

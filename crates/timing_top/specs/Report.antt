@@ -1,4 +1,4 @@
--- The report of `check`, as the texts of the session description and of the captures define it.
+-- The report of `check`, as a function of the contents of the SDP and of the captures.
 use Rattle.std.specs.Prelude.{◌≡◌, ℕ, if◌then◌else◌, List}
 use Rattle.timing_base.specs.Captures.{Record}
 use Rattle.timing_base.specs.Jobs.{CheckJob}
@@ -12,15 +12,15 @@ use Rattle.timing_report.specs.Outcomes.{status_of}
 use Rattle.timing_report.specs.Text.{report_text}
 use Rattle.timing_reach.specs.steps.Answers.{Answer}
 
--- the rows of a job: one for each file and media, or where the captures are one, for each media as of the first file
+-- the results of a job: one for each file and media; if the captures are joined, one for each media, with file 0
 abbrev pub rows : CheckJob → List Media → List (List Record) → List Row
 rows job media files = rows_over job.joined job.tai media files
 
--- the text of a report, or its JSON
+-- the report as text or as JSON
 abbrev pub printed : CheckJob → List Media → List FileNote → List Row → List ℕ
 printed job media notes rows = if job.json then json_text job media notes rows else report_text job media notes rows
 
--- the report of a job over a session of these media and captures of these texts
+-- the report of a job over these media and captures with these contents
 pub record HasReport (job : CheckJob) (media : List Media) (texts : List (List ℕ)) (answer : Answer) : Type 0 where
   pub files : List (List Record)
   pub notes : List FileNote

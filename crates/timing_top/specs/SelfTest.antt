@@ -1,5 +1,5 @@
--- What `selftest` prints: for each flaw that a made capture can have, what is found in that capture. A capture is made
--- from its number of frames, and goes with the plain session description.
+-- The output of `selftest`: a line for each flaw that a generated capture can have. A capture is generated from its
+-- number of frames, and judged with the SDP `plain.sdp`.
 use Rattle.std.specs.Prelude.{◌≡◌, ℕ, zero, suc, ◌^◌, List, [], ◌∷◌, ◌++◌, Ok, codes}
 use Rattle.std.specs.Fmt.{decimal}
 use Rattle.timing_base.specs.Captures.{Record}
@@ -17,12 +17,12 @@ use Rattle.timing_report.specs.Verdict.{verdict_text}
 use Rattle.timing_report.specs.declared.status.Status.TheVariants as status
 use Rattle.timing_reach.specs.steps.Answers.{Answer}
 
--- `flaw F: VERDICT; status S`, of a capture with one flow: its media, how the capture ends, and its row
+-- `flaw F: VERDICT; status S`, for a capture with one flow: its media, how the capture ends, and the result of the flow
 abbrev pub flaw_line : ℕ → Media → FileNote → Row → List ℕ
 flaw_line flaw media note row = codes "flaw " ++ (decimal flaw ++ (codes ": " ++ (verdict_text media row.verdict
     ++ (codes "; status " ++ (decimal (code_of (status_of (media ∷ []) (note ∷ []) (row ∷ []))) ++ codes "\n")))))
 
--- the line of the capture with this flaw, by the one row of its report
+-- the line of the capture with this flaw, from the result of its one flow
 pub record HasLine (frames flaw : ℕ) (line : List ℕ) : Type 0 where
   pub media : Media
   pub items : List Record
@@ -33,13 +33,13 @@ pub record HasLine (frames flaw : ℕ) (line : List ℕ) : Type 0 where
   pub row_is : rows_of 0 0 (media ∷ []) items ≡ row ∷ []
   pub line_is : line ≡ flaw_line flaw media note row
 
--- the lines of the captures with the flaws below a number, in order
+-- the lines of the captures with the flaws below `count`, in order
 abbrev pub HasLines : (frames count : ℕ) → List ℕ → Type 0
 HasLines frames zero text = text ≡ []
 HasLines frames (suc flaw) text = (before : List ℕ) × (line : List ℕ) × (text ≡ before ++ line)
     × HasLines frames flaw before × HasLine frames flaw line
 
--- the lines of the flaws 0 to 4, with status 0
+-- the lines of the flaws 0 to 4, and status 0
 pub record HasSelfTest (frames : ℕ) (answer : Answer) : Type 0 where
   pub lines : HasLines frames 5 answer.text
   pub status_is : answer.status ≡ status.Pass

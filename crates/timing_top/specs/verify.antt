@@ -1,7 +1,7 @@
--- what is promised
+-- the definitions that the public clauses cite
 pub mod Asked
 pub mod Findings
 pub mod Verified
--- these only serve proofs
+-- these serve only the proofs
 pub mod Claims
 pub mod Found

@@ -1,4 +1,4 @@
-//! The captures of a job, judged on this thread.
+//! Judges the captures of a job on one thread.
 
 ghost use Rattle.std.specs.Prelude.{◌≡◌};
 ghost use Rattle.timing_outside.specs.Shelves.{StaysAs};
@@ -13,19 +13,24 @@ use timing_base::Media;
 use timing_outside::Shelf;
 use timing_reach::steps::Failure;
 
-/// What is judged in captures on this thread: media, in each capture by itself or in all of them as in one.
+/// A request to judge media in captures on one thread.
 #[derive(Clone, Copy)]
 pub struct Alone<'a> {
+    /// The allocator.
     pub alloc: Global,
+    /// The media of the SDP.
     pub media: &'a [Media],
     /// Whether the captures are judged as one.
     pub joined: bool,
-    /// The seconds that are added to the stamps.
+    /// The seconds that are added to every capture timestamp.
     pub tai: u64,
 }
 
 impl Alone<'_> {
-    /// Judges the media in the captures.
+    /// Judges the media, in each capture by itself or in all of them as one.
+    ///
+    /// Returns `ReadFault` with the first capture that couldn't be read, and `OutOfMemory` if memory runs out. All
+    /// sources go back to the shelf in any case.
     pub fn judge<H: Shelf>(
         &self,
         shelf: &mut H,

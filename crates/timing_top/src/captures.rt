@@ -1,4 +1,4 @@
-//! The captures of a job, judged one after the other, each by itself.
+//! Judges the captures of a job one after the other, each by itself.
 
 ghost use Rattle.std.specs.Prelude.{◌≡◌, ◌≤◌, ◌<◌, ◌+◌, ℕ, List, Some, IfOk, IfErr, length};
 ghost use Rattle.timing_outside.specs.Causes.{Rose};
@@ -18,15 +18,16 @@ use timing_outside::{Shelf, Source};
 use timing_reach::steps::{Failure, give_back, take_source};
 use timing_report::Input;
 
-/// How the captures of a job end, and its rows.
+/// The results of judging the captures of a job.
 #[derive(Drop)]
 pub struct Found {
-    /// One for each capture.
+    /// How each capture ends.
     pub notes: Vec<FileNote>,
+    /// The results of the flows.
     pub rows: Vec<Row>,
 }
 
-/// Judges the media in one capture more, by itself.
+/// Judges the media in one more capture, by itself, and appends its note and its results.
 fn judge_next<H: Shelf>(
     alloc: Global,
     shelf: &mut H,
@@ -67,8 +68,8 @@ fn judge_next<H: Shelf>(
 }
 
 impl Alone<'_> {
-    /// Judges the media in each capture by itself. After a capture that couldn't be read the sources of
-    /// the others go back to the shelf.
+    /// Judges the media in each capture by itself. After a capture that couldn't be read, the sources of the others go
+    /// back to the shelf unread.
     pub fn judge_each<H: Shelf>(
         &self,
         shelf: &mut H,

@@ -1,5 +1,4 @@
-//! `check`: the description is read, the captures are judged, on one thread or with workers, and their
-//! report is printed.
+//! `check`: reads the SDP, judges the captures on one thread or with workers, and prints their report.
 
 ghost use Rattle.std.specs.Prelude.{◌≡◌, ◌≤◌, Err, IfErr, IfOk, Ok, string_bytes};
 ghost use Rattle.timing_outside.specs.Shelves.{StaysAs};
@@ -24,7 +23,7 @@ use timing_reach::steps::{Answer, Failure, conclude, fetch_captures, fetch_sessi
 use timing_report::json_report::json_of;
 use timing_report::{Status, status_of, text_of};
 
-/// The text of what was found, or its JSON.
+/// Returns the report as text, or as JSON if the job asks for it.
 fn text_on(
     alloc: Global,
     job: &CheckJob,
@@ -42,7 +41,7 @@ fn text_on(
     }
 }
 
-/// The answer of a job whose captures were judged: its report. `Err` is want of memory.
+/// Returns the answer of a job with judged captures: its report and the status. Returns `Err` if memory runs out.
 fn report_on(
     alloc: Global,
     job: &CheckJob,
@@ -63,15 +62,16 @@ fn report_on(
     })
 }
 
-/// What the judging of a job begins with.
+/// The inputs of a job, opened for judging.
 #[derive(Drop)]
 struct Opened<S: Source> {
+    /// The media of the SDP.
     session: Session,
-    /// One for each capture.
+    /// The sources of the captures, in their order.
     sources: Vec<Classic<S>>,
 }
 
-/// Reads the description of a job and fetches its captures. A description that is refused has its answer.
+/// Reads the SDP of a job and opens its captures. If the SDP is invalid, returns the answer of the job instead.
 fn open<H: Shelf>(
     alloc: Global,
     job: &CheckJob,
@@ -96,7 +96,7 @@ fn open<H: Shelf>(
     }
 }
 
-/// The answer of a job on one thread, or why there is none.
+/// Returns the answer of a job, judged on one thread, or the reason why there is none.
 fn answer_check<H: Shelf>(alloc: Global, job: &CheckJob, shelf: &mut H) -> Result<Answer, Failure>
     ensures answers { AnswersCheck job.now (seen_of H.Shelf shelf.old shelf.new) result }
     ensures stays { StaysAs H.text H.lacks H.faults shelf.old shelf.new }
@@ -116,8 +116,8 @@ fn answer_check<H: Shelf>(alloc: Global, job: &CheckJob, shelf: &mut H) -> Resul
     }
 }
 
-/// Judges the captures of a job on one thread, whatever its number of workers says, and prints the
-/// report on `out`. On `err` it tells why there is none.
+/// Runs `check` on one thread, whatever number of workers the job has. Prints the report on `out`, or on `err` the
+/// reason why there is none.
 pub fn check_one<H: Shelf, K: Sink>(
     alloc: Global,
     job: &CheckJob,
@@ -134,7 +134,7 @@ pub fn check_one<H: Shelf, K: Sink>(
     conclude(out, err, outcome)
 }
 
-/// The answer of a job with its workers, or why there is none.
+/// Returns the answer of a job, judged with its workers, or the reason why there is none.
 fn answer_many<R: Threads + Wait + Sync, H: Shelf, G: Gate>(
     rt: &R,
     alloc: Global,
@@ -157,8 +157,8 @@ fn answer_many<R: Threads + Wait + Sync, H: Shelf, G: Gate>(
     }
 }
 
-/// Judges the captures of a job by an intake for each and as many workers as it says, and prints what
-/// `check_one` prints. The call may wait for its threads, and promises if it returns.
+/// Runs `check` with an intake thread for each capture and at most as many workers as the job has. Prints what
+/// `check_one` prints. The call may wait for its threads; its clauses hold if it returns.
 pub fn check_many<R: Threads + Wait + Sync, H: Shelf, K: Sink, G: Gate>(
     rt: &R,
     alloc: Global,

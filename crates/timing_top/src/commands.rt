@@ -1,4 +1,4 @@
-//! From the words of a command line to what is printed and the status.
+//! From the arguments of a command line to the output and the status.
 
 ghost use Rattle.std.specs.Prelude.{Some, map, string_bytes};
 ghost use Rattle.timing_outside.specs.Shelves.{StaysAs};
@@ -24,7 +24,7 @@ use timing_reach::{scan_one, shape_one, skew_one, window_one};
 use timing_report::Status;
 use timing_words::{Request, WordFault, read_words};
 
-/// Does what a request asks for, by the call of its command: `check` on this thread where the job has no workers.
+/// Runs the command of a request. `check` runs on one thread if the job has 0 workers.
 fn serve<R: Threads + Wait + Sync, H: Shelf, K: Sink, G: Gate>(
     rt: &R,
     alloc: Global,
@@ -63,13 +63,14 @@ fn serve<R: Threads + Wait + Sync, H: Shelf, K: Sink, G: Gate>(
     }
 }
 
-/// Does what the words ask for, the program's name not among them, and answers how that ended.
+/// Runs the command line `words`, without the name of the program, and returns the status.
 ///
-/// What is printed goes to `out`, whole or not at all, but where a write fails; `err` gets one line where
-/// there is nothing to print. `series` alone prints while it reads: where that fails a front of its text may stand.
+/// The answer is printed on `out`, whole or not at all, except if a write fails: then `out` has a prefix of it. If
+/// there is no answer, `err` has one line with the reason. Only `series` prints while it reads; if that fails, `out`
+/// may have a prefix of its rows.
 ///
-/// What is printed doesn't depend on the number of workers, nor on how their threads take turns. With
-/// workers the call waits for its threads; it promises what it says if it returns.
+/// The output depends neither on the number of workers nor on the interleaving of their threads. With workers the call
+/// waits for its threads; its clauses hold if it returns.
 pub fn run<R: Wait + Threads + Sync, H: Shelf, K: Sink, G: Gate>(
     rt: &R,
     alloc: Global,
@@ -79,17 +80,17 @@ pub fn run<R: Wait + Threads + Sync, H: Shelf, K: Sink, G: Gate>(
     err: &mut K,
     gate: &G,
 ) -> Status
-    // What the texts of the request define was printed with its status, or nothing was and the status
-    // says why: an input couldn't be read whose count rose, a write failed, or memory ran out. Of `series`
-    // a front of it may stand then. What that is for `check`, in the words of the standard and in one sentence,
-    // is the theorem `laws::headline`.
+    // The answer that the contents of the inputs define was printed, with its status. Or it wasn't, and the status
+    // gives the reason: a read of an input failed and the count of its faults rose, a write failed, or memory ran out.
+    // Then nothing was printed, or a prefix of the answer if a write failed; `series` may also leave a prefix with the
+    // other two. What this means for `check` in the terms of the standard is the law `laws::headline`.
     ensures ran { RanAs (request (map string_bytes words.now)) (seen_of H.Shelf shelf.old shelf.new)
         (output_of K.Sink out.old out.new)
         (output_of K.Sink err.old err.new)
         result }
 
-    // Whether a text is told or not: the request may end with this status, and with 2, 3, 5, 7 and 9 nothing was
-    // printed; of `series` with 3, and with 5 where it names the description.
+    // Also for contents that aren't known: the status is one that the request may end with, and with 2, 3, 5, 7 and 9
+    // nothing was printed. For `series` this holds with 3, and with 5 if the status names the SDP.
     ensures ends { Ends (request (map string_bytes words.now)) (output_of K.Sink out.old out.new) result }
     ensures stays { StaysAs H.text H.lacks H.faults shelf.old shelf.new }
 {

@@ -1,4 +1,4 @@
-//! `help`: the words of the commands.
+//! `help`: prints the arguments of the commands.
 
 ghost use Rattle.timing_reach.specs.steps.Ran.{Ran, output_of};
 ghost use Rattle.timing_top.specs.Asked.{FollowsHelp};
@@ -9,7 +9,7 @@ use timing_reach::steps::{Answer, Failure, conclude};
 use timing_report::Status;
 use timing_words::{Command, help_text};
 
-/// The answer of `help`, or of `help` with a command.
+/// Returns the answer of `help`, or of `help` with a command.
 fn answer_help(alloc: Global, command: Option<Command>) -> Result<Answer, Failure>
     ensures { FollowsHelp command result }
 {
@@ -20,8 +20,8 @@ fn answer_help(alloc: Global, command: Option<Command>) -> Result<Answer, Failur
     })
 }
 
-/// Prints the words of all commands, or those of one and more of it, on `out`. On `err` it tells why there is
-/// nothing. Nothing is read.
+/// Prints the arguments of all commands on `out`, or those of one command and more about it. Prints on `err` the reason
+/// if there is no output. Reads nothing.
 pub fn print_help<K: Sink>(
     alloc: Global,
     command: Option<Command>,

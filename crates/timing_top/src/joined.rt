@@ -1,4 +1,4 @@
-//! The captures of a job, judged as one capture.
+//! Judges the captures of a job as one capture.
 
 ghost use Rattle.std.specs.Prelude.{◌≡◌, ◌≤◌, ◌<◌, ◌+◌, ◌*◌, ◌^◌, ℕ, List, Some, IfOk, IfErr, length};
 ghost use Rattle.timing_base.specs.Captures.{joined};
@@ -20,17 +20,18 @@ use timing_outside::{Shelf, Source};
 use timing_reach::steps::{Failure, give_back, give_back_all, take_source};
 use timing_report::Input;
 
-/// Captures that are one capture, as far as they were taken.
+/// The captures that were taken as one so far.
 #[derive(Drop)]
 struct Joined {
     /// How each of them ends.
     notes: Vec<FileNote>,
-    /// Their records.
+    /// The number of their packet records.
     records: u64,
+    /// The judges of the media.
     bank: Bank,
 }
 
-/// Takes one capture more: its first record follows the last one of the captures before.
+/// Takes one more capture. Its first packet record follows the last one of the captures before.
 fn join_next<H: Shelf>(
     alloc: Global,
     shelf: &mut H,
@@ -65,9 +66,9 @@ fn join_next<H: Shelf>(
 }
 
 impl Alone<'_> {
-    /// Takes the captures in order, the records of each numbered on from those before, and judges the
-    /// media in all of them as in one. After a capture that couldn't be read the sources of the others go
-    /// back to the shelf.
+    /// Takes the captures in order, with packet records that are numbered on from capture to capture, and judges the
+    /// media in all of them as one. After a capture that couldn't be read, the sources of the others go back to the
+    /// shelf unread.
     pub fn judge_joined<H: Shelf>(
         &self,
         shelf: &mut H,

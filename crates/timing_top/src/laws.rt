@@ -1,5 +1,4 @@
-//! What holds of the definitions themselves. Each function is a theorem: it does nothing, and its
-//! clauses are proved.
+//! Laws of the definitions. Each function is a theorem: it does nothing, and its clauses are proved.
 
 ghost use Rattle.std.specs.Prelude.{◌≡◌, ◌⊎◌, [], ◌∷◌, ℕ, Bool, List, All, Option, Some, None, Result, Ok, Err, false, ◌≤◌, length, true, map};
 ghost use Rattle.timing_base.specs.Examples.{plain_media};
@@ -38,23 +37,25 @@ ghost use Rattle.timing_top.specs.ReadBack.{IsReadable, reading_back};
 
 use timing_outside::Shelf;
 
-/// `selftest` prints one text: there is one, and there are not two.
+/// `selftest` has exactly one answer for each number of frames.
 pub fn one_self_test()
     ensures some { (frames : ℕ) → (answer : Answer) × HasSelfTest frames answer }
     ensures once { (frames : ℕ) (a b : Answer)
         → HasSelfTest frames a → HasSelfTest frames b → a ≡ b }
 {}
 
-/// Worked by hand: the media of the plain description, which `selftest` judges.
+/// The SDP that `selftest` uses, `plain.sdp`, is read as the plain media, worked by hand.
 pub fn plain_media_by_hand()
     ensures { session sdp_text ≡ Ok (plain_media ∷ []) }
 {}
 
-/// The texts of a request define one answer, whatever is asked. Where the texts of all inputs that it names are told and
-/// none is lacking, there is one answer and there are not two; and what has none ran out of memory or names an input
-/// whose count rose. Of `verify-report` that speaks of all its captures, though it reads only those that the fails of
-/// its report need; that `measure`, `series` and `page` have an answer is said of texts of bytes, which those of all
-/// files are.
+/// The contents of the inputs of a request define exactly one answer.
+///
+/// `some`: if the contents of all inputs that the request names are known, and none is lacking, there is an answer. For
+/// `verify-report` this takes the contents of all its captures, though it reads only those that the violations of its
+/// report need. For `measure`, `series` and `page` the contents have to be bytes, as those of all files are. `once`:
+/// there aren't two answers. `failed`: without an answer memory ran out, or the status names an input with a count of
+/// faults that rose.
 pub fn one_answer()
     ensures some { (asked : Option Request) (texts : List ℕ → Option (List ℕ))
         (lacking : List ℕ → Bool) (before now : List ℕ → ℕ) (told : List (List ℕ))
@@ -74,7 +75,7 @@ pub fn one_answer()
         × InputRose asked (seen texts lacking before now) input) }
 {}
 
-/// Texts have one report: there is one, and there are not two.
+/// The contents of an SDP and of captures have exactly one report.
 pub fn one_report()
     ensures some { (job : CheckJob) (media : List Media) (texts : List (List ℕ))
         → (answer : Answer) × HasReport job media texts answer }
@@ -82,9 +83,9 @@ pub fn one_report()
         → HasReport job media texts a → HasReport job media texts b → a ≡ b }
 {}
 
-/// A sender type passes in a report exactly where no interval of judged packets has more than C_MAX, less
-/// the drain ticks in it, and at every instant the receiver buffer holds between nothing and VRX_FULL; each fail
-/// that is told names an interval that its numbers confirm.
+/// A sender type passes in a report exactly if no interval of judged packets has more packets than C_MAX plus the drain
+/// ticks in it, and at every instant the receiver buffer holds between nothing and VRX_FULL. Each violation in the
+/// report names an interval that its numbers confirm.
 pub fn types_are_exact()
     ensures { (job : CheckJob) (media : List Media) (texts : List (List ℕ)) (answer : Answer)
         → IsCheckJob job → All IsMedia media → All AreBytes texts
@@ -92,7 +93,7 @@ pub fn types_are_exact()
         → All (IsExactRow job.joined job.tai media h.files) (rows job media h.files) }
 {}
 
-/// The numbers of the rows that are made of captures have 64 bits, whatever the captures are.
+/// The numbers in the results of captures have 64 bits, whatever the captures contain.
 pub fn rows_have_words()
     ensures { (job : CheckJob) (media : List Media) (text : List ℕ → List ℕ)
         (files : List (List Record)) (notes : List FileNote) → IsReadable job media text
@@ -100,7 +101,7 @@ pub fn rows_have_words()
         → All (λ row. FitsVerdict row.verdict) (rows_over job.joined job.tai media files) }
 {}
 
-/// Captures confirm each fail of the rows that are made of them.
+/// Every violation in the results of captures is confirmed by these captures.
 pub fn rows_are_confirmed()
     ensures { (job : CheckJob) (media : List Media) (text : List ℕ → List ℕ) (name : List ℕ)
         (files : List (List Record)) (notes : List FileNote) → IsReadable job media text
@@ -109,9 +110,8 @@ pub fn rows_are_confirmed()
         (reading_back job name) claim text (Ok true)) (fails_of (rows_over job.joined job.tai media files)) }
 {}
 
-/// The JSON that is made of captures, where it isn't longer than a report may be, is read back as the
-/// fails of its rows, in order; and `verify-report` over the same texts ends with the status 0,
-/// whatever the report is named.
+/// The JSON of results of captures is read back as their violations in order, if it isn't longer than a report may be.
+/// `verify-report` over the same contents then ends with status 0, whatever the name of the report is.
 pub fn json_verifies()
     ensures told { (job : CheckJob) (media : List Media) (text : List ℕ → List ℕ)
         (files : List (List Record)) (notes : List FileNote) → IsReadable job media text
@@ -128,9 +128,9 @@ pub fn json_verifies()
         → verified.status ≡ status.Pass }
 {}
 
-/// A JSON report verifies: what is read back of it is the fails of its rows, in order; the captures
-/// that it was made of confirm each; so `verify-report` over the same texts ends with the status 0,
-/// whatever the report is named.
+/// A JSON report verifies. It is read back as the violations of its results in order; the captures of the report
+/// confirm each of them; and `verify-report` over the same contents ends with status 0, whatever the name of the report
+/// is.
 pub fn report_verifies()
     ensures told { (job : CheckJob) (media : List Media) (text : List ℕ → List ℕ) (answer : Answer)
         → IsReadable job media text → job.json ≡ true → length answer.text ≤ 16777216
@@ -149,7 +149,7 @@ pub fn report_verifies()
         → verified.status ≡ status.Pass }
 {}
 
-/// The number of workers is in no report, and in nothing that `check` follows, over any shelf.
+/// No report, and no outcome of `check`, depends on the number of workers, over any shelf.
 pub fn same_for_all_workers<H: Shelf>()
     ensures report { (job : CheckJob) (workers : ℕ) (media : List Media) (texts : List (List ℕ))
         (answer : Answer) → HasReport job media texts answer
@@ -159,18 +159,20 @@ pub fn same_for_all_workers<H: Shelf>()
         → FollowsCheck (with_workers workers job) (seen_of H.Shelf old new) outcome }
 {}
 
-/// Of every request but `series`, and of words that are none, the clause `ran` of `crate::run` says that the answer
-/// was printed whole, or nothing was, but where a write failed.
+/// For every request but `series`, and for an invalid command line, the clause `ran` of `crate::run` means that the
+/// answer was printed whole, or nothing was, except if a write failed.
 pub fn whole_or_nothing<H: Shelf>()
     ensures { (asked : Option Request) (old new : H) (out err : Output) (ends : Status) → prints_whole asked ≡ true
         → RanAs asked (seen_of H.Shelf old new) out err ends
         → Ran (Follows asked (seen_of H.Shelf old new)) (InputRose asked (seen_of H.Shelf old new)) out err ends }
 {}
 
-/// What a run of `check` leaves and how it ends, whatever its words, the description and the bytes of the
-/// captures are, over any shelf, with every number of workers, and however their threads take turns; and what
-/// it leaves on words that are no request. The run is one of which the clause `ran` of `crate::run` holds: the last
-/// premise is what that clause says of all words but those of `series` (`whole_or_nothing`).
+/// The output and status of a run of `check`, whatever the command line, the SDP and the bytes of the captures are,
+/// over any shelf, with every number of workers and every interleaving of their threads; and the output and status for
+/// an invalid command line.
+///
+/// The last premise of either clause is what the clause `ran` of `crate::run` states for every request but `series`
+/// (`whole_or_nothing`).
 pub fn headline<H: Shelf>()
     ensures check { (words : List (List ℕ)) (job : CheckJob) (sdp : List ℕ) (captures : List (List ℕ))
         (old new : H) (out err : Output) (ends : Status)

@@ -1,10 +1,10 @@
-//! The analyser as one call: from the words of a command line to what is printed and the status.
+//! The analyser as one call: from the arguments of a command line to the output and the status.
 //!
-//! [`run`] reads the words and does what they ask for, over a shelf of texts and two sinks. What is
-//! printed, and why there is nothing, is its contract.
+//! [`run`] reads the arguments and runs the command, with inputs from a shelf and two sinks for the output. Its clauses
+//! define the output and the status.
 //!
-//! - `laws`: the headline, and what else follows of that contract.
-//! - `verify`: `verify` and `verify-report`, which check fails that are claimed.
+//! - `laws`: the law `headline`, and other laws that follow from the clauses of `run`.
+//! - `verify`: `verify` and `verify-report`, which check claimed violations.
 #![tactic(auto)]
 
 mod alone;

@@ -1,4 +1,4 @@
-//! The captures of a job, judged by intakes and workers beside each other.
+//! Judges the captures of a job with intake threads and workers.
 
 ghost use Rattle.std.specs.Prelude.{◌≡◌, ◌≤◌, ◌<◌, IfSome, Some, length, slice_index_or};
 ghost use Rattle.timing_base.specs.Targets.{HaveOwnTargets};
@@ -20,7 +20,8 @@ use timing_outside::{Gate, Shelf};
 use timing_reach::steps::{Failure, give_back_all};
 use timing_report::Input;
 
-/// The first capture that couldn't be read, counted from 0, where memory served for those before it.
+/// Returns the number of the first capture that couldn't be read, from 0. Returns `None` if there is none, or if memory
+/// ran out in a capture before it.
 fn first_unread(notes: &[Option<FileNote>]) -> Option<u32>
     requires few { length notes.now ≤ 16 }
     ensures { IfSome result (λ number. (number < length notes.now) × ((d : _)
@@ -36,8 +37,8 @@ fn first_unread(notes: &[Option<FileNote>]) -> Option<u32>
     None
 }
 
-/// The workers of a run where so many are asked for: no more than there are flows, since one without a
-/// flow has nothing to judge.
+/// Returns the number of workers of a run: at most as many as were asked for, as flows, and 16. A worker without a flow
+/// would have nothing to judge.
 fn worker_count(asked: u32, captures: usize, media: usize, joined: bool) -> u32
     requires { 1 ≤ asked }
     ensures some { 1 ≤ result }
@@ -51,9 +52,10 @@ fn worker_count(asked: u32, captures: usize, media: usize, joined: bool) -> u32
     asked.min(flows.max(1).min(16) as u32)
 }
 
-/// Judges the media in the captures, in each by itself or in all of them as in one, with so many
-/// workers at most. Where captures couldn't be read, the first of them is named. The sources go back to
-/// the shelf before, also where memory ran out in an intake.
+/// Judges the media, in each capture by itself or in all of them as one, with at most this many workers.
+///
+/// Returns `ReadFault` with the first capture that couldn't be read, and `OutOfMemory` if memory runs out. The sources
+/// go back to the shelf before, also if memory ran out in an intake.
 pub fn judge_many<R: Threads + Wait + Sync, H: Shelf, G: Gate>(
     rt: &R,
     alloc: Global,

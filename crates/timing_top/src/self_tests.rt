@@ -1,4 +1,4 @@
-//! `selftest`: captures that are made here, judged as those of `check` are.
+//! `selftest`: judges captures that the program generates, in the way of `check`.
 
 ghost use Rattle.std.specs.Prelude.{◌≡◌, ◌≤◌, ◌<◌, [], ◌∷◌, IfOk, IfErr, codes, false, length, string_bytes};
 ghost use Rattle.timing_base.specs.Media.{Media as MediaValue};
@@ -30,12 +30,13 @@ use timing_outside::{Gate, MemorySink, Shelf, Sink, SteadyShelf};
 use timing_reach::steps::{Answer, Failure, conclude, fetch_captures, fetch_session};
 use timing_report::{Status, status_of, verdict_of};
 
-/// The flaws that a made capture can have, none among them.
+/// The number of flaws that a generated capture can have, with flaw 0, which is none.
 const FLAWS: u32 = 5;
 
-/// The capture that is made from its number of frames, with this flaw.
+/// Returns the capture that is generated from its number of frames, with this flaw.
 ///
-/// `Err` is want of memory. The sink takes its room when it is made, and a capture fits in it.
+/// Returns `Err` if memory runs out. The sink allocates the length of the capture at once, so that no later write
+/// fails.
 fn made(alloc: Global, frames: u32, flaw: u32) -> Result<Vec<u8>, OutOfMemory>
     requires some { 1 ≤ frames }
     requires few { frames ≤ 20000 }
@@ -49,7 +50,7 @@ fn made(alloc: Global, frames: u32, flaw: u32) -> Result<Vec<u8>, OutOfMemory>
     }
 }
 
-/// A shelf with the plain description and the capture with this flaw.
+/// Returns a shelf with the SDP `plain.sdp` and the capture with this flaw.
 fn shelf_with(alloc: Global, frames: u32, flaw: u32) -> Result<SteadyShelf, OutOfMemory>
     requires some { 1 ≤ frames }
     requires few { frames ≤ 20000 }
@@ -66,8 +67,7 @@ fn shelf_with(alloc: Global, frames: u32, flaw: u32) -> Result<SteadyShelf, OutO
     Ok(shelf)
 }
 
-/// Judges the media in the captures, each by itself, with so many workers, or on this thread where
-/// there are none.
+/// Judges the media, in each capture by itself, with this many workers; on one thread if `workers` is 0.
 fn judge_made<R: Threads + Wait + Sync, H: Shelf, G: Gate>(
     rt: &R,
     alloc: Global,
@@ -99,7 +99,7 @@ fn judge_made<R: Threads + Wait + Sync, H: Shelf, G: Gate>(
     }
 }
 
-/// The line of what was found in the one capture of a session of one media.
+/// Returns the line for a session of one media and one capture.
 fn text_on(
     alloc: Global,
     flaw: u32,
@@ -119,7 +119,7 @@ fn text_on(
     format!(in alloc; "flaw {flaw}: {verdict}; status {status}\n")
 }
 
-/// The line of the capture with this flaw. `Err` is want of memory.
+/// Returns the line of the capture with this flaw. Returns `Err` if memory runs out.
 fn line_of<R: Threads + Wait + Sync, G: Gate>(
     rt: &R,
     alloc: Global,
@@ -149,8 +149,8 @@ fn line_of<R: Threads + Wait + Sync, G: Gate>(
     Ok(text_on(alloc, flaw, &session, &found)?)
 }
 
-/// The answer of `selftest` with so many frames and workers: a line for each flaw. One capture is held
-/// at a time.
+/// Returns the answer of `selftest` with this many frames and workers: a line for each flaw. Only one capture is in
+/// memory at a time.
 fn answer_self_test<R: Threads + Wait + Sync, G: Gate>(
     rt: &R,
     alloc: Global,
@@ -173,9 +173,9 @@ fn answer_self_test<R: Threads + Wait + Sync, G: Gate>(
     })
 }
 
-/// Judges captures that are made here, one for each flaw that they can have, with as many workers as the
-/// job says, and prints a line for each on `out`. On `err` it tells why there is none. Nothing is read.
-/// The call may wait for its threads, and promises if it returns.
+/// Runs `selftest`: judges a generated capture for each flaw, with the workers of the job, and prints a line for each
+/// on `out`. Prints on `err` the reason if there is no output. Reads nothing. The call may wait for its threads; its
+/// clauses hold if it returns.
 pub fn self_test<R: Threads + Wait + Sync, K: Sink, G: Gate>(
     rt: &R,
     alloc: Global,

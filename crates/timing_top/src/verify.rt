@@ -1,7 +1,7 @@
-//! `verify` and `verify-report`: whether captures confirm a fail that is claimed of a sender, and
-//! whether they confirm each fail that a JSON report tells.
+//! `verify` and `verify-report`: whether captures confirm a violation that is claimed of a sender, and whether they
+//! confirm each violation in a JSON report.
 //!
-//! Each claim is checked from the captures alone, by `interval_checker`: no judge runs here.
+//! Each claim is checked from the captures alone, by `interval_checker`; no judge runs here.
 
 mod asks;
 mod checked;

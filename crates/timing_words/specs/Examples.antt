@@ -1,45 +1,45 @@
--- Lines for examples that are worked by hand.
+-- Command lines for examples worked by hand.
 use Rattle.std.specs.Prelude.{ℕ, ◌≡◌, ◌==◌, if◌then◌else◌, List, [], ◌∷◌, Some, None, codes, false}
 use Rattle.timing_base.specs.Jobs.{CheckJob, FlowJob}
 use Rattle.timing_words.specs.declared.request.Request.{Request}
 use Rattle.timing_words.specs.Line.{Part, Text, cut}
 use Rattle.timing_words.specs.Request.{check_sorts, request}
 
--- a byte more of the first word
+-- one more byte at the start of the first word
 abbrev pub longer : ℕ → List Text → List Text
 longer b [] = (b ∷ []) ∷ []
 longer b (w ∷ ws) = (b ∷ w) ∷ ws
 
--- the words of a text, which single spaces (32) part
+-- the words of a text, which single spaces (32) separate
 abbrev pub words : Text → List Text
 words [] = [] ∷ []
 words (b ∷ bs) = if b == 32 then [] ∷ words bs else longer b (words bs)
 
--- the line of sixteen names
+-- a text of sixteen words
 abbrev pub sixteen_names : Text
 sixteen_names = codes "a b c d e f g h i j k l m n o p"
 
--- the sixteen names
+-- those sixteen words
 abbrev pub sixteen : List Text
 sixteen = words sixteen_names
 
--- the words of a line after `check` are cut into these parts
+-- the arguments after `check` are separated into these parts
 abbrev pub IsCut : Text → List Part → Type 0
 IsCut text parts = cut check_sorts (words text) None ≡ Some parts
 
--- they cannot be cut
+-- the arguments after `check` can't be separated
 abbrev pub IsUncut : Text → Type 0
 IsUncut text = cut check_sorts (words text) None ≡ None
 
--- the words of a whole line are this request
+-- the command line gives this request
 abbrev pub Asks : Text → Request → Type 0
 Asks text asked = request (words text) ≡ Some asked
 
--- they are no request
+-- the command line is invalid
 abbrev pub IsRefused : Text → Type 0
 IsRefused text = request (words text) ≡ None
 
--- what `check --sdp p c` asks for
+-- the job of `check --sdp p c`
 abbrev pub plain_check : CheckJob
 plain_check = record {
   sdp = codes "p";
@@ -50,6 +50,6 @@ plain_check = record {
   joined = false;
 }
 
--- the flow of media 2 of the capture c, as p describes it, with these seconds of TAI
+-- the flow of media 2 of the capture c, which p describes, with these seconds added
 abbrev pub second_flow : ℕ → FlowJob
 second_flow seconds = record { sdp = codes "p"; media = 1; tai = seconds; capture = codes "c" }

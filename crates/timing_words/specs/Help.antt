@@ -1,5 +1,5 @@
--- What `help` prints: of all commands their words, the statuses and where to read on; of one command more. The words
--- are the options and flags that the grammar has for it.
+-- The output of `help`: of all commands the arguments, the exit statuses and where to read on; of one command more.
+-- The options and flags are those of the grammar.
 -- This project's profile: the whole text.
 use Rattle.std.specs.Prelude.{Bool, ◌||◌, if◌then◌else◌, ◌++◌, List, [], ◌∷◌, Option, Some, None, codes}
 use Rattle.std.specs.List.{flat_map}
@@ -11,7 +11,7 @@ use Rattle.timing_words.specs.declared.command.Command.TheVariants as command
 
 -- ---- options and flags
 
--- what stands for the value of an option
+-- the placeholder for the value of an option
 abbrev pub value_shape : Text → Text
 value_shape n =
     if bytes_eq n (codes "sdp") then codes "FILE"
@@ -21,7 +21,7 @@ value_shape n =
     else if bytes_eq n (codes "model") then codes "MODEL"
     else codes "N"
 
--- what an option or a flag means
+-- the meaning of an option or flag, in words
 abbrev pub meaning : Text → Text
 meaning n =
     if bytes_eq n (codes "sdp") then codes "the session description"
@@ -44,7 +44,7 @@ meaning n =
     else if bytes_eq n (codes "frames") then codes "a row stands for a frame, and not for a packet"
     else codes "docs/FORMATS.md says what"
 
--- an option or a flag may be missing: one of these names
+-- the option or flag of this name is optional
 abbrev pub may_be_missing : Text → Bool
 may_be_missing n =
     bytes_eq n (codes "workers") || bytes_eq n (codes "tai") || bytes_eq n (codes "serial")
@@ -55,17 +55,17 @@ may_be_missing n =
 abbrev pub shown : Sort → Text
 shown s = if s.valued then codes "--" ++ (s.name ++ (codes " " ++ value_shape s.name)) else codes "--" ++ s.name
 
--- the same among the words of a command, in brackets where it may be missing
+-- an option or flag as in the arguments of a command, in brackets if it is optional
 abbrev pub word : Sort → Text
 word s = if may_be_missing s.name then codes " [" ++ (shown s ++ codes "]") else codes " " ++ shown s
 
--- the same on a line of its own, with what it means
+-- an option or flag with its meaning, on a line of its own
 abbrev pub told : Sort → Text
 told s = codes "  " ++ (shown s ++ (codes ": " ++ (meaning s.name ++ codes "\n")))
 
 -- ---- commands
 
--- the word of a command
+-- the name of a command
 abbrev pub name_of : Command → Text
 name_of command.Check = codes "check"
 name_of command.Verify = codes "verify"
@@ -79,7 +79,7 @@ name_of command.Measure = codes "measure"
 name_of command.Series = codes "series"
 name_of command.Page = codes "page"
 
--- the names that follow its options
+-- the placeholder for the positional arguments of a command
 abbrev pub names_shape : Command → Text
 names_shape command.Check = codes "CAPTURE.."
 names_shape command.Verify = codes "CAPTURE.."
@@ -93,7 +93,7 @@ names_shape command.Measure = codes "CAPTURE"
 names_shape command.Series = codes "CAPTURE"
 names_shape command.Page = codes "CAPTURE"
 
--- what it does
+-- what a command does, in words
 abbrev pub about : Command → Text
 about command.Check = codes "judges each video of the description in each capture"
 about command.Verify = codes "checks one violation that is claimed of a sender, from the capture alone"
@@ -107,7 +107,7 @@ about command.Measure = codes "says how near each video comes to its limits, whe
 about command.Series = codes "lists the numbers of a flow as CSV, packet by packet or frame by frame"
 about command.Page = codes "writes the report of a capture as one page with pictures"
 
--- what is printed
+-- what a command prints, in words
 abbrev pub printed : Command → Text
 printed command.Check =
     codes "Prints how each capture ends, then for each video whether its packets keep the limits of a narrow,\n"
@@ -134,7 +134,7 @@ printed command.Page =
     codes "Prints one HTML page that needs nothing else: of each video what is judged and measured, in words, pictures and\n"
     ++ codes "tables, and what the capture holds.\n"
 
--- an example, which reads files of the repository
+-- an example of a command, with files of the repository
 abbrev pub example : Command → Text
 example command.Check = codes "./run check --sdp examples/plain.sdp examples/burst.pcap"
 example command.Verify =
@@ -154,31 +154,31 @@ example command.Page = codes "./run page --sdp examples/plain.sdp examples/burst
 
 -- ---- texts
 
--- the words of a command
+-- the arguments of a command
 abbrev pub usage : Command → Text
 usage c = name_of c ++ (flat_map word (sorts c) ++ (codes " " ++ names_shape c))
 
--- its words and what it does, in two lines
+-- the arguments of a command and what it does, in two lines
 abbrev pub summary : Command → Text
 summary c = codes "  " ++ (usage c ++ (codes "\n      " ++ (about c ++ codes "\n")))
 
--- the commands, in the order in which they are told
+-- the commands, in the order of the output
 abbrev pub commands : List Command
 commands =
     command.Check ∷ command.Verify ∷ command.VerifyReport ∷ command.SelfTest ∷ command.Window ∷ command.Shape
     ∷ command.Skew ∷ command.Scan ∷ command.Measure ∷ command.Series ∷ command.Page ∷ []
 
--- those of all commands
+-- the two lines of each command
 abbrev pub summaries : Text
 summaries = flat_map summary commands
 
--- the lines before them: name and version of the program, and what it does
+-- the lines before the commands: name and version of the program, and what it does
 abbrev pub front_text : Text
 front_text =
     codes "st2110_timing 1.0.0: judges the timing of video senders from packet captures, after SMPTE ST 2110-21:2017.\n"
     ++ codes "\nCommands:\n"
 
--- and those after them
+-- the lines after the commands
 abbrev pub back_text : Text
 back_text =
     codes "  help [COMMAND]\n      prints this text, or more of one command\n\nExit statuses:\n"
@@ -193,13 +193,13 @@ back_text =
     ++ (codes "  9 the report is invalid\n\n"
     ++ codes "Read on in docs/GUIDE.md, docs/FORMATS.md and docs/st2110_timing.1.\n")))))))))
 
--- the text of one command
+-- the output of `help` with a command
 abbrev pub command_text : Command → Text
 command_text c =
     usage c ++ (codes "\n" ++ (about c ++ (codes "\n\n" ++ (flat_map told (sorts c) ++ (codes "\n" ++ (printed c
     ++ (codes "Example: " ++ (example c ++ codes "\n"))))))))
 
--- the text of `help`, or of `help COMMAND`
+-- the output of `help`, without or with a command
 abbrev pub help_text : Option Command → Text
 help_text None = front_text ++ (summaries ++ back_text)
 help_text (Some c) = command_text c

@@ -1,12 +1,12 @@
--- what is promised
+-- definitions that the crate's clauses cite
 pub mod Request
 pub mod Line
 pub mod Answers
 pub mod Limits
 pub mod Help
--- lines that are worked by hand
+-- command lines for examples worked by hand
 pub mod Examples
--- these only serve proofs
+-- used in proofs only
 pub mod Clap
 pub mod Sorts
 pub mod Parsers

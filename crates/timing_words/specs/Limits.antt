@@ -1,4 +1,4 @@
--- What every request keeps: the limits of its job's quantities, as `timing_base` states them.
+-- The limits of every request's job, as `timing_base` defines them.
 use Rattle.std.specs.Prelude.{⊤}
 use Rattle.timing_base.specs.Jobs.{IsCaptureJob, IsCheckJob, IsFlowJob, IsReportJob, IsSelfTestJob, IsSkewJob}
 use Rattle.timing_base.specs.Jobs.{IsVerifyJob}

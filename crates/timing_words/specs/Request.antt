@@ -1,6 +1,6 @@
--- What the words of a command line ask for: each command's options, flags and names, their ranges,
--- and which of them may be missing or may not stand together. This project's profile.
--- Media count from 1 in the words and from 0 in the jobs; `--tai` is in seconds.
+-- The request of a command line: each command's options, flags and positional arguments, their ranges, and which of
+-- them are optional or exclude each other. This project's profile.
+-- Media count from 1 in the arguments and from 0 in the jobs; `--tai` is in seconds.
 use Rattle.std.specs.Prelude.{ℕ, ◌&&◌, ◌-◌, ◌^◌, Bool, true, false, List, [], ◌∷◌, length, codes}
 use Rattle.std.specs.Prelude.{◌++◌, map, Option, Some, None, option_map, if◌then◌else◌, nat_le, nat_lt}
 use Rattle.std.specs.List.{list_all}
@@ -25,53 +25,53 @@ use Rattle.timing_words.specs.Line.{Sort, Stands, Text, line, stands}
 
 -- ---- values
 
--- a step that is needed: where it gives nothing, the whole gives nothing
+-- the result of f, or nothing if its argument is missing
 abbrev pub need : {A B : Type 0} → Option A → (A → Option B) → Option B
 need None f = None
 need (Some a) f = f a
 
--- the value itself, where it passes
+-- the value, if the condition is true
 abbrev pub passing : {A : Type 0} → Bool → A → Option A
 passing b a = if b then Some a else None
 
--- one to twenty digits
+-- one to twenty decimal digits
 abbrev pub is_numeral : Text → Bool
 is_numeral text = nat_le 1 (length text) && (nat_le (length text) 20 && list_all is_ascii_digit text)
 
--- the number that they write, below 2^64
+-- the number of one to twenty decimal digits, if it is below 2^64
 abbrev pub written : Text → Option ℕ
 written text =
     let n = digits_value 10 text in
     passing (is_numeral text && nat_lt n (2 ^ 64)) n
 
--- the same, where it is from low to high
+-- the number of one to twenty decimal digits, if it is from low to high
 abbrev pub number : ℕ → ℕ → Text → Option ℕ
 number low high text = need (written text) (λ n. passing (nat_le low n && nat_le n high) n)
 
--- the name of a file
+-- a file name
 abbrev pub file_name : Text → Option Text
 file_name text = passing (is_file_name text) text
 
--- one to most names of files
+-- one to `most` file names
 abbrev pub file_names : ℕ → List Text → Option (List Text)
 file_names most names =
     passing (nat_le 1 (length names) && (nat_le (length names) most && list_all is_file_name names)) names
 
--- what a table has for a text
+-- the entry of a table for a text
 abbrev pub chosen : {A : Type 0} → List (Text × A) → Text → Option A
 chosen [] text = None
 chosen ((n, a) ∷ rows) text = if bytes_eq text n then Some a else chosen rows text
 
--- a sender type by its name
+-- the sender type of this name
 abbrev pub kind_named : Text → Option Kind
 kind_named = chosen ((codes "N", kind.N) ∷ (codes "NL", kind.NL) ∷ (codes "W", kind.W) ∷ [])
 
--- a model that a sender breaks, by its name
+-- the limit of this name that a sender breaks
 abbrev pub model_named : Text → Option Broken
 model_named = chosen ((codes "Bucket", broken.Bucket) ∷ (codes "Over", broken.Over) ∷ (codes "Empty", broken.Empty)
     ∷ [])
 
--- a media of the words, counted from 0
+-- a media, counted from 1 in the text and from 0 here
 abbrev pub media : Text → Option ℕ
 media text = option_map (λ n. n - 1) (number 1 64 text)
 
@@ -79,55 +79,55 @@ media text = option_map (λ n. n - 1) (number 1 64 text)
 abbrev pub count : Text → Option ℕ
 count text = number 0 (2 ^ 64 - 1) text
 
--- the seconds that are added, 0 where none are given
+-- the seconds that are added to capture timestamps; 0 without the option
 abbrev pub tai : Option Text → Option ℕ
 tai None = Some 0
 tai (Some text) = number 0 1000 text
 
--- the workers of `check`: 4 where nothing is said, and 0, one thread for all, with `--serial`, which
--- excludes `--workers`
+-- the number of workers of `check`: 4 without an option, and 0, for one thread, with `--serial`; `--workers` and
+-- `--serial` exclude each other
 abbrev pub check_workers : Option Text → Bool → Option ℕ
 check_workers None false = Some 4
 check_workers None true = Some 0
 check_workers (Some text) false = number 1 16 text
 check_workers (Some text) true = None
 
--- the workers of `selftest`: one thread for all where nothing is said
+-- the number of workers of `selftest`; 0, for one thread, without the option
 abbrev pub test_workers : Option Text → Option ℕ
 test_workers None = Some 0
 test_workers (Some text) = number 1 16 text
 
--- how `scan` prints: lines where neither `--json` nor `--draft` stands, which exclude each other
+-- the output form of `scan`: lines without a flag; `--json` and `--draft` exclude each other
 abbrev pub scan_form : (json draft : Bool) → Option ScanForm
 scan_form false false = Some form.Lines
 scan_form true false = Some form.Json
 scan_form false true = Some form.Draft
 scan_form true true = None
 
--- the one name
+-- the only positional argument
 abbrev pub sole : List Text → Option Text
 sole [] = None
 sole (w ∷ []) = Some w
 sole (w ∷ v ∷ rest) = None
 
--- an option that may not be missing, read by f
+-- a required option, read by f
 abbrev pub given : {A : Type 0} → Text → Stands → (Text → Option A) → Option A
 given n l f = need (l.value n) f
 
 -- ---- commands
 
--- options with these names, and flags with those
+-- the options with the first names, and the flags with the others
 abbrev pub takes : List Text → List Text → List Sort
 takes options flags = map (λ n. record { name = n; valued = true }) options
     ++ map (λ n. record { name = n; valued = false }) flags
 
--- what `check` takes
+-- the options and flags of `check`
 abbrev pub check_sorts : List Sort
 check_sorts = takes
     (codes "sdp" ∷ codes "workers" ∷ codes "tai" ∷ [])
     (codes "serial" ∷ codes "json" ∷ codes "joined" ∷ [])
 
--- and what it asks for
+-- the job of `check`
 abbrev pub check_asked : Stands → Option CheckJob
 check_asked l =
     need (given (codes "sdp") l file_name) (λ sdp.
@@ -143,14 +143,14 @@ check_asked l =
       joined = l.flag (codes "joined");
     })))))
 
--- what `verify` takes
+-- the options and flags of `verify`
 abbrev pub verify_sorts : List Sort
 verify_sorts = takes
     (codes "sdp" ∷ codes "media" ∷ codes "type" ∷ codes "model"
     ∷ codes "from" ∷ codes "to" ∷ codes "count" ∷ codes "limit" ∷ codes "tai" ∷ [])
     (codes "joined" ∷ [])
 
--- the fail that is to be confirmed
+-- the violation that `verify` is to check
 abbrev pub proof_asked : Stands → Option FailProof
 proof_asked l =
     need (given (codes "model") l model_named) (λ model.
@@ -160,7 +160,7 @@ proof_asked l =
     need (given (codes "limit") l count) (λ limit.
     Some (record { model = model; from = from; to = to; count = counted; limit = limit }))))))
 
--- what `verify` asks for, with one capture, or as many as `check` takes where they are joined
+-- the job of `verify`, with one capture, or with 1 to 16 if they are joined
 abbrev pub verify_asked : Stands → Option VerifyJob
 verify_asked l =
     need (given (codes "sdp") l file_name) (λ sdp.
@@ -179,11 +179,11 @@ verify_asked l =
       joined = l.flag (codes "joined");
     })))))))
 
--- what `verify-report` takes
+-- the options and flags of `verify-report`
 abbrev pub report_sorts : List Sort
 report_sorts = takes (codes "sdp" ∷ codes "report" ∷ codes "tai" ∷ []) (codes "joined" ∷ [])
 
--- and what it asks for
+-- the job of `verify-report`
 abbrev pub report_asked : Stands → Option ReportJob
 report_asked l =
     need (given (codes "sdp") l file_name) (λ sdp.
@@ -192,18 +192,18 @@ report_asked l =
     need (file_names 16 l.names) (λ captures.
     Some (record { sdp = sdp; report = rep; tai = seconds; captures = captures; joined = l.flag (codes "joined") })))))
 
--- what `selftest` takes
+-- the options and flags of `selftest`
 abbrev pub self_test_sorts : List Sort
 self_test_sorts = takes (codes "workers" ∷ []) []
 
--- and what it asks for: its one name is the number of frames
+-- the job of `selftest`; the positional argument is the number of frames
 abbrev pub self_test_asked : Stands → Option SelfTestJob
 self_test_asked l =
     need (need (sole l.names) (number 2 20000)) (λ frames.
     need (test_workers (l.value (codes "workers"))) (λ workers.
     Some (record { frames = frames; workers = workers })))
 
--- one flow of one capture, as `window`, `shape` and `series` ask for it
+-- the flow in the job of `window`, `shape` or `series`
 abbrev pub flow_asked : Stands → Option FlowJob
 flow_asked l =
     need (given (codes "sdp") l file_name) (λ sdp.
@@ -212,26 +212,26 @@ flow_asked l =
     need (need (sole l.names) file_name) (λ capture.
     Some (record { sdp = sdp; media = m; tai = seconds; capture = capture })))))
 
--- what `window` takes
+-- the options and flags of `window`
 abbrev pub window_sorts : List Sort
 window_sorts = takes (codes "sdp" ∷ codes "media" ∷ codes "tai" ∷ []) []
 
--- what `shape` takes
+-- the options and flags of `shape`
 abbrev pub shape_sorts : List Sort
 shape_sorts = takes (codes "sdp" ∷ codes "media" ∷ codes "type" ∷ codes "tai" ∷ []) (codes "list" ∷ [])
 
--- and what it asks for
+-- the job of `shape`
 abbrev pub shape_asked : Stands → Option ShapeJob
 shape_asked l =
     need (flow_asked l) (λ flow.
     need (given (codes "type") l kind_named) (λ k.
     Some (record { flow = flow; kind = k; list = l.flag (codes "list") })))
 
--- what `skew` takes
+-- the options and flags of `skew`
 abbrev pub skew_sorts : List Sort
 skew_sorts = takes (codes "sdp" ∷ codes "media" ∷ codes "pair" ∷ []) []
 
--- and what it asks for
+-- the job of `skew`
 abbrev pub skew_asked : Stands → Option SkewJob
 skew_asked l =
     need (given (codes "sdp") l file_name) (λ sdp.
@@ -240,22 +240,22 @@ skew_asked l =
     need (file_names 2 l.names) (λ captures.
     Some (record { sdp = sdp; media = first; pair = second; captures = captures })))))
 
--- what `scan` takes
+-- the options and flags of `scan`
 abbrev pub scan_sorts : List Sort
 scan_sorts = takes [] (codes "json" ∷ codes "draft" ∷ [])
 
--- and what it asks for
+-- the job of `scan`
 abbrev pub scan_asked : Stands → Option ScanJob
 scan_asked l =
     need (scan_form (l.flag (codes "json")) (l.flag (codes "draft"))) (λ printed.
     need (need (sole l.names) file_name) (λ capture.
     Some (record { capture = capture; form = printed })))
 
--- what `measure` and `page` take
+-- the options and flags of `measure` and of `page`
 abbrev pub capture_sorts : List Sort
 capture_sorts = takes (codes "sdp" ∷ codes "tai" ∷ []) []
 
--- every flow of one capture, as both ask for it
+-- the job of `measure` or `page`
 abbrev pub capture_asked : Stands → Option CaptureJob
 capture_asked l =
     need (given (codes "sdp") l file_name) (λ sdp.
@@ -263,19 +263,19 @@ capture_asked l =
     need (need (sole l.names) file_name) (λ capture.
     Some (record { sdp = sdp; tai = seconds; capture = capture }))))
 
--- what `series` takes
+-- the options and flags of `series`
 abbrev pub series_sorts : List Sort
 series_sorts = takes (codes "sdp" ∷ codes "media" ∷ codes "tai" ∷ []) (codes "frames" ∷ [])
 
--- and what it asks for
+-- the job of `series`
 abbrev pub series_asked : Stands → Option SeriesJob
 series_asked l =
     need (flow_asked l) (λ flow.
     Some (record { flow = flow; frames = l.flag (codes "frames") }))
 
--- ---- the whole line
+-- ---- the whole command line
 
--- the command with this name
+-- the command of this name
 abbrev pub command_named : Text → Option Command
 command_named = chosen (
     (codes "check", command.Check) ∷ (codes "verify", command.Verify) ∷ (codes "verify-report", command.VerifyReport)
@@ -287,7 +287,7 @@ command_named = chosen (
     ∷ (codes "page", command.Page)
     ∷ [])
 
--- the options and flags that a command takes
+-- the options and flags of a command
 abbrev pub sorts : Command → List Sort
 sorts command.Check = check_sorts
 sorts command.Verify = verify_sorts
@@ -301,7 +301,7 @@ sorts command.Measure = capture_sorts
 sorts command.Series = series_sorts
 sorts command.Page = capture_sorts
 
--- what a command asks for, by what stands in its line
+-- the request of a command, from the contents of the command line
 abbrev pub asked : Command → Stands → Option Request
 asked command.Check l = option_map asks.Check (check_asked l)
 asked command.Verify l = option_map asks.Verify (verify_asked l)
@@ -315,18 +315,17 @@ asked command.Measure l = option_map asks.Measure (capture_asked l)
 asked command.Series l = option_map asks.Series (series_asked l)
 asked command.Page l = option_map asks.Page (capture_asked l)
 
--- what the words after a command ask for
+-- the request of the arguments after a command
 abbrev pub asked_by : Command → List Text → Option Request
 asked_by c words = need (line (sorts c) words) (λ ps. asked c (stands ps))
 
--- what the words after `help` ask for: nothing more, or the one command
+-- the request of the arguments after `help`: of all commands, or of one
 abbrev pub help_asked : List Text → Option Request
 help_asked [] = Some (asks.Help None)
 help_asked (w ∷ []) = option_map (λ c. asks.Help (Some c)) (command_named w)
 help_asked (w ∷ v ∷ rest) = None
 
--- what the words of a command line ask for, the first of them the command, or `help`; none where they are no
--- request
+-- the request of a command line; none if the command line is invalid. The first argument is the command, or `help`
 abbrev pub request : List Text → Option Request
 request [] = None
 request (w ∷ words) =

@@ -1,4 +1,4 @@
-//! The commands, and the options, flags and names that `clap` is told of for each.
+//! The commands, and the `clap` parser of each with its options, flags and positional arguments.
 
 ghost use Rattle.std.specs.Prelude.{◌≡◌, ◌++◌, [], IfOk, List, false, true};
 ghost use Rattle.clap.specs.Words.{app_of, rule_of};
@@ -9,29 +9,40 @@ ghost use Rattle.timing_words.specs.Sorts.{sorts_of};
 use clap::{Arg, ArgAction};
 use std::alloc::{AllocError as OutOfMemory, Global};
 
-/// The id of the names.
+/// The id of the positional arguments.
 pub(crate) const NAMES: &str = "names";
 
-/// What the first word of a command line names.
+/// The commands. The first argument of a command line names one.
 #[derive(Clone, Copy, Debug, PartialEq, Eq)]
 pub enum Command {
+    /// `check`: judges the flows of captures.
     Check,
+    /// `verify`: checks one claimed violation.
     Verify,
+    /// `verify-report`: checks each violation of a JSON report.
     VerifyReport,
+    /// `selftest`: judges captures that it makes itself.
     SelfTest,
+    /// `window`: prints the offsets with which a flow would keep the receiver buffer.
     Window,
+    /// `shape`: delays a flow as little as the limits allow.
     Shape,
+    /// `skew`: compares two flows packet by packet.
     Skew,
+    /// `scan`: lists the contents of a capture.
     Scan,
+    /// `measure`: prints how near each flow comes to its limits.
     Measure,
+    /// `series`: prints the numbers of a flow as CSV.
     Series,
+    /// `page`: prints the report of a capture as an HTML page.
     Page,
 }
 
 impl Command {
     ghost use Rattle.timing_words.specs.Request.{command_named, sorts};
 
-    /// The command with this name.
+    /// Returns the command of this name, or `None` if there is none.
     pub fn named(text: &str) -> Option<Command>
         ensures { result ≡ command_named text.now }
     {
@@ -51,7 +62,8 @@ impl Command {
         }
     }
 
-    /// What `clap` is told of the command: the options, the flags and the names that it takes.
+    /// Returns the parser of the command, with its options, flags and positional arguments. Returns
+    /// `Err` if memory runs out.
     pub fn parser<'a>(self, alloc: Global) -> Result<clap::Command<'a>, OutOfMemory>
         ensures { IfOk result (λ c. app_of c ≡ app (sorts self)) }
     {
@@ -81,7 +93,7 @@ impl Command {
     }
 }
 
-/// An option, or a flag, which is an argument that takes no value.
+/// Returns an option if `valued`, otherwise a flag, which is an argument without a value.
 fn arg_of<'a>(alloc: Global, valued: bool, name: &'static str) -> Arg<'a>
     ensures rule { rule_of result ≡ told valued name.now }
     ensures local { result.global ≡ false }
@@ -90,6 +102,7 @@ fn arg_of<'a>(alloc: Global, valued: bool, name: &'static str) -> Arg<'a>
     if valued { arg } else { arg.num_args(0) }
 }
 
+/// Returns the positional arguments, of which there may be any number.
 fn names_arg<'a>(alloc: Global) -> Arg<'a>
     ensures rule { rule_of result ≡ names_told }
     ensures local { result.global ≡ false }
@@ -97,7 +110,7 @@ fn names_arg<'a>(alloc: Global) -> Arg<'a>
     Arg::new(alloc, NAMES).action(ArgAction::Append)
 }
 
-/// The parser that takes these options, or these flags, as well.
+/// Adds options if `valued`, otherwise flags, to a parser. Returns `Err` if memory runs out.
 fn taking<'a>(
     alloc: Global,
     parser: clap::Command<'a>,
@@ -114,7 +127,8 @@ fn taking<'a>(
     Ok(parser)
 }
 
-/// The parser of a command that takes these options and flags, and names.
+/// Returns the parser with these options and flags, and with positional arguments. Returns `Err` if
+/// memory runs out.
 fn parser_of<'a>(
     alloc: Global,
     options: &[&'static str],

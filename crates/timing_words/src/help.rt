@@ -1,5 +1,5 @@
-//! What `help` prints. The words of a command are those of the parser that reads them: each option and flag that
-//! `clap` is told of is shown, and no other.
+//! The output of `help`. The options and flags of a command are taken from the parser that reads
+//! them, so exactly those are shown that the command takes.
 
 ghost use Rattle.std.specs.Prelude.{◌≡◌, ◌++◌, IfOk, string_bytes};
 ghost use Rattle.std.specs.List.{flat_map};
@@ -12,7 +12,7 @@ use crate::command::Command;
 use clap::Arg;
 use std::alloc::{AllocError as OutOfMemory, Global};
 
-/// What stands for the value of an option.
+/// Returns the placeholder for the value of an option.
 fn value_shape(name: &str) -> &'static str
     ensures { result.now ≡ page.value_shape name.now }
 {
@@ -25,7 +25,7 @@ fn value_shape(name: &str) -> &'static str
     }
 }
 
-/// What an option or a flag means.
+/// Returns the meaning of an option or flag, in words.
 fn meaning(name: &str) -> &'static str
     ensures { result.now ≡ page.meaning name.now }
 {
@@ -52,7 +52,7 @@ fn meaning(name: &str) -> &'static str
     }
 }
 
-/// Whether an option or a flag of this name may be missing.
+/// Returns whether an option or flag of this name is optional.
 pub fn may_be_missing(name: &str) -> bool
     ensures { result ≡ page.may_be_missing name.now }
 {
@@ -62,7 +62,7 @@ pub fn may_be_missing(name: &str) -> bool
     )
 }
 
-/// An option with what stands for its value, or a flag.
+/// Returns an option with the placeholder for its value, or a flag.
 fn shown(alloc: Global, name: &str, valued: bool) -> Result<String, OutOfMemory>
     ensures { IfOk result (λ s. string_bytes s ≡ page.shown (record { name = name.now; valued = valued })) }
 {
@@ -74,7 +74,7 @@ fn shown(alloc: Global, name: &str, valued: bool) -> Result<String, OutOfMemory>
     }
 }
 
-/// The same among the words of a command.
+/// Returns an option or flag as in the arguments of a command, in brackets if it is optional.
 fn word(alloc: Global, name: &str, valued: bool) -> Result<String, OutOfMemory>
     ensures { IfOk result (λ s. string_bytes s ≡ page.word (record { name = name.now; valued = valued })) }
 {
@@ -86,7 +86,7 @@ fn word(alloc: Global, name: &str, valued: bool) -> Result<String, OutOfMemory>
     }
 }
 
-/// The same on a line of its own, with what it means.
+/// Returns an option or flag with its meaning, on a line of its own.
 fn told(alloc: Global, name: &str, valued: bool) -> Result<String, OutOfMemory>
     ensures { IfOk result (λ s. string_bytes s ≡ page.told (record { name = name.now; valued = valued })) }
 {
@@ -95,7 +95,8 @@ fn told(alloc: Global, name: &str, valued: bool) -> Result<String, OutOfMemory>
     format!(in alloc; "  {shown}: {meaning}\n")
 }
 
-/// The word of an argument of a parser, or nothing of the names.
+/// Returns an argument of a parser as in the arguments of a command; nothing for the positional
+/// ones.
 fn word_in(alloc: Global, arg: &Arg<'_>) -> Result<String, OutOfMemory>
     ensures { IfOk result (λ s. string_bytes s ≡ word_in (rule_of arg.now)) }
 {
@@ -105,7 +106,8 @@ fn word_in(alloc: Global, arg: &Arg<'_>) -> Result<String, OutOfMemory>
     }
 }
 
-/// The line of an argument of a parser, or nothing of the names.
+/// Returns an argument of a parser with its meaning, on a line of its own; nothing for the
+/// positional ones.
 fn told_in(alloc: Global, arg: &Arg<'_>) -> Result<String, OutOfMemory>
     ensures { IfOk result (λ s. string_bytes s ≡ told_in (rule_of arg.now)) }
 {
@@ -115,7 +117,7 @@ fn told_in(alloc: Global, arg: &Arg<'_>) -> Result<String, OutOfMemory>
     }
 }
 
-/// The words of the arguments of a parser.
+/// Returns the options and flags of a parser as in the arguments of a command.
 fn words_in(alloc: Global, args: &[Arg<'_>]) -> Result<String, OutOfMemory>
     ensures { IfOk result (λ s. string_bytes s ≡ flat_map (λ a. word_in (rule_of a)) args.now) }
 {
@@ -126,7 +128,7 @@ fn words_in(alloc: Global, args: &[Arg<'_>]) -> Result<String, OutOfMemory>
     Ok(text)
 }
 
-/// The lines of the arguments of a parser.
+/// Returns the options and flags of a parser with their meanings, each on a line.
 fn lines_in(alloc: Global, args: &[Arg<'_>]) -> Result<String, OutOfMemory>
     ensures { IfOk result (λ s. string_bytes s ≡ flat_map (λ a. told_in (rule_of a)) args.now) }
 {
@@ -137,7 +139,7 @@ fn lines_in(alloc: Global, args: &[Arg<'_>]) -> Result<String, OutOfMemory>
     Ok(text)
 }
 
-/// The words of the options and flags of a command.
+/// Returns the options and flags of a command as in its arguments.
 fn words_of(alloc: Global, command: Command) -> Result<String, OutOfMemory>
     ensures { IfOk result (λ s. string_bytes s ≡ flat_map page.word (sorts command)) }
 {
@@ -145,7 +147,7 @@ fn words_of(alloc: Global, command: Command) -> Result<String, OutOfMemory>
     words_in(alloc, parser.get_arguments())
 }
 
-/// The lines of the options and flags of a command.
+/// Returns the options and flags of a command with their meanings, each on a line.
 fn lines_of(alloc: Global, command: Command) -> Result<String, OutOfMemory>
     ensures { IfOk result (λ s. string_bytes s ≡ flat_map page.told (sorts command)) }
 {
@@ -154,7 +156,7 @@ fn lines_of(alloc: Global, command: Command) -> Result<String, OutOfMemory>
 }
 
 impl Command {
-    /// The word of the command.
+    /// Returns the name of the command.
     pub fn name(self) -> &'static str
         ensures { result.now ≡ page.name_of self }
     {
@@ -173,7 +175,7 @@ impl Command {
         }
     }
 
-    /// The names that follow its options.
+    /// Returns the placeholder for the positional arguments of the command.
     fn names_shape(self) -> &'static str
         ensures { result.now ≡ page.names_shape self }
     {
@@ -186,7 +188,7 @@ impl Command {
         }
     }
 
-    /// What it does.
+    /// Returns what the command does, in words.
     fn about(self) -> &'static str
         ensures { result.now ≡ page.about self }
     {
@@ -219,7 +221,7 @@ impl Command {
         }
     }
 
-    /// What is printed.
+    /// Returns what the command prints, in words.
     fn printed(self) -> &'static str
         ensures { result.now ≡ page.printed self }
     {
@@ -258,7 +260,7 @@ impl Command {
         }
     }
 
-    /// An example, which reads files of the repository.
+    /// Returns an example of the command, with files of the repository.
     fn example(self) -> &'static str
         ensures { result.now ≡ page.example self }
     {
@@ -290,7 +292,8 @@ impl Command {
     }
 }
 
-/// The arguments of a command as `help` shows them, the command first.
+/// Returns the arguments of a command as `help` shows them, with the command first. Returns `Err`
+/// if memory runs out.
 pub fn usage_of(alloc: Global, command: Command) -> Result<String, OutOfMemory>
     ensures { IfOk result (λ s. string_bytes s ≡ page.usage command) }
 {
@@ -299,7 +302,7 @@ pub fn usage_of(alloc: Global, command: Command) -> Result<String, OutOfMemory>
     format!(in alloc; "{name}{words} {names}")
 }
 
-/// Its words and what it does, in two lines.
+/// Returns the arguments of a command and what it does, in two lines.
 fn summary_of(alloc: Global, command: Command) -> Result<String, OutOfMemory>
     ensures { IfOk result (λ s. string_bytes s ≡ page.summary command) }
 {
@@ -308,7 +311,7 @@ fn summary_of(alloc: Global, command: Command) -> Result<String, OutOfMemory>
     format!(in alloc; "  {usage}\n      {about}\n")
 }
 
-/// Those of these commands, in their order.
+/// Returns the two lines of each of these commands, in order.
 fn summaries_in(alloc: Global, commands: &[Command]) -> Result<String, OutOfMemory>
     ensures { IfOk result (λ s. string_bytes s ≡ flat_map page.summary commands.now) }
 {
@@ -319,7 +322,7 @@ fn summaries_in(alloc: Global, commands: &[Command]) -> Result<String, OutOfMemo
     Ok(text)
 }
 
-/// Those of all commands.
+/// Returns the two lines of each command.
 fn summaries(alloc: Global) -> Result<String, OutOfMemory>
     ensures { IfOk result (λ s. string_bytes s ≡ page.summaries) }
 {
@@ -341,21 +344,22 @@ fn summaries(alloc: Global) -> Result<String, OutOfMemory>
     )
 }
 
-/// The lines before them. The first has the version of the program, which stands nowhere else in the sources.
+/// Returns the lines before the commands. The first has the version of the program, which is
+/// nowhere else in the sources.
 fn front_text() -> &'static str
     ensures { result.now ≡ page.front_text }
 {
     "st2110_timing 1.0.0: judges the timing of video senders from packet captures, after SMPTE ST 2110-21:2017.\n\nCommands:\n"
 }
 
-/// And those after them.
+/// Returns the lines after the commands.
 fn back_text() -> &'static str
     ensures { result.now ≡ page.back_text }
 {
     "  help [COMMAND]\n      prints this text, or more of one command\n\nExit statuses:\n  0 every declared type passes, or the output was printed\n  1 a declared type fails, or a violation isn't confirmed\n  2 the command line is invalid\n  3 the session description is invalid\n  4 a flow isn't judged as one run, or a capture is malformed\n  5 an input couldn't be read\n  6 a write on standard output failed\n  7 memory ran out\n  9 the report is invalid\n\nRead on in docs/GUIDE.md, docs/FORMATS.md and docs/st2110_timing.1.\n"
 }
 
-/// The text of one command.
+/// Returns the output of `help` with a command.
 fn command_text(alloc: Global, command: Command) -> Result<String, OutOfMemory>
     ensures { IfOk result (λ s. string_bytes s ≡ page.command_text command) }
 {
@@ -365,8 +369,9 @@ fn command_text(alloc: Global, command: Command) -> Result<String, OutOfMemory>
     format!(in alloc; "{usage}\n{about}\n\n{lines}\n{printed}Example: {example}\n")
 }
 
-/// The text of `help`: the words of all commands, the statuses and where to read on; or that of `help` with a
-/// command: its words, what is printed, and an example. `Err` is want of memory.
+/// Returns the output of `help`. Without a command these are the arguments of all commands, the
+/// exit statuses and where to read on. With a command these are its arguments, what it prints, and
+/// an example. Returns `Err` if memory runs out.
 pub fn help_text(alloc: Global, command: Option<Command>) -> Result<String, OutOfMemory>
     ensures { IfOk result (λ s. string_bytes s ≡ page.help_text command) }
 {

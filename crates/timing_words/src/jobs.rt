@@ -1,4 +1,5 @@
-//! The jobs of the commands, by what stands in their words.
+//! The jobs of the commands, made from parsed arguments. Each function returns `Usage` if an
+//! argument is missing or invalid, and `OutOfMemory` if memory runs out.
 
 ghost use Rattle.std.specs.Prelude.{◌≡◌, IfErr, IfOk, None, Some, ◌<◌, ◌≤◌, length};
 ghost use Rattle.clap.specs.Words.{found_of};
@@ -19,7 +20,7 @@ use timing_base::{
     SeriesJob, ShapeJob, SkewJob, VerifyJob,
 };
 
-/// The value of an option that may not be missing.
+/// Returns the value of a required option.
 fn given<'a>(matches: &ArgMatches<'a>, name: &str) -> Result<&'a str, WordFault>
     ensures given { IfOk result (λ s.
         (found_stands (found_of matches.now)).value name.now ≡ Some s.now) }
@@ -29,12 +30,14 @@ fn given<'a>(matches: &ArgMatches<'a>, name: &str) -> Result<&'a str, WordFault>
     matches.get_str(name).ok_or(WordFault::Usage)
 }
 
+/// Returns the value of a required option as a file name.
 fn given_file(alloc: Global, matches: &ArgMatches<'_>, name: &str) -> Result<FileName, WordFault>
     ensures { Gives (words.given name.now (found_stands (found_of matches.now)) words.file_name) result }
 {
     file_name(alloc, given(matches, name)?)
 }
 
+/// Returns the value of a required option as a media, counted from 0.
 fn given_media(matches: &ArgMatches<'_>, name: &str) -> Result<u32, WordFault>
     ensures gives { Gives (words.given name.now (found_stands (found_of matches.now)) words.media)
         result }
@@ -43,6 +46,7 @@ fn given_media(matches: &ArgMatches<'_>, name: &str) -> Result<u32, WordFault>
     media(given(matches, name)?)
 }
 
+/// Returns the positional arguments as 1 to `most` file names.
 fn captures(
     alloc: Global,
     matches: &ArgMatches<'_>,
@@ -59,6 +63,7 @@ fn captures(
     }
 }
 
+/// Returns the only positional argument.
 fn sole_name<'a>(matches: &ArgMatches<'a>) -> Result<&'a str, WordFault>
     ensures one { IfOk result (λ s.
         words.sole (found_stands (found_of matches.now)).names ≡ Some s.now) }
@@ -71,6 +76,7 @@ fn sole_name<'a>(matches: &ArgMatches<'a>) -> Result<&'a str, WordFault>
     }
 }
 
+/// Returns the job of `check`.
 pub(crate) fn check_job(alloc: Global, matches: &ArgMatches<'_>) -> Result<CheckJob, WordFault>
     ensures { Gives (words.check_asked (found_stands (found_of matches.now))) result }
 {
@@ -89,6 +95,7 @@ pub(crate) fn check_job(alloc: Global, matches: &ArgMatches<'_>) -> Result<Check
     })
 }
 
+/// Returns the violation that `verify` is to check.
 fn fail_proof(matches: &ArgMatches<'_>) -> Result<FailProof, WordFault>
     ensures { Gives (words.proof_asked (found_stands (found_of matches.now))) result }
 {
@@ -101,6 +108,7 @@ fn fail_proof(matches: &ArgMatches<'_>) -> Result<FailProof, WordFault>
     })
 }
 
+/// Returns the job of `verify`.
 pub(crate) fn verify_job(alloc: Global, matches: &ArgMatches<'_>) -> Result<VerifyJob, WordFault>
     ensures { Gives (words.verify_asked (found_stands (found_of matches.now))) result }
 {
@@ -123,6 +131,7 @@ pub(crate) fn verify_job(alloc: Global, matches: &ArgMatches<'_>) -> Result<Veri
     })
 }
 
+/// Returns the job of `verify-report`.
 pub(crate) fn report_job(alloc: Global, matches: &ArgMatches<'_>) -> Result<ReportJob, WordFault>
     ensures { Gives (words.report_asked (found_stands (found_of matches.now))) result }
 {
@@ -139,6 +148,7 @@ pub(crate) fn report_job(alloc: Global, matches: &ArgMatches<'_>) -> Result<Repo
     })
 }
 
+/// Returns the job of `selftest`.
 pub(crate) fn self_test_job(matches: &ArgMatches<'_>) -> Result<SelfTestJob, WordFault>
     ensures { Gives (words.self_test_asked (found_stands (found_of matches.now))) result }
 {
@@ -147,6 +157,7 @@ pub(crate) fn self_test_job(matches: &ArgMatches<'_>) -> Result<SelfTestJob, Wor
     Ok(SelfTestJob { frames, workers })
 }
 
+/// Returns the job of `window`, and the flow of `shape` and `series`.
 pub(crate) fn flow_job(alloc: Global, matches: &ArgMatches<'_>) -> Result<FlowJob, WordFault>
     ensures { Gives (words.flow_asked (found_stands (found_of matches.now))) result }
 {
@@ -162,6 +173,7 @@ pub(crate) fn flow_job(alloc: Global, matches: &ArgMatches<'_>) -> Result<FlowJo
     })
 }
 
+/// Returns the job of `shape`.
 pub(crate) fn shape_job(alloc: Global, matches: &ArgMatches<'_>) -> Result<ShapeJob, WordFault>
     ensures { Gives (words.shape_asked (found_stands (found_of matches.now))) result }
 {
@@ -174,6 +186,7 @@ pub(crate) fn shape_job(alloc: Global, matches: &ArgMatches<'_>) -> Result<Shape
     })
 }
 
+/// Returns the job of `skew`.
 pub(crate) fn skew_job(alloc: Global, matches: &ArgMatches<'_>) -> Result<SkewJob, WordFault>
     ensures { Gives (words.skew_asked (found_stands (found_of matches.now))) result }
 {
@@ -189,6 +202,7 @@ pub(crate) fn skew_job(alloc: Global, matches: &ArgMatches<'_>) -> Result<SkewJo
     })
 }
 
+/// Returns the job of `scan`.
 pub(crate) fn scan_job(alloc: Global, matches: &ArgMatches<'_>) -> Result<ScanJob, WordFault>
     ensures { Gives (words.scan_asked (found_stands (found_of matches.now))) result }
 {
@@ -197,6 +211,7 @@ pub(crate) fn scan_job(alloc: Global, matches: &ArgMatches<'_>) -> Result<ScanJo
     Ok(ScanJob { capture, form })
 }
 
+/// Returns the job of `measure` or `page`.
 pub(crate) fn capture_job(alloc: Global, matches: &ArgMatches<'_>) -> Result<CaptureJob, WordFault>
     ensures { Gives (words.capture_asked (found_stands (found_of matches.now))) result }
 {
@@ -206,6 +221,7 @@ pub(crate) fn capture_job(alloc: Global, matches: &ArgMatches<'_>) -> Result<Cap
     Ok(CaptureJob { sdp, tai, capture })
 }
 
+/// Returns the job of `series`.
 pub(crate) fn series_job(alloc: Global, matches: &ArgMatches<'_>) -> Result<SeriesJob, WordFault>
     ensures { Gives (words.series_asked (found_stands (found_of matches.now))) result }
 {

@@ -1,5 +1,5 @@
-//! What holds of the grammar, and the grammar on words worked by hand. Each function is a theorem: it
-//! does nothing, and its clauses are proved.
+//! Theorems about the grammar, and examples of it worked by hand. Each function does nothing; its
+//! clauses are what is proved.
 
 ghost use Rattle.std.specs.Prelude.{◌≡◌, List, [], ◌∷◌, ◌++◌, Contains, Some, None, codes, false, true};
 ghost use Rattle.timing_base.specs.declared.fail.Broken.TheVariants as broken;
@@ -17,7 +17,7 @@ ghost use Rattle.timing_words.specs.Line.{Text, flag, line, name, option};
 ghost use Rattle.timing_words.specs.Request.{check_sorts, check_workers, command_named, count, file_name, file_names};
 ghost use Rattle.timing_words.specs.Request.{kind_named, media, model_named, number, request, tai, test_workers};
 
-/// Lines that are cut into their parts.
+/// Worked by hand: arguments that can be separated.
 pub fn lines_by_hand()
     ensures apart { IsCut (codes "--sdp a b") (option (codes "sdp") (codes "a") ∷ name (codes "b") ∷ []) }
     ensures attached { IsCut (codes "b --sdp=a=c")
@@ -29,7 +29,7 @@ pub fn lines_by_hand()
     ensures flags { IsCut (codes "--serial --json") (flag (codes "serial") ∷ flag (codes "json") ∷ []) }
 {}
 
-/// Lines that cannot be cut.
+/// Worked by hand: arguments that can't be separated.
 pub fn no_lines_by_hand()
     ensures value_missing { IsUncut (codes "--sdp") }
     ensures value_hyphened { IsUncut (codes "--sdp -a") }
@@ -43,7 +43,7 @@ pub fn no_lines_by_hand()
     ensures nameless { IsUncut (codes "--=a") }
 {}
 
-/// An option or a flag may stand once, and a name any number of times.
+/// Worked by hand: an option or flag may be given once, a positional argument any number of times.
 pub fn repeats_by_hand()
     ensures names { line check_sorts (words (codes "a --json a"))
         ≡ Some (name (codes "a") ∷ flag (codes "json") ∷ name (codes "a") ∷ []) }
@@ -53,7 +53,7 @@ pub fn repeats_by_hand()
         ≡ Some (flag (codes "json") ∷ name (codes "--json") ∷ []) }
 {}
 
-/// Numbers and their ends.
+/// Worked by hand: numbers, and the ends of their ranges.
 pub fn numbers_by_hand()
     ensures twenty_digits { number 1 16 (codes "00000000000000000016") ≡ Some 16 }
     ensures twenty_one_digits { number 1 16 (codes "000000000000000000016") ≡ None }
@@ -73,7 +73,7 @@ pub fn numbers_by_hand()
     ensures tai_over { tai (Some (codes "1001")) ≡ None }
 {}
 
-/// The workers of `check` and of `selftest`.
+/// Worked by hand: the workers of `check` and `selftest`.
 pub fn workers_by_hand()
     ensures unsaid { check_workers None false ≡ Some 4 }
     ensures serial { check_workers None true ≡ Some 0 }
@@ -89,7 +89,7 @@ pub fn workers_by_hand()
     ensures test_over { test_workers (Some (codes "17")) ≡ None }
 {}
 
-/// Names of files, of sender types and of models.
+/// Worked by hand: names of files, of sender types and of limits.
 pub fn names_by_hand()
     ensures nameless { file_name [] ≡ None }
     ensures control { file_name (97 ∷ 31 ∷ []) ≡ None }
@@ -112,7 +112,7 @@ pub fn names_by_hand()
     ensures linear { model_named (codes "Linear") ≡ None }
 {}
 
-/// Lines of `check`, and what they ask for.
+/// Worked by hand: command lines of `check`.
 pub fn checks_by_hand()
     ensures plain { Asks (codes "check --sdp p c") (asks.Check plain_check) }
     ensures full { Asks (codes "check d --joined --tai=37 --sdp=p --workers 2 --json c")
@@ -136,7 +136,7 @@ pub fn checks_by_hand()
     ensures media { IsRefused (codes "check --sdp p --media 1 c") }
 {}
 
-/// Lines of `verify`.
+/// Worked by hand: command lines of `verify`.
 pub fn verifies_by_hand()
     ensures plain { Asks
         (codes "verify --sdp p --media 64 --type NL --model Over --from 1 --to 2 --count 3 --limit 4 c")
@@ -184,7 +184,7 @@ pub fn verifies_by_hand()
         (codes "verify --sdp=p --media=1 --type=N --model=Over --from=1 --to=2 --count=3 c") }
 {}
 
-/// Lines of `verify-report` and of `selftest`.
+/// Worked by hand: command lines of `verify-report` and `selftest`.
 pub fn reports_and_tests_by_hand()
     ensures report { Asks (codes "verify-report --report r --sdp p c d")
         (asks.VerifyReport (record {
@@ -216,7 +216,7 @@ pub fn reports_and_tests_by_hand()
     ensures serial { IsRefused (codes "selftest --serial 2") }
 {}
 
-/// Lines of `window`, `shape` and `skew`.
+/// Worked by hand: command lines of `window`, `shape` and `skew`.
 pub fn flows_by_hand()
     ensures window { Asks (codes "window --media=2 --sdp=p --tai=5 c") (asks.Window (second_flow 5)) }
     ensures window_no_sdp { IsRefused (codes "window --media 2 c") }
@@ -245,7 +245,7 @@ pub fn flows_by_hand()
     ensures skew_tai { IsRefused (codes "skew --sdp p --media 2 --pair 1 --tai 0 c") }
 {}
 
-/// Lines of `scan`.
+/// Worked by hand: command lines of `scan`.
 pub fn scans_by_hand()
     ensures plain { Asks (codes "scan c") (asks.Scan (record { capture = codes "c"; form = form.Lines })) }
     ensures json { Asks (codes "scan --json c") (asks.Scan (record { capture = codes "c"; form = form.Json })) }
@@ -257,7 +257,7 @@ pub fn scans_by_hand()
     ensures tai { IsRefused (codes "scan --tai 37 c") }
 {}
 
-/// Lines of `measure`.
+/// Worked by hand: command lines of `measure`.
 pub fn measures_by_hand()
     ensures plain { Asks (codes "measure --sdp p c")
         (asks.Measure (record { sdp = codes "p"; tai = 0; capture = codes "c" })) }
@@ -271,7 +271,7 @@ pub fn measures_by_hand()
     ensures json { IsRefused (codes "measure --sdp p --json c") }
 {}
 
-/// Lines of `series`.
+/// Worked by hand: command lines of `series`.
 pub fn series_by_hand()
     ensures packets { Asks (codes "series --sdp p --media 2 c")
         (asks.Series (record { flow = second_flow 0; frames = false })) }
@@ -284,7 +284,7 @@ pub fn series_by_hand()
     ensures valued { IsRefused (codes "series --sdp p --media 2 --frames=1 c") }
 {}
 
-/// Lines of `page`.
+/// Worked by hand: command lines of `page`.
 pub fn pages_by_hand()
     ensures plain { Asks (codes "page --sdp p c")
         (asks.Page (record { sdp = codes "p"; tai = 0; capture = codes "c" })) }
@@ -297,7 +297,7 @@ pub fn pages_by_hand()
     ensures media { IsRefused (codes "page --sdp p --media 1 c") }
 {}
 
-/// First words that are no command.
+/// Worked by hand: first arguments that are no command.
 pub fn no_commands_by_hand()
     ensures nothing { request [] ≡ None }
     ensures unknown { IsRefused (codes "judge") }
@@ -306,7 +306,7 @@ pub fn no_commands_by_hand()
     ensures after_options { IsRefused (codes "--sdp p check c") }
 {}
 
-/// Lines of `help`.
+/// Worked by hand: command lines of `help`.
 pub fn helps_by_hand()
     ensures all { Asks (codes "help") (asks.Help None) }
     ensures one { Asks (codes "help check") (asks.Help (Some command.Check)) }
@@ -320,7 +320,8 @@ pub fn helps_by_hand()
     ensures flag { IsRefused (codes "--help") }
 {}
 
-/// The words of two commands as `help` shows them, and the whole text of `help selftest`.
+/// Worked by hand: the arguments of two commands as `help` shows them, and the whole output of
+/// `help selftest`.
 pub fn help_texts_by_hand()
     ensures check { usage command.Check
         ≡ codes "check --sdp FILE [--workers N] [--tai SECONDS] [--serial] [--json] [--joined] CAPTURE.." }
@@ -333,14 +334,15 @@ pub fn help_texts_by_hand()
         ++ codes "Example: ./run selftest 2\n"))) }
 {}
 
-/// The word that `help` shows of a command names it, and `help` shows every command.
+/// The name that `help` shows for a command is read as that command, and `help` shows every
+/// command.
 pub fn shown_words_are_read()
     ensures read { (c : Command) → command_named (name_of c) ≡ Some c }
     ensures all { (c : Command) → Contains commands c }
 {}
 
-/// What words ask for is within its limits: 1 to 16 captures, at most 16 workers and 1,000 seconds, and
-/// so on for each command.
+/// The job of every request is within its limits: 1 to 16 captures, at most 16 workers and 1,000
+/// seconds, and so on for each command.
 pub fn jobs_are_within_limits()
     ensures { (words : List Text) (asked : Request) → request words ≡ Some asked → IsWithinLimits asked }
 {}

@@ -1,9 +1,10 @@
-//! The words of a command line, read as what they ask for.
+//! The command line, read as a request.
 //!
-//! The first word is the command. [`read_words`] hands the others to one simple command of `clap`,
-//! which cuts them into options, flags and names; what may be missing, what may not stand together,
-//! how many names there may be and all ranges are tested here. The tests of values are public, as are the
-//! parser and the words of a command, so that who explains a mistake asks the same.
+//! The first argument is the command. [`read_words`] passes the others to one `clap` parser, which
+//! separates options, flags and positional arguments. This crate tests which of them may be
+//! missing, which exclude each other, how many positional arguments there may be, and all ranges.
+//! The tests of values, the parsers and the commands are public, so that messages about an invalid
+//! command line can use them.
 #![tactic(auto)]
 
 mod command;

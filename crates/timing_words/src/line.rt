@@ -1,4 +1,4 @@
-//! One command's words, cut by `clap` into options, flags and names.
+//! The arguments after a command, separated by `clap` into options, flags and positional arguments.
 
 ghost use Rattle.std.specs.Prelude.{◌≡◌, IfOk, IfErr, None, map};
 ghost use Rattle.clap.specs.Words.{found_of, kind_of};
@@ -11,12 +11,12 @@ use clap::error::ErrorKind;
 use clap::{ArgMatches, Error};
 use std::alloc::{AllocError as OutOfMemory, AllocFailed, Global};
 
-/// Why words are not read.
+/// The reason why a command line isn't read.
 #[derive(Clone, Copy, Debug, PartialEq, Eq)]
 pub enum WordFault {
-    /// The words are no request.
+    /// The command line is invalid.
     Usage,
-    /// There is no memory to read them.
+    /// Memory ran out.
     OutOfMemory,
 }
 
@@ -40,7 +40,7 @@ impl<T: Drop> From<AllocFailed<T>> for WordFault {
     }
 }
 
-/// The fault of a parse: the words', or want of memory.
+/// Returns the fault of a `clap` error: memory ran out, or otherwise the command line is invalid.
 fn fault_of(error: &Error) -> WordFault
     ensures { result ≡ WordFault.Usage → kind_of error.now ≡ ErrorKind.OutOfMemory → ⊥ }
 {
@@ -50,7 +50,8 @@ fn fault_of(error: &Error) -> WordFault
     }
 }
 
-/// Cuts the words after a command into the options, flags and names that it takes.
+/// Separates the arguments after a command into the options, flags and positional arguments that it
+/// takes.
 pub(crate) fn cut<'a>(
     alloc: Global,
     command: Command,

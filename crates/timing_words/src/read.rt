@@ -1,4 +1,4 @@
-//! The words of a command line to the request that they are.
+//! The reading of a command line as a request.
 
 ghost use Rattle.std.specs.Prelude.{◌≡◌, IfErr, IfOk, None, Some, map, string_bytes};
 ghost use Rattle.clap.specs.Words.{found_of};
@@ -16,6 +16,7 @@ use crate::request::Request;
 use clap::ArgMatches;
 use std::alloc::{AllocError as OutOfMemory, Global};
 
+/// Returns the request of a command with these parsed arguments.
 fn request_of(
     alloc: Global,
     command: Command,
@@ -38,6 +39,7 @@ fn request_of(
     }
 }
 
+/// Returns the request of a command with these arguments after it.
 #[tactic(auto, using(crate::proofs::Says::asked_line))]
 fn read_rest(alloc: Global, command: Command, rest: &[&str]) -> Result<Request, WordFault>
     requires { AreTexts (map (λ s. s.now) rest.now) }
@@ -47,6 +49,7 @@ fn read_rest(alloc: Global, command: Command, rest: &[&str]) -> Result<Request, 
     request_of(alloc, command, &matches)
 }
 
+/// Returns the arguments as slices. Returns `Err` if memory runs out.
 fn texts_of(alloc: Global, words: &[String]) -> Result<Vec<&str>, OutOfMemory>
     ensures same { IfOk result (λ v. map (λ s. s.now) v.items ≡ map string_bytes words.now) }
     ensures texts { IfOk result (λ v. AreTexts (map (λ s. s.now) v.items)) }
@@ -58,7 +61,7 @@ fn texts_of(alloc: Global, words: &[String]) -> Result<Vec<&str>, OutOfMemory>
     Ok(texts)
 }
 
-/// What the words after `help` ask for.
+/// Returns the request of the arguments after `help`.
 fn read_help(rest: &[String]) -> Result<Request, WordFault>
     ensures { Gives (help_asked (map string_bytes rest.now)) result }
 {
@@ -72,10 +75,11 @@ fn read_help(rest: &[String]) -> Result<Request, WordFault>
     }
 }
 
-/// Reads the words of a command line, without the program's name, as what they ask for.
+/// Reads a command line, without the program's name, as a request.
 ///
-/// `Usage` comes exactly where the words are no request. Media count from 1 in the words and from 0
-/// in the request; `check` has 4 workers where the words say nothing of them.
+/// Returns `Usage` if the command line is invalid, and `OutOfMemory` if memory runs out. Media
+/// count from 1 in the arguments and from 0 in the request. `check` has 4 workers unless an option
+/// sets another number.
 pub fn read_words(alloc: Global, words: &[String]) -> Result<Request, WordFault>
     ensures asked { IfOk result (λ r. request (map string_bytes words.now) ≡ Some r) }
     ensures usage { IfErr result (λ e. e ≡ WordFault.Usage

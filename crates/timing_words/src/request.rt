@@ -1,4 +1,4 @@
-//! What a command line asks for.
+//! The requests that a command line can make.
 
 use crate::command::Command;
 use timing_base::{
@@ -6,20 +6,31 @@ use timing_base::{
     VerifyJob,
 };
 
-/// What a command line asks for.
+/// The request of a command line.
 #[derive(Debug, Drop)]
 pub enum Request {
+    /// The command `check`.
     Check(CheckJob),
+    /// The command `verify`.
     Verify(VerifyJob),
+    /// The command `verify-report`.
     VerifyReport(ReportJob),
+    /// The command `selftest`.
     SelfTest(SelfTestJob),
+    /// The command `window`.
     Window(FlowJob),
+    /// The command `shape`.
     Shape(ShapeJob),
+    /// The command `skew`.
     Skew(SkewJob),
+    /// The command `scan`.
     Scan(ScanJob),
+    /// The command `measure`.
     Measure(CaptureJob),
+    /// The command `series`.
     Series(SeriesJob),
+    /// The command `page`.
     Page(CaptureJob),
-    /// The words of all commands, or of this one.
+    /// The command `help`: the arguments of all commands, or more of this one.
     Help(Option<Command>),
 }

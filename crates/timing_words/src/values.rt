@@ -1,4 +1,5 @@
-//! The values of options, and the names.
+//! The values of options and positional arguments. Each function returns `Usage` if the text isn't
+//! a value of its kind.
 
 ghost use Rattle.std.specs.Prelude.{◌≡◌, ◌≤◌, ◌<◌, IfErr, IfOk, None, Some, length, map};
 ghost use Rattle.std.specs.Option.{option_map};
@@ -12,12 +13,14 @@ use crate::line::WordFault;
 use std::alloc::Global;
 use timing_base::{Broken, FileName, Items, Kind, ScanForm};
 
+/// Returns whether all bytes are decimal digits.
 fn are_digits(bytes: &[u8]) -> bool
     ensures { result ≡ list_all is_ascii_digit bytes.now }
 {
     bytes.iter().all(|b| b.is_ascii_digit())
 }
 
+/// Returns whether the text is 1 to 20 decimal digits.
 fn is_numeral(text: &str) -> bool
     ensures { result ≡ words.is_numeral text.now }
 {
@@ -25,6 +28,7 @@ fn is_numeral(text: &str) -> bool
     1 <= digits.len() && digits.len() <= 20 && are_digits(digits)
 }
 
+/// Returns the number of 1 to 20 decimal digits, if it is below 2^64.
 fn written(text: &str) -> Option<u64>
     ensures { result ≡ words.written text.now }
 {
@@ -34,7 +38,7 @@ fn written(text: &str) -> Option<u64>
     text.parse::<u64>().ok()
 }
 
-/// The number from `low` to `high` that one to twenty digits write.
+/// Returns the number that 1 to 20 decimal digits give, if it is from `low` to `high`.
 pub fn number(text: &str, low: u64, high: u64) -> Result<u64, WordFault>
     ensures value { Gives (words.number low high text.now) result }
     ensures least { IfOk result (λ n. low ≤ n) }
@@ -46,14 +50,14 @@ pub fn number(text: &str, low: u64, high: u64) -> Result<u64, WordFault>
     }
 }
 
-/// A count, or the number of a packet.
+/// Returns a count of packets, or the number of a packet: any number below 2^64.
 pub fn count(text: &str) -> Result<u64, WordFault>
     ensures { Gives (words.count text.now) result }
 {
     number(text, 0, u64::MAX)
 }
 
-/// A media, counted from 1 in the text and from 0 in the answer.
+/// Returns a media, counted from 1 to 64 in the text and from 0 in the result.
 pub fn media(text: &str) -> Result<u32, WordFault>
     ensures value { Gives (words.media text.now) result }
     ensures few { IfOk result (λ n. n < 64) }
@@ -62,7 +66,7 @@ pub fn media(text: &str) -> Result<u32, WordFault>
     Ok((n - 1) as u32)
 }
 
-/// A sender type by its name.
+/// Returns the sender type of this name: `N`, `NL` or `W`.
 pub fn kind_named(text: &str) -> Result<Kind, WordFault>
     ensures { Gives (words.kind_named text.now) result }
 {
@@ -74,7 +78,7 @@ pub fn kind_named(text: &str) -> Result<Kind, WordFault>
     }
 }
 
-/// A model that a sender breaks, by its name.
+/// Returns the limit of this name that a sender breaks: `Bucket`, `Over` or `Empty`.
 pub fn model_named(text: &str) -> Result<Broken, WordFault>
     ensures { Gives (words.model_named text.now) result }
 {
@@ -86,7 +90,7 @@ pub fn model_named(text: &str) -> Result<Broken, WordFault>
     }
 }
 
-/// The seconds that are added to stamps.
+/// Returns the seconds that are added to capture timestamps, 0 to 1,000; 0 without the option.
 pub fn tai(text: Option<&str>) -> Result<u64, WordFault>
     ensures value { Gives (words.tai (option_map (λ s. s.now) text.entry)) result }
     ensures most { IfOk result (λ n. n ≤ 1000) }
@@ -97,7 +101,8 @@ pub fn tai(text: Option<&str>) -> Result<u64, WordFault>
     }
 }
 
-/// The workers of `check`, 0 for one thread.
+/// Returns the number of workers of `check`, 1 to 16, or 0 for one thread. It is 4 without an
+/// option. `--workers` and `--serial` exclude each other.
 pub fn check_workers(text: Option<&str>, serial: bool) -> Result<u32, WordFault>
     ensures value { Gives (words.check_workers (option_map (λ s. s.now) text.entry) serial) result }
     ensures few { IfOk result (λ n. n ≤ 16) }
@@ -110,7 +115,8 @@ pub fn check_workers(text: Option<&str>, serial: bool) -> Result<u32, WordFault>
     }
 }
 
-/// The workers of `selftest`, 0 for one thread.
+/// Returns the number of workers of `selftest`, 1 to 16, or 0 for one thread if the option is
+/// missing.
 pub(crate) fn test_workers(text: Option<&str>) -> Result<u32, WordFault>
     ensures value { Gives (words.test_workers (option_map (λ s. s.now) text.entry)) result }
     ensures few { IfOk result (λ n. n ≤ 16) }
@@ -121,7 +127,7 @@ pub(crate) fn test_workers(text: Option<&str>) -> Result<u32, WordFault>
     }
 }
 
-/// How `scan` prints, by its two flags, which exclude each other.
+/// Returns the output form of `scan`. The two flags exclude each other.
 pub(crate) fn scan_form(json: bool, draft: bool) -> Result<ScanForm, WordFault>
     ensures { Gives (words.scan_form json draft) result }
 {
@@ -133,12 +139,14 @@ pub(crate) fn scan_form(json: bool, draft: bool) -> Result<ScanForm, WordFault>
     }
 }
 
+/// Returns whether no byte is a control character (below 32, or 127).
 fn are_plain(bytes: &[u8]) -> bool
     ensures { result ≡ list_all is_name_byte bytes.now }
 {
     bytes.iter().all(|b| 32 <= *b && *b != 127)
 }
 
+/// Returns whether the text can be a file name: 1 to 4,096 bytes without control characters.
 fn is_file_name(text: &str) -> bool
     ensures { result ≡ is_file_name text.now }
 {
@@ -146,7 +154,8 @@ fn is_file_name(text: &str) -> bool
     1 <= bytes.len() && bytes.len() <= 4096 && are_plain(bytes)
 }
 
-/// The name of a file.
+/// Returns a file name: 1 to 4,096 bytes without control characters. Returns `OutOfMemory` if
+/// memory runs out.
 pub fn file_name(alloc: Global, text: &str) -> Result<FileName, WordFault>
     ensures { Gives (words.file_name text.now) result }
 {
@@ -156,7 +165,7 @@ pub fn file_name(alloc: Global, text: &str) -> Result<FileName, WordFault>
     Ok(FileName::from_text(String::from_str(alloc, text)?))
 }
 
-/// One to `most` names of files.
+/// Returns 1 to `most` file names. Returns `OutOfMemory` if memory runs out.
 #[tactic(auto, using(crate::proofs::Checks::list_refused))]
 pub(crate) fn file_names(
     alloc: Global,
@@ -178,7 +187,7 @@ pub(crate) fn file_names(
     Ok(Items::from_vec(files))
 }
 
-/// The one name.
+/// Returns the only positional argument.
 pub(crate) fn sole<'a>(names: &[&'a str]) -> Result<&'a str, WordFault>
     ensures one { IfOk result (λ s. words.sole (map (λ s. s.now) names.now) ≡ Some s.now) }
     ensures other { IfErr result (λ _. words.sole (map (λ s. s.now) names.now) ≡ None) }

@@ -1,7 +1,7 @@
--- A packet that is awaited, by what a plain frame that carries it has at three places (places as in `Carried`; numbers
--- of eight bytes, the highest byte first: RFC 791, appendix B). This project's own form, for fewer comparisons:
--- `destination` is of the bytes 30 to 37, the two of the source's port as zero, `head` of the bytes 42 to 45,
--- `timestamp` of the bytes 46 to 49, and `rest` of the bytes 48 to 55, which overlap those.
+-- The next expected packet of a flow, as numbers at three places of a plain frame (places as in `Carried`; numbers of
+-- eight bytes, the most significant byte first: RFC 791, appendix B).
+-- This project's own form, for fewer comparisons: `destination` is bytes 30 to 37 with zeros for the source port,
+-- `head` is bytes 42 to 45, `timestamp` is bytes 46 to 49, and `rest` is bytes 48 to 55, which overlap those.
 use Rattle.std.specs.Prelude.{ℕ, ◌+◌, ◌*◌, ◌/◌, ◌%◌, ◌^◌, ◌==◌, ◌&&◌, ◌||◌, if◌then◌else◌}
 use Rattle.std.specs.Prelude.{nat_le, nat_lt, not, false, Bool, List, drop, Option, Some, None}
 use Rattle.timing_base.specs.Flows.{next_number}
@@ -12,7 +12,7 @@ use Rattle.udp_rtp.specs.Carried.{carries, is_plain_udp}
 use Rattle.udp_rtp.specs.Numbers.{number16, number32}
 use Rattle.udp_rtp.specs.declared.awaited.Awaited.{Awaited}
 
--- the packet by its bytes
+-- the expected packet
 abbrev pub packet_of : Awaited → Rtp
 packet_of a = record {
   number = a.rest % 2 ^ 16 * 2 ^ 16 + a.head % 2 ^ 16;
@@ -22,25 +22,26 @@ packet_of a = record {
   ssrc = a.rest / 2 ^ 16 % 2 ^ 32;
 }
 
--- where it goes to
+-- the target of the expected packet
 abbrev pub target_of : Awaited → Target
 target_of a = record { address = a.destination / 2 ^ 32; port = a.destination % 2 ^ 16 }
 
--- what is awaited, and where; nothing, if anything but zero stands in the place of the source's port
+-- the expected packet and its target; none, if the place of the source port isn't zero
 abbrev pub awaited : Awaited → Option (Target × Rtp)
 awaited a = if a.destination / 2 ^ 16 % 2 ^ 16 == 0 then Some (target_of a, packet_of a) else None
 
--- whether a frame carries what is awaited
+-- the frame carries the expected packet
 abbrev pub carries_awaited : Option (Target × Rtp) → List ℕ → Bool
 carries_awaited None frame = false
 carries_awaited (Some (target, p)) frame = carries target p frame
 
--- what can be awaited of a packet that is expected: it has no marker, and a payload type of 7 bits
+-- the expected packet in a form that a plain frame can be compared with: it has no marker, and a payload type of 7
+-- bits
 abbrev pub awaited_of : Target → Option Rtp → Option (Target × Rtp)
 awaited_of target None = None
 awaited_of target (Some p) = if p.marker || not (nat_lt p.pt 128) then None else Some (target, p)
 
--- what is awaited after it: the packet with the next number, or nothing, where the low half of the number begins anew
+-- the packet expected after it: the one with the next number, or none if the low half of the number starts again
 abbrev pub awaited_after : Option (Target × Rtp) → Option (Target × Rtp)
 awaited_after None = None
 awaited_after (Some (target, p)) = if p.number % 2 ^ 16 == 65535 then None else Some (

@@ -1,14 +1,15 @@
--- Whether a frame carries a packet that is known beforehand. A place is a count of bytes from the frame's start.
+-- Whether an Ethernet frame carries a packet that is known in advance. A place is a number of bytes from the frame's
+-- start.
 -- From the standards: the places and meanings of the fields, IEEE 802.3, clause 3.2.6, RFC 791, section 3.1 (IPv4),
 -- RFC 768 (UDP), RFC 3550, section 5.1 (RTP) and RFC 4175, section 4.2 (the extended sequence number).
--- This project's profile: only a plain frame counts, in which each field has one place. A frame that isn't plain
--- carries nothing here, though `flow_packet` may have the very packet of it.
+-- This project's profile: only a plain frame carries a packet, because each of its fields has one place.
+-- `flow_packet` may find the same packet in a frame that isn't plain.
 use Rattle.std.specs.Prelude.{ℕ, ◌+◌, ◌*◌, ◌%◌, ◌^◌, ◌==◌, ◌&&◌, nat_le, nat_lt, not, Bool, List, length, slice_index}
 use Rattle.timing_base.specs.declared.packet.Rtp.{Rtp}
 use Rattle.timing_base.specs.declared.target.Target.{Target}
 use Rattle.udp_rtp.specs.Numbers.{number16, number32}
 
--- a UDP datagram over IPv4 with no tag, no IPv4 options and no fragments: version 4 and an IHL of 5 are 0x45
+-- a UDP datagram over IPv4 without a tag, IPv4 options and fragments: version 4 and an IHL of 5 are 0x45
 abbrev pub is_plain_udp : List ℕ → Bool
 is_plain_udp frame =
     (number16 frame 12 == 0x0800)
@@ -20,16 +21,16 @@ is_plain_udp frame =
 abbrev pub goes_to : Target → List ℕ → Bool
 goes_to target frame = (number32 frame 30 == target.address) && (number16 frame 36 == target.port)
 
--- the UDP length counts the eight bytes of its header, the twelve of RTP and the extended sequence number at least;
--- RTP is of version 2 and has no padding, no header extension and no contributing sources: 0x80
+-- the UDP length includes at least the eight bytes of its header, the twelve of RTP and the extended sequence number;
+-- RTP has version 2 and no padding, header extension or contributing sources: 0x80
 abbrev pub is_plain_rtp : List ℕ → Bool
 is_plain_rtp frame = nat_le 22 (number16 frame 38) && (slice_index frame 42 == 0x80)
 
--- the packet number of a plain frame: the extended sequence number is its high half, the sequence number its low half
+-- the packet number of a plain frame: the extended sequence number times 65,536, plus the RTP sequence number
 abbrev pub number : List ℕ → ℕ
 number frame = number16 frame 54 * 2 ^ 16 + number16 frame 44
 
--- the fields of a plain frame are those of this packet, which hasn't the marker: then byte 43 is the payload type
+-- the fields of a plain frame are those of this packet, which has no marker, so that byte 43 is the payload type
 abbrev pub has_fields : Rtp → List ℕ → Bool
 has_fields rtp frame =
     not rtp.marker
@@ -39,7 +40,7 @@ has_fields rtp frame =
     && (number32 frame 46 == rtp.timestamp)
     && (number32 frame 50 == rtp.ssrc)
 
--- a frame is plain, reaches through the extended sequence number, and carries this packet to this target
+-- the frame is plain, was captured through the extended sequence number, and carries this packet to this target
 abbrev pub carries : Target → Rtp → List ℕ → Bool
 carries target rtp frame =
     nat_le 56 (length frame)

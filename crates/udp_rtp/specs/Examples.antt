@@ -1,21 +1,22 @@
--- A frame laid out by hand, byte by byte, with what may differ in it.
+-- An Ethernet frame laid out by hand, byte by byte, with the fields that vary as arguments.
 use Rattle.std.specs.Prelude.{ℕ, false, List, [], ◌∷◌, ◌++◌}
 use Rattle.timing_base.specs.declared.packet.Rtp.{Rtp}
 use Rattle.timing_base.specs.declared.target.Target.{Target}
 use Rattle.udp_rtp.specs.Frames.{Datagram}
 
--- the destination and the source of the Ethernet header
+-- the destination and source addresses of Ethernet
 abbrev pub macs : List ℕ
 macs = 0x01 ∷ 0x00 ∷ 0x5e ∷ 0x00 ∷ 0x00 ∷ 0x01 ∷ 0x02 ∷ 0x00 ∷ 0x00 ∷ 0x00 ∷ 0x00 ∷ 0x01 ∷ []
 
--- the type field of IPv4, and a tag of VLAN 5 with priority 3
+-- the type field of IPv4
 abbrev pub ip_type : List ℕ
 ip_type = 0x08 ∷ 0x00 ∷ []
 
+-- a tag of VLAN 5 with priority 3
 abbrev pub tag : List ℕ
 tag = 0x81 ∷ 0x00 ∷ 0x60 ∷ 0x05 ∷ []
 
--- an IPv4 header from 192.0.2.1 to 239.0.0.1, of these version and IHL, flags, offset and protocol
+-- an IPv4 header from 192.0.2.1 to 239.0.0.1 with these version and IHL, flags, offset and protocol
 abbrev pub ip : ℕ → ℕ → ℕ → ℕ → List ℕ
 ip first flags offset protocol =
     first ∷ 0x00 ∷ 0x00 ∷ 0x2a
@@ -24,15 +25,15 @@ ip first flags offset protocol =
     ∷ 0xc0 ∷ 0x00 ∷ 0x02 ∷ 0x01
     ∷ 0xef ∷ 0x00 ∷ 0x00 ∷ 0x01 ∷ []
 
--- the usual one, which has the flag DF
+-- an IPv4 header with the flag DF, for UDP
 abbrev pub plain_ip : List ℕ
 plain_ip = ip 0x45 0x40 0x00 0x11
 
--- a UDP header from port 50000 to port 50000, with this length, below 256
+-- a UDP header from port 50000 to port 50000, with this length, which is below 256
 abbrev pub udp : ℕ → List ℕ
 udp stated = 0xc3 ∷ 0x50 ∷ 0xc3 ∷ 0x50 ∷ 0x00 ∷ stated ∷ 0x00 ∷ 0x00 ∷ []
 
--- the fixed header of RTP with these first two bytes: sequence number 8, timestamp 1800, SSRC 1
+-- the fixed header of RTP with these first two bytes: sequence number 8, RTP timestamp 1800, SSRC 1
 abbrev pub rtp : ℕ → ℕ → List ℕ
 rtp first second =
     first ∷ second ∷ 0x00 ∷ 0x08
@@ -43,26 +44,27 @@ rtp first second =
 abbrev pub extended : List ℕ
 extended = 0x00 ∷ 0x01 ∷ []
 
--- a contributing source, and a header extension of one word
+-- a contributing source
 abbrev pub source : List ℕ
 source = 0x11 ∷ 0x22 ∷ 0x33 ∷ 0x44 ∷ []
 
+-- a header extension of one word
 abbrev pub extension : List ℕ
 extension = 0xbe ∷ 0xde ∷ 0x00 ∷ 0x01 ∷ 0x51 ∷ 0x52 ∷ 0x53 ∷ 0x54 ∷ []
 
--- the payload with nothing between the fixed header and the extended sequence number
+-- a payload with nothing between the fixed header and the extended sequence number
 abbrev pub packet : List ℕ
 packet = rtp 0x80 0x60 ++ extended
 
--- what is read of it
+-- the fields of that payload
 abbrev pub plain_packet : Rtp
 plain_packet = record { number = 65544; timestamp = 1800; marker = false; pt = 96; ssrc = 1 }
 
--- an untagged frame of this IPv4 header with its options, this UDP header and this payload
+-- an untagged frame with this IPv4 header and its options, this UDP header and this payload
 abbrev pub frame_with : List ℕ → List ℕ → List ℕ → List ℕ
 frame_with header datagram payload = macs ++ (ip_type ++ (header ++ (datagram ++ payload)))
 
--- an untagged frame of this IPv4 header with its options, and a whole packet
+-- an untagged frame with this IPv4 header and its options, and a whole packet
 abbrev pub frame_of : List ℕ → List ℕ
 frame_of header = frame_with header (udp 22) packet
 
@@ -70,6 +72,6 @@ frame_of header = frame_with header (udp 22) packet
 abbrev pub group : Target
 group = record { address = 0xef000001; port = 50000 }
 
--- what goes there with this payload
+-- a datagram to that target with this payload
 abbrev pub to_group : List ℕ → Datagram
 to_group bytes = record { target = group; payload = bytes }

@@ -1,4 +1,4 @@
--- The flow of a media: of the records of a capture those that go to its target, an address and a port.
+-- The flow of a media: those packet records of a capture that go to its target, an address and a port.
 use Rattle.std.specs.Prelude.{ℕ, Bool, ◌==◌, ◌&&◌, if◌then◌else◌, List, filter_map, Option, Some, None}
 use Rattle.timing_base.specs.Captures.{Record}
 use Rattle.timing_base.specs.Media.{Media}
@@ -8,11 +8,11 @@ use Rattle.timing_base.specs.declared.target.Target.{Target}
 use Rattle.udp_rtp.specs.Frames.{Datagram, datagram_of}
 use Rattle.udp_rtp.specs.Reading.{reading}
 
--- whether two targets are one: the same address and the same port
+-- both targets have the same address and port
 abbrev pub is_same_target : Target → Target → Bool
 is_same_target a b = (a.address == b.address) && (a.port == b.port)
 
--- the packet that the record of a datagram is of a media's flow, if it goes there
+-- the packet of a media's flow in the packet record of a datagram, if the datagram goes to the media's target
 abbrev pub datagram_packet : Media → ℕ → ℕ → Option Datagram → Option FlowPacket
 datagram_packet media number stamp None = None
 datagram_packet media number stamp (Some d) =
@@ -20,10 +20,10 @@ datagram_packet media number stamp (Some d) =
     Some (record { rec = number; at = stamp; rtp = reading d.payload })
     else None
 
--- the packet that a record is of a media's flow, if its target is the media's
+-- the packet of a media's flow in a packet record, if the record's target is that of the media
 abbrev pub flow_packet : Media → Record → Option FlowPacket
 flow_packet media r = datagram_packet media r.number r.stamp (datagram_of r.bytes)
 
--- the flow of a media: the records whose target is the media's, in order, each as its packet
+-- the flow of a media: a packet for each packet record that goes to the media's target, in order
 abbrev pub flow : List Record → Media → List FlowPacket
 flow records media = filter_map (flow_packet media) records

@@ -1,37 +1,36 @@
--- Where an Ethernet frame goes. A place is a count of bytes from the frame's start; lengths are
--- counts of bytes.
--- From the standards: the places and meanings of the fields, IEEE 802.3, clause 3.2.6 (the type
--- field), IEEE 802.1Q (the tag), RFC 791, section 3.1 (IPv4) and RFC 768 (UDP).
--- This project's profile: there is one tag at most, of type 0x8100; a fragment has no datagram; a
--- frame that was captured up to its UDP ports has one, its payload empty where the UDP header isn't
--- whole or its length is below 8. IPv4's total length and the checksums aren't looked at.
+-- The UDP datagram in an Ethernet frame. A place is a number of bytes from the frame's start; lengths are bytes.
+-- From the standards: the places and meanings of the fields, IEEE 802.3, clause 3.2.6 (the type field), IEEE 802.1Q
+-- (the tag), RFC 791, section 3.1 (IPv4) and RFC 768 (UDP).
+-- This project's profile: there is at most one tag, of type 0x8100; a fragment has no datagram; a frame that was
+-- captured up to its UDP ports has one. Its payload is empty if the UDP header is incomplete or the UDP length is
+-- below 8 bytes. IPv4's total length and the checksums are ignored.
 use Rattle.std.specs.Prelude.{ℕ, ◌+◌, ◌-◌, ◌*◌, ◌/◌, ◌%◌, ◌^◌, ◌==◌, ◌&&◌, nat_le, Bool, if◌then◌else◌, List, length}
 use Rattle.std.specs.Prelude.{take, drop, slice_index, Option, Some, None}
 use Rattle.timing_base.specs.declared.target.Target.{Target}
 use Rattle.udp_rtp.specs.Numbers.{number16, number32}
 
--- what a frame carries to a target
+-- a datagram
 pub record Datagram : Type 0 where
-  -- the address and the port of the destination
+  -- the destination address and port
   pub target : Target
-  -- the bytes of data that the frame still has
+  -- the payload, as far as it was captured
   pub payload : List ℕ
 
--- the place e of the IPv4 header: after a type field with 0x0800, and there may be one tag
--- (its type is 0x8100) before that type field. Where there is no such type field, there is none.
+-- the place e of the IPv4 header: after a type field of 0x0800, with at most one tag (of type 0x8100) before it;
+-- none, if there is no such type field
 abbrev pub ip_place : List ℕ → Option ℕ
 ip_place frame =
     if number16 frame 12 == 0x0800 then Some 14
     else if (number16 frame 12 == 0x8100) && (number16 frame 16 == 0x0800) then Some 18
     else None
 
--- the place u of the UDP header: IHL, the low four bits of byte e, counts words of 32 bits
+-- the place u of the UDP header; IHL, the low four bits of byte e, counts 32-bit words
 abbrev pub udp_place : List ℕ → ℕ → ℕ
 udp_place frame e = e + 4 * (slice_index frame e % 16)
 
--- an IPv4 header of version 4 stands at e, with an IHL of at least 5 and protocol 17 (UDP). It is
--- no fragment: neither the flag MF nor any of the 13 bits of the fragment offset is set. The frame
--- has at least the two ports of the UDP header.
+-- there is an IPv4 header at e, of version 4, with an IHL of at least 5 and protocol 17 (UDP). It is no fragment:
+-- neither the flag MF nor any of the 13 bits of the fragment offset is set. The frame has at least the two ports of
+-- the UDP header.
 abbrev pub is_udp_at : List ℕ → ℕ → Bool
 is_udp_at frame e =
     (slice_index frame e / 16 == 4)
@@ -40,13 +39,13 @@ is_udp_at frame e =
     && (number16 frame (e + 6) % 2 ^ 14 == 0)
     && nat_le (udp_place frame e + 4) (length frame)
 
--- the data of the UDP header at u: its length field counts the eight bytes of the header and the
--- data. What the frame no longer has of it isn't there, and no byte counts that the field doesn't.
+-- the payload of the UDP header at u, as far as it was captured; its length field includes the eight bytes of the
+-- header
 abbrev pub payload_at : List ℕ → ℕ → List ℕ
 payload_at frame u = take (number16 frame (u + 4) - 8) (drop (u + 8) frame)
 
--- the destination, which stands in the last four bytes of the fixed IPv4 header and in the second
--- 16 bits of the UDP header, and the data
+-- the datagram with an IPv4 header at e; the destination is in the last four bytes of the fixed IPv4 header and in
+-- the second 16 bits of the UDP header
 abbrev pub datagram_at : List ℕ → ℕ → Datagram
 datagram_at frame e = record {
   target = record {
@@ -56,11 +55,11 @@ datagram_at frame e = record {
   payload = payload_at frame (udp_place frame e);
 }
 
--- what stands behind the type fields
+-- the datagram with an IPv4 header at this place, if there is one
 abbrev pub datagram_from : List ℕ → Option ℕ → Option Datagram
 datagram_from frame None = None
 datagram_from frame (Some e) = if is_udp_at frame e then Some (datagram_at frame e) else None
 
--- the datagram of a frame, where it has one
+-- the datagram of a frame, if there is one
 abbrev pub datagram_of : List ℕ → Option Datagram
 datagram_of frame = datagram_from frame (ip_place frame)

@@ -1,10 +1,10 @@
--- what is promised
+-- definitions that the crate's clauses cite
 pub mod Awaited
 pub mod Carried
 pub mod Flow
 pub mod Frames
 pub mod Numbers
 pub mod Reading
--- frames and payloads that are worked by hand
+-- frames and payloads for examples worked by hand
 pub mod Examples
 pub mod TwoFlows

@@ -1,5 +1,5 @@
--- The numbers in the bytes of a header, in network byte order: the highest byte first
--- (RFC 791, appendix B). A place is a count of bytes from the start.
+-- The numbers in the bytes of a header, in network byte order: the most significant byte first (RFC 791, appendix B).
+-- A place is a number of bytes from the start.
 use Rattle.std.specs.Prelude.{ℕ, List, drop}
 use Rattle.byteorder.specs.Endian.{big_number}
 

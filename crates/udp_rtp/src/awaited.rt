@@ -1,4 +1,4 @@
-//! A packet that is awaited, as the bytes of a frame that carries it.
+//! The next expected packet of a flow, compared with the bytes of an Ethernet frame.
 
 ghost use Rattle.std.specs.Prelude.{◌≡◌, ◌≤◌, ◌<◌, ◌+◌, ◌*◌, ◌/◌, ◌%◌, ◌^◌, Some, None, drop, length};
 ghost use Rattle.udp_rtp.specs.Numbers.{number16, number32};
@@ -8,8 +8,8 @@ use crate::carried::{is_long_udp, is_plain_udp};
 use byteorder::{BigEndian, ByteOrder};
 use timing_base::{Rtp, Target};
 
-/// A packet that is awaited at a target, as numbers that a frame which carries it has at known places: most of its
-/// bytes are compared by three comparisons.
+/// The packet that is expected next at a target, as the numbers that a plain Ethernet frame with
+/// this packet has at fixed places. Three comparisons cover most of its bytes.
 ///
 /// ```text
 /// byte 30 to 33             34 35        36 37
@@ -19,9 +19,10 @@ use timing_base::{Rtp, Target};
 /// ```
 #[derive(Clone, Copy, Debug, PartialEq, Eq)]
 pub struct Awaited {
-    /// Bytes 30 to 37, without the source port. Nothing is awaited where that isn't zero.
+    /// Bytes 30 to 37, with zeros for the source port. If these aren't zeros, no packet is
+    /// expected.
     destination: u64,
-    // Timestamp and head stand side by side in this order, so that they are read as one number.
+    // `timestamp` and `head` are neighbours in this order, so that one read gets both.
     /// Bytes 46 to 49.
     timestamp: u32,
     /// Bytes 42 to 45.
@@ -34,7 +35,7 @@ pub struct Awaited {
     ghost overlap: { rest / 2 ^ 48 ≡ timestamp % 2 ^ 16 },
 }
 
-/// The address of the destination, the source port and the destination port of the datagram, as one number.
+/// Returns the destination address, the source port and the destination port as one number.
 #[inline(always)]
 fn from_address_to_port(frame: &[u8]) -> u64
     requires { 56 ≤ length frame.now }
@@ -43,7 +44,7 @@ fn from_address_to_port(frame: &[u8]) -> u64
     BigEndian::read_u64(&frame[30..])
 }
 
-/// The address and the port that the datagram of the frame goes to, as one number with zeros between.
+/// Returns the destination address and port as one number, with zeros for the source port.
 #[inline(always)]
 fn destination(frame: &[u8]) -> u64
     requires { 56 ≤ length frame.now }
@@ -53,7 +54,8 @@ fn destination(frame: &[u8]) -> u64
     eight - eight / 0x1_0000 % 0x1_0000 * 0x1_0000
 }
 
-/// The eight bytes from the RTP header's first on: version, flags, payload type, sequence number and timestamp.
+/// Returns the first eight bytes of the RTP header: version, flags, payload type, sequence number
+/// and RTP timestamp.
 #[inline(always)]
 fn start(frame: &[u8]) -> u64
     requires { 56 ≤ length frame.now }
@@ -62,7 +64,8 @@ fn start(frame: &[u8]) -> u64
     BigEndian::read_u64(&frame[42..])
 }
 
-/// The eight bytes up to the extended sequence number's end: half of the timestamp, the source, and that number.
+/// Returns the eight bytes that end with the extended sequence number: the low half of the RTP
+/// timestamp, the source, and that number.
 #[inline(always)]
 fn rest(frame: &[u8]) -> u64
     requires { 56 ≤ length frame.now }
@@ -74,7 +77,7 @@ fn rest(frame: &[u8]) -> u64
 impl Awaited {
     ghost use Rattle.udp_rtp.specs.Awaited.{awaited, awaited_after, awaited_of, carries_awaited, has_numbers, packet_of};
 
-    /// Nothing is awaited.
+    /// Returns the value that expects no packet.
     #[inline(always)]
     pub fn nothing() -> Awaited
         ensures { awaited result ≡ None }
@@ -87,7 +90,9 @@ impl Awaited {
         }
     }
 
-    /// A packet that is expected at this target, where a plain frame can carry it: it has no marker.
+    /// Returns the value that expects this packet at this target. It expects no packet if there is
+    /// none, or if a plain frame can't be compared with it: it has the marker, or a payload type
+    /// above 127.
     #[inline(always)]
     pub fn of(target: Target, packet: Option<Rtp>) -> Awaited
         ensures { awaited result ≡ awaited_of target packet }
@@ -105,7 +110,9 @@ impl Awaited {
         }
     }
 
-    /// What goes on after this packet of the target, in the same frame or field: nothing, where it has the marker.
+    /// Returns the value that expects the packet after this one of the target, in the same frame or
+    /// field. It expects no packet if this one has the marker or a payload type above 127, or if
+    /// the low half of the next number is 0.
     #[inline(always)]
     pub fn after(target: Target, rtp: Rtp) -> Awaited
         ensures { awaited result ≡ awaited_after (awaited_of target (Some rtp)) }
@@ -115,7 +122,8 @@ impl Awaited {
         awaited
     }
 
-    /// Whether the frame carries what is awaited, as [`carries`](crate::carries) tells of its packet and target.
+    /// Returns whether the Ethernet frame carries the expected packet, as
+    /// [`carries`](crate::carries) does for the packet and its target.
     #[inline(always)]
     pub fn is_in(&self, frame: &[u8]) -> bool
         ensures { result ≡ carries_awaited (awaited self.now) frame.now }
@@ -123,7 +131,7 @@ impl Awaited {
         frame.len() >= 56 && self.has_numbers(frame)
     }
 
-    /// Bytes 42 to 49, as one number.
+    /// Returns bytes 42 to 49 as one number.
     #[inline(always)]
     fn start(&self) -> u64
         ensures { result ≡ self.now.head * 2 ^ 32 + self.now.timestamp }
@@ -131,7 +139,7 @@ impl Awaited {
         u64::from(self.head) * 0x1_0000_0000 + u64::from(self.timestamp)
     }
 
-    /// Whether the frame is plain, and has these numbers.
+    /// Returns whether the Ethernet frame is plain and has these numbers.
     #[inline(always)]
     fn has_numbers(&self, frame: &[u8]) -> bool
         requires { 56 ≤ length frame.now }
@@ -144,7 +152,7 @@ impl Awaited {
             && rest(frame) == self.rest
     }
 
-    /// The packet that is awaited, where one is.
+    /// Returns the expected packet. The result has no meaning if none is expected.
     #[inline(always)]
     pub fn packet(&self) -> Rtp
         ensures { result ≡ packet_of self.now }
@@ -158,8 +166,8 @@ impl Awaited {
         }
     }
 
-    /// The packet with the next number is awaited; nothing, where the low half of the number begins anew, as it does
-    /// after 65,536 packets at most.
+    /// Expects the packet with the next number from now on, or no packet if the low half of the
+    /// number would start again from 0. That happens after at most 65,536 packets.
     #[inline(always)]
     pub fn go_on(&mut self)
         ensures { awaited self.new ≡ awaited_after (awaited self.old) }

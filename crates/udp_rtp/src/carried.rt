@@ -1,4 +1,4 @@
-//! Frames that carry a packet that is known beforehand.
+//! Comparison of an Ethernet frame with a packet that is known in advance.
 
 ghost use Rattle.std.specs.Prelude.{◌≡◌, ◌≤◌, ◌%◌, ◌^◌, ◌==◌, ◌&&◌, nat_le, length, slice_index};
 ghost use Rattle.udp_rtp.specs.Carried.{carries, is_plain_udp};
@@ -8,7 +8,8 @@ use crate::awaited::Awaited;
 use byteorder::{BigEndian, ByteOrder};
 use timing_base::{Rtp, Target};
 
-/// Flags and fragment offset of the IPv4 header, its time to live and its protocol, as one number.
+/// Returns the flags and the fragment offset of the IPv4 header, its time to live and its protocol
+/// as one number.
 #[inline(always)]
 fn from_flags_to_protocol(frame: &[u8]) -> u32
     requires { 56 ≤ length frame.now }
@@ -17,8 +18,8 @@ fn from_flags_to_protocol(frame: &[u8]) -> u32
     BigEndian::read_u32(&frame[20..])
 }
 
-/// Whether the IPv4 header is of a UDP datagram that is no fragment. What is compared is read as
-/// one number, so that one comparison serves for it.
+/// Returns whether the IPv4 header is that of a UDP datagram and of no fragment. The compared
+/// fields are read as one number, so that one comparison is enough.
 #[inline(always)]
 fn is_whole_udp(frame: &[u8]) -> bool
     requires { 56 ≤ length frame.now }
@@ -28,7 +29,8 @@ fn is_whole_udp(frame: &[u8]) -> bool
     four / 0x1_0000 % 0x4000 == 0 && four % 0x100 == 17
 }
 
-/// Whether a UDP datagram over IPv4 stands in the frame with no tag, options or fragments.
+/// Returns whether the Ethernet frame has a UDP datagram over IPv4 without a tag, IPv4 options or
+/// fragments.
 #[inline(always)]
 pub(crate) fn is_plain_udp(frame: &[u8]) -> bool
     requires { 56 ≤ length frame.now }
@@ -37,7 +39,7 @@ pub(crate) fn is_plain_udp(frame: &[u8]) -> bool
     BigEndian::read_u16(&frame[12..]) == 0x0800 && frame[14] == 0x45 && is_whole_udp(frame)
 }
 
-/// Whether the UDP length counts 22 bytes at least: of most packets its high byte says so.
+/// Returns whether the UDP length is at least 22 bytes. For most packets its high byte decides.
 #[inline(always)]
 pub(crate) fn is_long_udp(frame: &[u8]) -> bool
     requires { 56 ≤ length frame.now }
@@ -46,11 +48,13 @@ pub(crate) fn is_long_udp(frame: &[u8]) -> bool
     frame[38] != 0 || frame[39] >= 22
 }
 
-/// Whether a frame carries this packet, which has no marker, to this target, and is laid out as most
-/// are: with no tag, IPv4 options, fragments, padding, header extension or contributing sources.
+/// Returns whether an Ethernet frame carries this packet, without the marker, to this target, and
+/// is plain: without a tag, IPv4 options, fragments, padding, header extension or contributing
+/// sources.
 ///
-/// Where it does, [`packet_of`](crate::packet_of) reads this very packet of the frame for each media
-/// of this target. Where it doesn't, the frame may still have that packet, behind a tag for one.
+/// If the result is true, [`packet_of`](crate::packet_of) reads this packet from the frame for each
+/// media of this target. If it is false, the frame may still have this packet, for example behind a
+/// tag.
 #[inline(always)]
 pub fn carries(frame: &[u8], target: Target, rtp: Rtp) -> bool
     ensures { result ≡ carries target rtp frame.now }

@@ -7,9 +7,11 @@ use crate::frame::datagram;
 use crate::rtp::read_rtp;
 use timing_base::{FlowPacket, Media};
 
-/// The packet that a frame is of a media's flow, if the frame's target is the media's.
+/// Returns the packet of a media's flow in an Ethernet frame, or `None` if the frame's target isn't
+/// that of the media.
 ///
-/// `rec` is the number of the frame's record, counted from 1, and `at` its stamp in nanoseconds.
+/// `rec` is the number of the packet record, counted from 1, and `at` its capture timestamp in
+/// nanoseconds.
 pub fn packet_of(media: &Media, rec: u64, at: u64, frame: &[u8]) -> Option<FlowPacket>
     ensures { result
         ≡ flow_packet media.now (record { number = rec; stamp = at; bytes = frame.now }) }

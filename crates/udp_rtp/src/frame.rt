@@ -7,18 +7,19 @@ use crate::udp::Datagram;
 use byteorder::{BigEndian, ByteOrder};
 use timing_base::Target;
 
-/// The type field of IPv4 (IEEE 802.3; RFC 894), and of a tag (IEEE 802.1Q).
+/// The type field of IPv4 (IEEE 802.3; RFC 894).
 const IPV4: u16 = 0x0800;
 
+/// The type field of a tag (IEEE 802.1Q).
 const TAG: u16 = 0x8100;
 
-/// The first byte of an IPv4 header without options: version 4, and 5 words.
+/// The first byte of an IPv4 header without options: version 4, and an IHL of 5.
 const PLAIN: u8 = 0x45;
 
-/// The least length of a frame with a datagram: Ethernet 14, IPv4 20, and the ports 4.
+/// The least length of an Ethernet frame with a datagram, in bytes: Ethernet 14, IPv4 20, ports 4.
 const LEAST: usize = 38;
 
-/// Where the IPv4 header of a frame stands, if it has one behind at most one tag.
+/// Returns the place of the IPv4 header, if there is one, behind at most one tag.
 fn ip_header(frame: &[u8]) -> Option<usize>
     requires { 18 ≤ length frame.now }
     ensures place { result ≡ ip_place frame.now }
@@ -35,7 +36,7 @@ fn ip_header(frame: &[u8]) -> Option<usize>
     }
 }
 
-/// The data of the UDP header at `udp`.
+/// Returns the payload of the UDP header at the place `udp`, as far as it was captured.
 fn payload(frame: &[u8], udp: usize) -> &[u8]
     requires { udp + 4 ≤ length frame.now }
     ensures { result.now ≡ payload_at frame.now udp }
@@ -48,7 +49,8 @@ fn payload(frame: &[u8], udp: usize) -> &[u8]
     &data[..stated.saturating_sub(8).min(data.len())]
 }
 
-/// Whether an IPv4 header with a UDP datagram stands at `ip`, and the frame has its ports.
+/// Returns whether there is an IPv4 header of a UDP datagram at the place `ip`, and the ports were
+/// captured.
 #[inline(always)]
 fn is_udp(frame: &[u8], ip: usize) -> bool
     requires least { 38 ≤ length frame.now }
@@ -63,7 +65,7 @@ fn is_udp(frame: &[u8], ip: usize) -> bool
         && frame.len() >= ip + 4 * usize::from(first % 16) + 4
 }
 
-/// The datagram of a frame whose IPv4 header stands at `ip`, if one does.
+/// Returns the datagram with an IPv4 header at the place `ip`, if there is one.
 #[inline(always)]
 fn datagram_behind(frame: &[u8], ip: usize) -> Option<Datagram<'_>>
     requires least { 38 ≤ length frame.now }
@@ -84,8 +86,7 @@ fn datagram_behind(frame: &[u8], ip: usize) -> Option<Datagram<'_>>
     })
 }
 
-/// The datagram of an Ethernet frame: what it carries to a UDP port over IPv4. `None` for any other
-/// frame.
+/// Returns the UDP datagram over IPv4 in an Ethernet frame, or `None` if there is none.
 ///
 /// ```text
 /// Ethernet  0 to 11  12 13   a tag puts 4 bytes before the type
@@ -99,11 +100,11 @@ fn datagram_behind(frame: &[u8], ip: usize) -> Option<Datagram<'_>>
 ///           source   destination   length   checksum   payload
 /// ```
 ///
-/// The type is 0x0800 (IPv4), behind one tag of IEEE 802.1Q or none; version 4 and protocol 17
-/// (UDP); the header has 5 words at least, and the frame is no fragment (RFC 791, section 3.1). A
-/// frame that was captured up to its ports has a datagram; the payload ends where the UDP length (RFC
-/// 768) or the frame ends, and is empty where that is before it begins. Checksums, the IPv4 length,
-/// padding after the datagram, and the tag's control are passed over.
+/// The type is 0x0800 (IPv4), behind at most one tag of IEEE 802.1Q; the version is 4, the protocol
+/// 17 (UDP), the IHL at least 5, and the packet is no fragment (RFC 791, section 3.1). It is enough
+/// if the frame was captured up to its ports. The payload ends at the UDP length (RFC 768) or the
+/// end of the frame, whichever comes first, and is empty if that is before its start. Checksums,
+/// the IPv4 total length, padding after the datagram, and the tag's control are ignored.
 #[inline(always)]
 pub fn datagram(frame: &[u8]) -> Option<Datagram<'_>>
     ensures { result ≡ datagram_of frame.now }
@@ -111,7 +112,7 @@ pub fn datagram(frame: &[u8]) -> Option<Datagram<'_>>
     if frame.len() < LEAST {
         return None;
     }
-    // Most frames have no tag and no IPv4 options: here all places are known beforehand.
+    // Most frames have no tag and no IPv4 options. Then all places are known in advance.
     if frame[14] == PLAIN && BigEndian::read_u16(&frame[12..]) == IPV4 {
         return datagram_behind(frame, 14);
     }

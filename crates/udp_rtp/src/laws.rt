@@ -1,5 +1,5 @@
-//! What holds of the definitions themselves. Each function is a theorem: it does nothing, and its
-//! clauses are proved.
+//! Theorems about the definitions, and examples of them worked by hand. Each function does nothing;
+//! its clauses are what is proved.
 
 ghost use Rattle.std.specs.Prelude.{◌≡◌, ◌+◌, ◌++◌, [], ◌∷◌, ℕ, true, false, List, min, length, take, drop, replicate};
 ghost use Rattle.timing_base.specs.Captures.{Record};
@@ -20,8 +20,8 @@ ghost use Rattle.udp_rtp.specs.Examples.{macs, ip_type, tag, ip, plain_ip, udp, 
 ghost use Rattle.udp_rtp.specs.Examples.{packet, plain_packet, frame_of, frame_with, group, to_group};
 ghost use Rattle.udp_rtp.specs.TwoFlows.{next_port};
 
-/// The flow of records and one more is their flow and then that of the one alone, which is one
-/// packet or none.
+/// One more packet record adds its packet to the end of the flow, or leaves the flow unchanged if
+/// it has none.
 pub fn flow_of_one_more()
     ensures append { (media : Media) (records : List Record) (r : Record)
         → flow (records ++ r ∷ []) media ≡ flow records media ++ flow (r ∷ []) media }
@@ -32,24 +32,23 @@ pub fn flow_of_one_more()
         → flow_packet media r ≡ None → flow (records ++ r ∷ []) media ≡ flow records media }
 {}
 
-/// The payload of a UDP header at u is what stands from u + 8 up to the smaller of the frame's end
-/// and u plus the UDP length.
+/// The payload of a UDP header at u is the bytes from u + 8 up to the end of the frame or u plus
+/// the UDP length, whichever is smaller.
 pub fn payload_ends_with_the_first()
     ensures { (frame : List ℕ) (u : ℕ) → payload_at frame u
         ≡ drop (u + 8) (take (min (length frame) (u + number16 frame (u + 4))) frame) }
 {}
 
-/// Frames worked by hand that have a datagram.
+/// Worked by hand: Ethernet frames with a datagram.
 pub fn datagrams_by_hand()
     ensures plain { datagram_of (frame_of plain_ip) ≡ Some (to_group packet) }
 
-    // The source's port is another one, 5000.
+    // The source port is another one, 5000.
     ensures other_source { datagram_of
         (macs ++ ip_type ++ plain_ip ++ (0x13 ∷ 0x88 ∷ drop 2 (udp 22)) ++ packet)
         ≡ Some (to_group packet) }
 
-    // One tag; one word of IPv4 options; fragments may be forbidden or not, and the reserved flag
-    // may be set.
+    // One tag; one word of IPv4 options; without the flag DF; with the reserved flag.
     ensures tagged { datagram_of (macs ++ tag ++ ip_type ++ plain_ip ++ udp 22 ++ packet)
         ≡ Some (to_group packet) }
     ensures options { datagram_of (frame_of (ip 0x46 0x40 0 17 ++ source)) ≡ Some (to_group packet) }
@@ -57,7 +56,8 @@ pub fn datagrams_by_hand()
 
     ensures reserved { datagram_of (frame_of (ip 0x45 0x80 0 17)) ≡ Some (to_group packet) }
 
-    // The UDP length ends the payload after 12 bytes, and after none; it says more than there is.
+    // The UDP length ends the payload after 12 bytes, and after none. Then it exceeds the captured
+    // bytes.
     ensures twelve { datagram_of (macs ++ ip_type ++ plain_ip ++ udp 20 ++ packet)
         ≡ Some (to_group (rtp 0x80 0x60)) }
     ensures eight { datagram_of (macs ++ ip_type ++ plain_ip ++ udp 8 ++ packet)
@@ -73,7 +73,7 @@ pub fn datagrams_by_hand()
         ≡ Some (to_group []) }
 {}
 
-/// Frames worked by hand that have none.
+/// Worked by hand: Ethernet frames without a datagram.
 pub fn no_datagrams_by_hand()
     ensures cut_37 { datagram_of (take 37 (frame_of plain_ip)) ≡ None }
     ensures tagged_41 { datagram_of (take 41 (macs ++ tag ++ ip_type ++ plain_ip ++ udp 22))
@@ -81,33 +81,34 @@ pub fn no_datagrams_by_hand()
     ensures options_cut { datagram_of (take 41 (frame_of (ip 0x46 0x40 0 17 ++ source))) ≡ None }
     ensures empty { datagram_of [] ≡ None }
 
-    // IPv6 by its type; another type behind a tag; two tags.
+    // The type of IPv6; that type behind a tag; two tags.
     ensures ipv6 { datagram_of (macs ++ (0x86 ∷ 0xdd ∷ []) ++ plain_ip ++ udp 22 ++ packet) ≡ None }
     ensures tagged { datagram_of (macs ++ tag ++ (0x86 ∷ 0xdd ∷ []) ++ plain_ip ++ udp 22 ++ packet)
         ≡ None }
     ensures two_tags { datagram_of (macs ++ tag ++ tag ++ ip_type ++ plain_ip ++ udp 22 ++ packet)
         ≡ None }
 
-    // Version 6, a header of four words, and TCP.
+    // Version 6, an IHL of 4, and TCP.
     ensures version { datagram_of (frame_of (ip 0x65 0x40 0 17)) ≡ None }
     ensures words { datagram_of (frame_of (ip 0x44 0x40 0 17)) ≡ None }
     ensures protocol { datagram_of (frame_of (ip 0x45 0x40 0 6)) ≡ None }
 
-    // The first fragment of several, and later ones.
+    // The first fragment, and later ones.
     ensures first { datagram_of (frame_of (ip 0x45 0x20 0 17)) ≡ None }
     ensures later { datagram_of (frame_of (ip 0x45 0x00 1 17)) ≡ None }
     ensures last { datagram_of (frame_of (ip 0x45 0x10 0 17)) ≡ None }
 {}
 
-/// Payloads worked by hand: RTP packet 65,544 of frame 1800, of source 1 and payload type 96.
+/// Worked by hand: payloads with packet number 65,544, RTP timestamp 1800, source 1 and payload
+/// type 96.
 pub fn readings_by_hand()
     ensures plain { reading packet
         ≡ Ok (record { number = 65544; timestamp = 1800; marker = false; pt = 96; ssrc = 1 }) }
     ensures marker { reading (rtp 0x80 0xe0 ++ extended)
         ≡ Ok (record { number = 65544; timestamp = 1800; marker = true; pt = 96; ssrc = 1 }) }
 
-    // Padding is passed over, and so are one contributing source, an extension of one word, and
-    // both.
+    // Padding is ignored, and so are one contributing source, 15 of them, an extension of one word,
+    // and a source with an extension.
     ensures padding { reading (rtp 0xa0 0x60 ++ extended) ≡ reading packet }
     ensures sources { reading (rtp 0x81 0x60 ++ source ++ extended) ≡ reading packet }
     ensures extension { reading (rtp 0x90 0x60 ++ extension ++ extended) ≡ reading packet }
@@ -123,12 +124,12 @@ pub fn readings_by_hand()
         (rtp 0x90 0x60 ++ (0xbe ∷ 0xde ∷ 1 ∷ 0 ∷ []) ++ replicate 1023 0x51 ++ extended)
         ≡ Err Short }
 
-    // Fewer than 12 bytes are short whatever the version says.
+    // A payload of fewer than 12 bytes is `Short`, whatever its version.
     ensures eleven { reading (take 11 (rtp 0x40 0x60)) ≡ Err Short }
     ensures version { reading (rtp 0x40 0x60) ≡ Err Version }
     ensures empty { reading [] ≡ Err Short }
 
-    // The extended sequence number is not there, or not whole.
+    // The extended sequence number is missing or incomplete.
     ensures fixed { reading (rtp 0x80 0x60) ≡ Err Short }
     ensures thirteen { reading (take 13 packet) ≡ Err Short }
     ensures sources_past { reading (rtp 0x8f 0x60 ++ extended) ≡ Err Short }
@@ -137,8 +138,8 @@ pub fn readings_by_hand()
     ensures head_cut { reading (rtp 0x90 0x60 ++ (0 ∷ 0 ∷ [])) ≡ Err Short }
 {}
 
-/// Three records worked by hand: the second goes to another port than the media's, and the third
-/// ends after its ports.
+/// Worked by hand: three packet records. The second goes to another port than the media's, and the
+/// third ends after its ports.
 pub fn flow_by_hand()
     ensures { (media : Media) → target_of media ≡ group
         → flow (record { number = 7; stamp = 100; bytes = frame_of plain_ip }
@@ -152,8 +153,9 @@ pub fn flow_by_hand()
         ∷ record { rec = 9; at = 80; rtp = Err Short } ∷ [] }
 {}
 
-/// Where a frame carries a packet to a target, its datagram goes there, and that packet is what is read
-/// of its payload. So a record of this frame has that packet in the flow of each media of this target.
+/// If an Ethernet frame carries a packet to a target, its datagram goes to that target, and that
+/// packet is what is read from its payload. So a packet record of this frame has that packet in the
+/// flow of each media of this target.
 pub fn carried_is_read()
     ensures datagram { (target : Target) (p : Rtp) (frame : List ℕ) → carries target p frame ≡ true
         → datagram_of frame ≡ Some (record { target = target; payload = payload_at frame 34 }) }
@@ -164,12 +166,13 @@ pub fn carried_is_read()
         → flow_packet media r ≡ Some (record { rec = r.number; at = r.stamp; rtp = Ok p }) }
 {}
 
-/// Worked by hand: a frame to 239.0.0.1, port 50000, with RTP packet 65,544, and what it carries.
+/// Worked by hand: an Ethernet frame to 239.0.0.1, port 50000, with RTP packet 65,544, and the
+/// packets that it carries.
 pub fn carried_by_hand()
     ensures plain { carries group plain_packet (frame_of plain_ip) ≡ true }
 
-    // Fragments may be forbidden or not, and the reserved flag may be set; the source's port is passed
-    // over, and so is what follows the extended sequence number.
+    // Without the flag DF, and with the reserved flag. The source port is ignored, and so is what
+    // follows the extended sequence number.
     ensures allowed { carries group plain_packet (frame_of (ip 0x45 0x00 0 17)) ≡ true }
     ensures reserved { carries group plain_packet (frame_of (ip 0x45 0x80 0 17)) ≡ true }
     ensures other_source { carries group plain_packet
@@ -188,12 +191,13 @@ pub fn carried_by_hand()
         (macs ++ (0x86 ∷ 0xdd ∷ []) ++ plain_ip ++ udp 22 ++ packet) ≡ false }
     ensures protocol { carries group plain_packet (frame_of (ip 0x45 0x40 0 6)) ≡ false }
 
-    // The flag MF, the lowest bit of the fragment offset, and its highest.
+    // The flag MF, and the lowest and the highest bit of the fragment offset.
     ensures first { carries group plain_packet (frame_of (ip 0x45 0x20 0 17)) ≡ false }
     ensures later { carries group plain_packet (frame_of (ip 0x45 0x00 1 17)) ≡ false }
     ensures last { carries group plain_packet (frame_of (ip 0x45 0x10 0 17)) ≡ false }
 
-    // The UDP length leaves out the last byte of the extended sequence number, or the frame does.
+    // The UDP length excludes the last byte of the extended sequence number; the frame ends before
+    // it.
     ensures stated { carries group plain_packet (frame_with plain_ip (udp 21) packet) ≡ false }
     ensures cut_55 { carries group plain_packet (take 55 (frame_of plain_ip)) ≡ false }
     ensures empty { carries group plain_packet [] ≡ false }
@@ -208,7 +212,7 @@ pub fn carried_by_hand()
     ensures version { carries group plain_packet
         (frame_with plain_ip (udp 22) (rtp 0x40 0x60 ++ extended)) ≡ false }
 
-    // The frame has the marker, and none is expected; it has none, and one is expected; both have it.
+    // Only the frame has the marker; only the packet has it; both have it.
     ensures marked { carries group plain_packet
         (frame_with plain_ip (udp 22) (rtp 0x80 0xe0 ++ extended)) ≡ false }
     ensures unmarked { carries group
@@ -218,12 +222,13 @@ pub fn carried_by_hand()
         (record { number = 65544; timestamp = 1800; marker = true; pt = 96; ssrc = 1 })
         (frame_with plain_ip (udp 22) (rtp 0x80 0xe0 ++ extended)) ≡ false }
 
-    // No packet has payload type 224, which would be the byte of 96 with the marker.
+    // Payload type 224 doesn't exist; it would be the byte of type 96 with the marker.
     ensures no_type { carries group
         (record { number = 65544; timestamp = 1800; marker = false; pt = 224; ssrc = 1 })
         (frame_with plain_ip (udp 22) (rtp 0x80 0xe0 ++ extended)) ≡ false }
 
-    // The next packet, the one with the next high half, and another timestamp, type and source.
+    // The next packet number, the next high half of it, and another RTP timestamp, payload type and
+    // source.
     ensures next { carries group
         (record { number = 65545; timestamp = 1800; marker = false; pt = 96; ssrc = 1 })
         (frame_of plain_ip) ≡ false }
@@ -241,10 +246,10 @@ pub fn carried_by_hand()
         (frame_of plain_ip) ≡ false }
 {}
 
-/// Packets that are awaited, worked by hand.
+/// Worked by hand: expected packets.
 pub fn awaited_by_hand()
-    // 239.0.0.1 and port 50000; version 2, payload type 96, number 65,544 (0x1_0008), timestamp 1800 (0x708) and
-    // source 1.
+    // 239.0.0.1 and port 50000; version 2, payload type 96, packet number 65,544 (0x1_0008), RTP
+    // timestamp 1800 (0x708) and source 1.
     ensures numbers { (a : Awaited) → a.destination ≡ 0xef0000010000c350 → a.head ≡ 0x80600008 → a.timestamp ≡ 0x708
         → a.rest ≡ 0x0708000000010001 → awaited a ≡ Some (group, plain_packet) }
     ensures nothing { (a : Awaited) → a.destination ≡ 0xef0000010001c350 → awaited a ≡ None }
@@ -256,7 +261,7 @@ pub fn awaited_by_hand()
     ensures no_type { awaited_of group
         (Some (record { number = 65544; timestamp = 1800; marker = false; pt = 128; ssrc = 1 })) ≡ None }
 
-    // The next number; none after one whose low half is the greatest.
+    // The next number; and a number after which the low half starts again.
     ensures next { awaited_after (Some (group, plain_packet)) ≡ Some (
       group,
       record { number = 65545; timestamp = 1800; marker = false; pt = 96; ssrc = 1 },

@@ -1,10 +1,11 @@
-//! From a captured Ethernet frame to what the analyser reads of an RTP packet of video.
+//! A reader of RTP packets of video in captured Ethernet frames.
 //!
-//! [`datagram`] finds the target and the payload of a frame, [`read_rtp`] reads a payload,
-//! and [`packet_of`] joins the two for the flow of one media. [`carries`] compares a frame with a packet
-//! that is known beforehand, and [`Awaited`] is such a packet as the numbers that are compared. All of
-//! them take no memory and go over the header once, without a loop.
-//! Places are counts of bytes; numbers are in network byte order.
+//! [`datagram`] finds the target and the payload of a frame, [`read_rtp`] reads a payload, and
+//! [`packet_of`] does both for the flow of one media. [`carries`] compares a frame with a packet
+//! that is known in advance, and [`Awaited`] holds such a packet as the numbers to compare. None of
+//! them allocates memory or loops over bytes.
+//!
+//! Places are bytes. Numbers are in network byte order.
 #![tactic(auto)]
 
 mod awaited;

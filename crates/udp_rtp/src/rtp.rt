@@ -7,7 +7,7 @@ ghost use Rattle.udp_rtp.specs.Reading.{payload_place, reading};
 use byteorder::{BigEndian, ByteOrder};
 use timing_base::{PacketFault, Rtp};
 
-/// The place of the extended sequence number, if the bytes reach through it.
+/// Returns the place of the extended sequence number, if it was captured completely.
 fn extended_place(bytes: &[u8]) -> Option<usize>
     requires { 12 ≤ length bytes.now }
     ensures { SomeIff result (payload_place bytes.now + 2 ≤ length bytes.now)
@@ -33,7 +33,8 @@ fn extended_place(bytes: &[u8]) -> Option<usize>
     }
 }
 
-/// Reads the fixed header of RFC 3550, section 5.1, and the extended sequence number of RFC 4175.
+/// Reads the fixed header of RTP (RFC 3550, section 5.1) and the extended sequence number (RFC
+/// 4175, section 4.2).
 ///
 /// ```text
 /// byte 0        1        2 3       4 5 6 7    8 9 10 11  12 ..
@@ -41,10 +42,11 @@ fn extended_place(bytes: &[u8]) -> Option<usize>
 ///                                                        the extended sequence number in 2
 /// ```
 ///
-/// A header extension (section 5.3.1) is four bytes, whose last two count the words of 32 bits
-/// after them; it is passed over, as contributing sources and padding are. Fewer than 12 bytes are
-/// `Short` whatever the version says; else a version that is not 2 is `Version`; else bytes that
-/// end before the extended sequence number does are `Short`.
+/// A header extension (section 5.3.1) begins with four bytes, and the last two of them count the
+/// 32-bit words that follow. Extensions, contributing sources and padding are ignored.
+///
+/// Returns `Short` if there are fewer than 12 bytes, otherwise `Version` if the version isn't 2,
+/// and otherwise `Short` if the bytes end before the end of the extended sequence number.
 pub fn read_rtp(bytes: &[u8]) -> Result<Rtp, PacketFault>
     ensures { result ≡ reading bytes.now }
 {

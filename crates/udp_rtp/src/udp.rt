@@ -1,12 +1,12 @@
-//! What a frame carries to a UDP port.
+//! UDP datagrams.
 
 use std::marker::Model;
 use timing_base::Target;
 
-/// Where a frame goes, and the UDP payload that it still has.
+/// The target of a UDP datagram, and its payload.
 #[derive(Debug, Drop)]
 pub struct Datagram<'a> {
-    /// The address and the port of the destination.
+    /// The destination address and port.
     pub target: Target,
     /// The UDP payload, as far as it was captured.
     pub payload: &'a [u8],

@@ -1,3 +1,3 @@
--- what is promised
+-- definitions that the crate's clauses cite
 pub mod Lines
 pub mod Options

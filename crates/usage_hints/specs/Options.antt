@@ -1,4 +1,4 @@
--- The options, flags and commands that a hint may name.
+-- The options, flags and commands that a hint can name.
 use Rattle.std.specs.Prelude.{◌≡◌, List, Option, is_none, map, option_map}
 use Rattle.clap.specs.Words.{Rule}
 use Rattle.timing_words.specs.Help.{name_of}
@@ -7,11 +7,11 @@ use Rattle.timing_words.specs.Request.{sorts}
 use Rattle.timing_words.specs.declared.command.Command.{Command}
 use Rattle.usage_hints.specs.declared.options.Choice.{Choice}
 
--- an option or a flag as the grammar has it
+-- an option or flag as in the grammar of `timing_words`
 abbrev pub sort_of : Choice → Sort
 sort_of c = record { name = c.name.now; valued = c.valued }
 
--- what the parser has been told of an argument; the names have no long name
+-- the option or flag of a parser's argument; the positional arguments have no long name
 abbrev pub sort_in : Rule → Option Sort
 sort_in r = option_map (λ n. record { name = n; valued = is_none r.range }) r.long
 

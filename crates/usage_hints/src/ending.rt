@@ -1,4 +1,4 @@
-//! What is printed after the line of a status.
+//! The text that is printed after the line of a status.
 
 ghost use Rattle.std.specs.Prelude.{◌≡◌, ◌≤◌, IfOk, length, string_bytes, true};
 ghost use Rattle.std.specs.List.{list_all};
@@ -9,29 +9,29 @@ use crate::sdp::expected;
 use crate::usage::{not_text_lines, usage_hint};
 use sdp_reader::SdpFault;
 use std::alloc::{AllocError as OutOfMemory, Global};
-use timing_base::FileName;
+use timing_base::{FileName, ScanForm};
 use timing_report::{Input, Status};
 use timing_words::{Request, WordFault, read_words};
 
-/// The bytes that a hint has at most.
+/// The greatest length of a hint, in bytes.
 const MOST: usize = 4096;
 
-/// How a run ended, and what is known of its cause.
+/// The end of a run, and what is known of its cause.
 #[derive(Clone, Copy)]
 pub struct Ending<'a> {
-    /// The arguments after the program's name.
+    /// The arguments after the program's name. Empty if one of them isn't UTF-8.
     pub words: &'a [String],
-    /// Whether all arguments are UTF-8. Where one isn't, `words` is empty.
+    /// Whether all arguments are UTF-8.
     pub are_text: bool,
     /// The status of the run.
     pub status: Status,
-    /// The name of the input that the status speaks of.
+    /// The name of the input that the status is about.
     pub input: Option<&'a str>,
-    /// Why that input couldn't be opened or read.
+    /// The reason why that input couldn't be opened or read.
     pub cause: Option<&'a str>,
 }
 
-/// The session description of a request.
+/// Returns the session description of a request.
 fn description_of(request: &Request) -> Option<&FileName> {
     match request {
         Request::Check(job) => Some(&job.sdp),
@@ -47,7 +47,7 @@ fn description_of(request: &Request) -> Option<&FileName> {
     }
 }
 
-/// The report of a request.
+/// Returns the report of a request.
 fn report_of(request: &Request) -> Option<&FileName> {
     match request {
         Request::VerifyReport(job) => Some(&job.report),
@@ -55,7 +55,7 @@ fn report_of(request: &Request) -> Option<&FileName> {
     }
 }
 
-/// A capture of a request, counted from 0.
+/// Returns a capture of a request, counted from 0.
 fn capture_of(request: &Request, file: u32) -> Option<&FileName> {
     match request {
         Request::Check(job) => job.captures.as_slice().get(file as usize),
@@ -72,7 +72,7 @@ fn capture_of(request: &Request, file: u32) -> Option<&FileName> {
     }
 }
 
-/// The input of a request that a status speaks of.
+/// Returns the input of a request that a status is about.
 fn input_of(request: &Request, status: Status) -> Option<&FileName> {
     match status {
         Status::SdpRefused(_) | Status::ReadFault(Input::Sdp) => description_of(request),
@@ -82,7 +82,7 @@ fn input_of(request: &Request, status: Status) -> Option<&FileName> {
     }
 }
 
-/// Whether a status speaks of an input.
+/// Returns whether a status is about an input.
 fn names_input(status: Status) -> bool {
     matches!(
         status,
@@ -90,8 +90,8 @@ fn names_input(status: Status) -> bool {
     )
 }
 
-/// The name of the input that a status speaks of, as the arguments have it: the session description, the report or a
-/// capture.
+/// Returns the name of the input that a status is about, as in the arguments: the session
+/// description, the report or a capture. Returns `Err` if memory runs out.
 pub fn input_name(
     alloc: Global,
     words: &[String],
@@ -110,7 +110,7 @@ pub fn input_name(
     }
 }
 
-/// A cause of the system without its number, as in `No such file or directory (os error 2)`.
+/// Returns an error of the system without the ` (os error 2)` or another such number at its end.
 fn without_number(cause: &str) -> &str {
     match cause.split_once(" (os error ") {
         Some((text, _)) => text,
@@ -118,17 +118,25 @@ fn without_number(cause: &str) -> &str {
     }
 }
 
-/// The line of an input that couldn't be read. A capture `-` is a file of that name, and not standard input.
-fn read_line(alloc: Global, name: &str, cause: &str) -> Result<String, OutOfMemory> {
-    let (shown, cause) = (shown(alloc, name)?, without_number(cause));
+/// Returns what a name of an input may be meant as. `-` is a file of that name and not standard input.
+/// An editor may have replaced two hyphens by a dash.
+fn advice(name: &str) -> &'static str {
     if name == "-" {
-        format!(in alloc; "{shown}: {cause}; for standard input write /dev/stdin\n")
+        "; for standard input write /dev/stdin"
+    } else if name.starts_with("\u{2013}") || name.starts_with("\u{2014}") {
+        "; an option begins with two hyphens, --"
     } else {
-        format!(in alloc; "{shown}: {cause}\n")
+        ""
     }
 }
 
-/// The line of an invalid session description.
+/// Returns the line of an input that couldn't be read.
+fn read_line(alloc: Global, name: &str, cause: &str) -> Result<String, OutOfMemory> {
+    let (shown, cause, advice) = (shown(alloc, name)?, without_number(cause), advice(name));
+    format!(in alloc; "{shown}: {cause}{advice}\n")
+}
+
+/// Returns the line of an invalid session description.
 fn description_line(alloc: Global, name: &str, fault: SdpFault) -> Result<String, OutOfMemory> {
     let (shown, expected) = (shown(alloc, name)?, expected(fault.what));
     if fault.line == 0 {
@@ -139,13 +147,13 @@ fn description_line(alloc: Global, name: &str, fault: SdpFault) -> Result<String
     }
 }
 
-/// The line of a report that isn't in its form.
+/// Returns the line of an invalid report.
 fn report_line(alloc: Global, name: &str) -> Result<String, OutOfMemory> {
     let shown = shown(alloc, name)?;
     format!(in alloc; "{shown}: expected a report as check --json prints it\n")
 }
 
-/// The lines about an input of this name.
+/// Returns the lines about the input of this name.
 fn input_lines(alloc: Global, ending: Ending<'_>, name: &str) -> Result<String, OutOfMemory> {
     match (ending.status, ending.cause) {
         (Status::SdpRefused(fault), _) => description_line(alloc, name, fault),
@@ -156,17 +164,50 @@ fn input_lines(alloc: Global, ending: Ending<'_>, name: &str) -> Result<String, 
     }
 }
 
-/// The lines about an ending.
+/// Returns the line about a draft without a video.
+fn draft_line(alloc: Global, name: &str) -> Result<String, OutOfMemory> {
+    let shown = shown(alloc, name)?;
+    format!(in alloc;
+        "{shown}: no raw video, or a malformed capture; what it holds: st2110_timing scan {shown}\n"
+    )
+}
+
+/// Returns the capture of a request for the draft of a session description.
+fn draft_of(request: &Request) -> Option<&FileName> {
+    match request {
+        Request::Scan(job) => match job.form {
+            ScanForm::Draft => Some(&job.capture),
+            ScanForm::Lines | ScanForm::Json => None,
+        },
+        _ => None,
+    }
+}
+
+/// Returns the line about the end of a `scan --draft` without a video or over a malformed capture,
+/// or an empty text for another command, whose output gives the reason.
+fn unjudged_lines(alloc: Global, words: &[String]) -> Result<String, OutOfMemory> {
+    match read_words(alloc, words) {
+        Ok(request) => match draft_of(&request) {
+            Some(name) => draft_line(alloc, name.as_str()),
+            None => Ok(String::new(alloc)),
+        },
+        Err(WordFault::Usage) => Ok(String::new(alloc)),
+        Err(WordFault::OutOfMemory) => Err(OutOfMemory),
+    }
+}
+
+/// Returns the lines about the end of a run.
 fn lines(alloc: Global, ending: Ending<'_>) -> Result<String, OutOfMemory> {
     match (ending.status, ending.input) {
         (Status::Usage, _) if ending.are_text => usage_hint(alloc, ending.words),
         (Status::Usage, _) => not_text_lines(alloc),
+        (Status::NotAllJudged, _) => unjudged_lines(alloc, ending.words),
         (_, Some(name)) => input_lines(alloc, ending, name),
         _ => Ok(String::new(alloc)),
     }
 }
 
-/// Whether a text is nothing, or ends with the end of a line.
+/// Returns whether a text is empty or ends with a line feed.
 fn ends_line(text: &str) -> bool
     ensures { result ≡ ends_line text.now }
 {
@@ -176,14 +217,15 @@ fn ends_line(text: &str) -> bool
     }
 }
 
-/// Whether each byte of a text ends a line, or is no control character of ASCII.
+/// Returns whether no byte is an ASCII control character other than a line feed.
 fn are_plain(bytes: &[u8]) -> bool
     ensures { result ≡ list_all is_line_byte bytes.now }
 {
     bytes.iter().all(|b| *b == 10 || 32 <= *b && *b != 127)
 }
 
-/// The lines that are printed after that of a status, or nothing where there is nothing to add. `Err` is want of memory.
+/// Returns the lines to print after the line of a status, or an empty text if there is nothing to
+/// add. Returns `Err` if memory runs out.
 pub fn hint(alloc: Global, ending: Ending<'_>) -> Result<String, OutOfMemory>
     ensures few { IfOk result (λ s. length (string_bytes s) ≤ 4096) }
     ensures lines { IfOk result (λ s. ends_line (string_bytes s) ≡ true) }

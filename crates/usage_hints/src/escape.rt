@@ -1,12 +1,13 @@
-//! Arguments and names of files as they are shown on a terminal.
+//! Arguments and file names, as printed on a terminal.
 
 use std::alloc::{AllocError as OutOfMemory, Global};
 
-/// The bytes after which no further character of an argument is shown.
+/// The length after which no further character of an argument is printed, in bytes.
 const MOST: usize = 1000;
 
-/// Whether a terminal would obey the character, or turn what follows it, in place of showing it: a control character, a
-/// mark or an isolate of direction, a character of no width, or the end of a line or of a paragraph.
+/// Returns whether a terminal would interpret the character, or lay out others by it, instead of
+/// printing it: a control character, a mark or isolate of text direction, a character without
+/// width, or a line or paragraph separator.
 fn is_hidden(ch: char) -> bool {
     matches!(
         ch as u32,
@@ -24,7 +25,7 @@ fn is_hidden(ch: char) -> bool {
     )
 }
 
-/// Adds a character, escaped where it is hidden.
+/// Appends a character, escaped if it is hidden.
 fn add_shown(text: &mut String, ch: char) -> Result<(), OutOfMemory> {
     if is_hidden(ch) {
         write!(text, "\\u{{{:x}}}", ch as u32)
@@ -33,8 +34,9 @@ fn add_shown(text: &mut String, ch: char) -> Result<(), OutOfMemory> {
     }
 }
 
-/// An argument or a name of a file as it is shown: hidden characters are escaped, as in `\u{202e}`, and `..` stands for
-/// what comes after 1,000 bytes.
+/// Returns an argument or file name as it is printed: hidden characters are escaped, as in
+/// `\u{202e}`, and `..` replaces what follows the first 1,000 bytes. Returns `Err` if memory runs
+/// out.
 pub fn shown(alloc: Global, text: &str) -> Result<String, OutOfMemory> {
     let mut shown = String::new(alloc);
     for ch in text.chars() {
@@ -47,7 +49,7 @@ pub fn shown(alloc: Global, text: &str) -> Result<String, OutOfMemory> {
     Ok(shown)
 }
 
-/// An argument within a sentence: in quotes where it is empty or has a blank.
+/// Returns an argument for use in a sentence: in quotes if it is empty or has a space.
 pub(crate) fn quoted(alloc: Global, word: &str) -> Result<String, OutOfMemory> {
     let shown = shown(alloc, word)?;
     if word.is_empty() || word.contains(" ") {

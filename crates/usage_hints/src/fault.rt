@@ -1,4 +1,4 @@
-//! What is wrong with a command line, and how it is said.
+//! The mistakes of a command line, and their messages.
 
 use crate::escape::{quoted, shown};
 use crate::nearest::{nearest_command, nearest_first, nearest_option};
@@ -6,52 +6,52 @@ use crate::values::range;
 use std::alloc::{AllocError as OutOfMemory, AllocFailed, Global};
 use timing_words::{Command, help_text};
 
-/// What is wrong with a command line.
+/// A mistake in a command line.
 #[derive(Clone, Copy)]
 pub(crate) enum Mistake<'a> {
     /// There is no argument.
     NoCommand,
     /// An argument isn't UTF-8.
     NotText,
-    /// The first argument is no command.
+    /// The first argument isn't a command.
     UnknownCommand(&'a str),
-    /// What is to be explained is no command.
+    /// The argument of `help` isn't a command.
     UnknownTopic(&'a str),
-    /// `help` itself is to be explained.
+    /// The argument of `help` is `help`.
     HelpOfHelp,
-    /// `help` stands with more than one argument.
+    /// `help` has more than one argument.
     HelpOfMany,
     /// The command has no such option.
     UnknownOption(&'a str),
     /// The option has no value.
     NoValue(&'static str),
-    /// The flag has a value.
+    /// The flag is given with a value.
     ValueOfFlag(&'static str),
-    /// The option or flag stands twice.
+    /// The option or flag is given twice.
     Repeated(&'static str),
     /// These two exclude each other.
     Exclusive(&'static str, &'static str),
-    /// The option doesn't take this value.
+    /// The value of this option is invalid.
     BadValue(&'static str, &'a str),
-    /// The option is missing.
+    /// The required option is missing.
     Missing(&'static str),
-    /// No capture is named.
+    /// No capture is given.
     NoCapture,
-    /// So many captures are the most.
+    /// There are more captures than this number, the most that the command takes.
     TooManyCaptures(usize),
-    /// Without `--joined` one capture is the most.
+    /// `verify` without `--joined` has more than one capture.
     TooManyUnjoined,
-    /// This is no name of a file.
+    /// This argument can't be a file name.
     BadName(&'a str),
-    /// `selftest` takes one number of frames.
+    /// `selftest` doesn't have exactly one valid number of frames.
     BadFrames,
     /// Another mistake.
     Other,
 }
 
-/// Why a command line is read no further.
+/// The reason why reading a command line stopped.
 pub(crate) enum Stop<'a> {
-    /// It has a mistake.
+    /// The command line has this mistake.
     Mistake(Mistake<'a>),
     /// Memory ran out.
     OutOfMemory,
@@ -69,22 +69,22 @@ impl<'a, T: Drop> From<AllocFailed<T>> for Stop<'a> {
     }
 }
 
-/// Whether an argument asks for help, as other programs take it.
+/// Returns whether other programs would take this argument as a request for help.
 fn asks_help(word: &str) -> bool {
     matches!(word, "--help" | "-h" | "-help" | "-?")
 }
 
-/// Whether an argument asks for the version, as other programs take it.
+/// Returns whether other programs would take this argument as a request for the version.
 fn asks_version(word: &str) -> bool {
     matches!(word, "--version" | "-V" | "-version")
 }
 
-/// Whether an argument names a file for the output, as other programs take it.
+/// Returns whether other programs would take this argument as the output file.
 fn asks_output(word: &str) -> bool {
     word.starts_with("-o") || matches!(word, "--out" | "--output")
 }
 
-/// The program with its version, as `help` prints them.
+/// Returns the name of the program and its version, as `help` prints them.
 fn version(alloc: Global) -> Result<String, OutOfMemory> {
     let help = help_text(alloc, None)?;
     match help.as_str().split_once(":") {
@@ -93,7 +93,7 @@ fn version(alloc: Global) -> Result<String, OutOfMemory> {
     }
 }
 
-/// How `help` is called for a command.
+/// Returns the command line of `help` for a command.
 fn help_call(alloc: Global, command: Option<Command>) -> Result<String, OutOfMemory> {
     match command {
         Some(command) => {
@@ -104,7 +104,8 @@ fn help_call(alloc: Global, command: Option<Command>) -> Result<String, OutOfMem
     }
 }
 
-/// An option that other programs have, and what serves here; else nothing.
+/// Returns the message about an option of other programs, with what to use here, or `None` if it
+/// isn't one of these.
 fn usual_option(
     alloc: Global,
     command: Option<Command>,
@@ -130,7 +131,7 @@ fn usual_option(
     Ok(None)
 }
 
-/// The line of an argument that is no command, with the one that was probably meant.
+/// Returns the message about an unknown command, with the most similar one.
 fn unknown_name(
     alloc: Global,
     word: &str,
@@ -143,7 +144,7 @@ fn unknown_name(
     }
 }
 
-/// The line of a first argument that is no command.
+/// Returns the message about a first argument that isn't a command.
 fn unknown_command(alloc: Global, word: &str) -> Result<String, OutOfMemory> {
     if let Some(text) = usual_option(alloc, None, word)? {
         return Ok(text);
@@ -152,7 +153,7 @@ fn unknown_command(alloc: Global, word: &str) -> Result<String, OutOfMemory> {
     unknown_name(alloc, word, near)
 }
 
-/// The line of an argument of `help` that is no command.
+/// Returns the message about an argument of `help` that isn't a command.
 fn unknown_topic(alloc: Global, word: &str) -> Result<String, OutOfMemory> {
     if let Some(text) = usual_option(alloc, None, word)? {
         return Ok(text);
@@ -161,7 +162,7 @@ fn unknown_topic(alloc: Global, word: &str) -> Result<String, OutOfMemory> {
     unknown_name(alloc, word, near)
 }
 
-/// The line of an argument that is no option of the command.
+/// Returns the message about an unknown option of a command.
 fn unknown_option(alloc: Global, command: Command, word: &str) -> Result<String, OutOfMemory> {
     if let Some(text) = usual_option(alloc, Some(command), word)? {
         return Ok(text);
@@ -173,14 +174,14 @@ fn unknown_option(alloc: Global, command: Command, word: &str) -> Result<String,
     }
 }
 
-/// The line of an option with a value that it doesn't take.
+/// Returns the message about an option with an invalid value.
 fn bad_value(alloc: Global, name: &'static str, value: &str) -> Result<String, OutOfMemory> {
     let range = range(name);
     let value = shown(alloc, value)?;
     format!(in alloc; "--{name} takes {range}, and not \"{value}\"\n")
 }
 
-/// The line of a number of captures that is too great.
+/// Returns the message about too many captures.
 fn too_many(alloc: Global, command: Command, most: usize) -> Result<String, OutOfMemory> {
     let name = command.name();
     if most == 1 {
@@ -190,7 +191,7 @@ fn too_many(alloc: Global, command: Command, most: usize) -> Result<String, OutO
     }
 }
 
-/// The line of a mistake in the arguments of a command.
+/// Returns the message about a mistake in the arguments of a command.
 fn mistake_in(
     alloc: Global,
     command: Command,
@@ -231,7 +232,7 @@ fn mistake_in(
     }
 }
 
-/// The line of a mistake before any command.
+/// Returns the message about a mistake in a command line without a valid command.
 fn mistake_before(alloc: Global, mistake: Mistake<'_>) -> Result<String, OutOfMemory> {
     match mistake {
         Mistake::NoCommand => String::from_str(alloc, "no command is named\n"),
@@ -246,7 +247,7 @@ fn mistake_before(alloc: Global, mistake: Mistake<'_>) -> Result<String, OutOfMe
     }
 }
 
-/// The line of a mistake, with its end.
+/// Returns the message about a mistake, as a whole line. Returns `Err` if memory runs out.
 pub(crate) fn mistake_line(
     alloc: Global,
     command: Option<Command>,

@@ -1,8 +1,9 @@
-//! What standard error prints after the line of a status: what is wrong with the arguments or with an input, and
-//! what is valid there.
+//! The text that is printed on standard error after the line of a status: what is wrong with the
+//! arguments or with an input, and what is valid there.
 //!
-//! The line of a status is fixed by `timing_report`. The texts here come after it, and are for people. The options,
-//! the flags and the tests of values are those of `timing_words`, so that a hint and the parser agree.
+//! `timing_report` defines the line of a status. The text of this crate follows it and is meant for
+//! people. The options, flags and tests of values are those of `timing_words`, so that a hint and
+//! the parser agree.
 #![tactic(auto)]
 
 mod ending;

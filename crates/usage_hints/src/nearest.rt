@@ -1,4 +1,4 @@
-//! The command or option that was probably meant.
+//! Suggestions for misspelled commands and options.
 
 ghost use Rattle.std.specs.Prelude.{◌≡◌, ◌⊎◌, Contains, IfOk, IfSome, None, Some, codes};
 ghost use Rattle.usage_hints.specs.Options.{IsCommandName, names_in, option_names};
@@ -8,21 +8,27 @@ use std::alloc::{AllocError as OutOfMemory, Global};
 use strsim::osa_distance;
 use timing_words::Command;
 
-/// The edits up to which two names are near.
+/// The greatest number of edits between similar names.
 const MOST_EDITS: usize = 2;
 
-/// The bytes from which an argument is near no name.
+/// The length in bytes from which an argument is similar to no name.
 const LONG: usize = 32;
 
-/// The name that fewest edits have found so far.
+/// The name with the fewest edits so far.
 #[derive(Clone, Copy)]
 struct Nearest {
     name: Option<&'static str>,
     edits: usize,
 }
 
+/// Returns the greatest number of edits between an argument and a name that it is similar to: one for
+/// every three bytes of the name, but at most two.
+fn most_edits(name: &str) -> usize {
+    (name.len() / 3).min(MOST_EDITS)
+}
+
 impl Nearest {
-    /// None yet.
+    /// Returns the state without a name.
     fn none() -> Nearest
         ensures { result.name ≡ None }
     {
@@ -32,12 +38,12 @@ impl Nearest {
         }
     }
 
-    /// This, or a further name that is nearer: at most two edits lead to it, and fewer than it has bytes.
+    /// Returns the better of this and another name, if the argument is similar to that.
     fn or(self, alloc: Global, word: &str, name: &'static str) -> Result<Nearest, OutOfMemory>
         ensures { IfOk result (λ n. (n.name ≡ self.name) ⊎ (n.name ≡ Some name.entry)) }
     {
         let edits = osa_distance(alloc, word, name)?;
-        if edits < self.edits && edits < name.len() {
+        if edits < self.edits && edits <= most_edits(name) {
             Ok(Nearest {
                 name: Some(name),
                 edits,
@@ -48,7 +54,7 @@ impl Nearest {
     }
 }
 
-/// The nearest name of these commands.
+/// Returns the name among these commands that is most similar.
 fn nearest_of(
     alloc: Global,
     commands: &[Command],
@@ -63,7 +69,7 @@ fn nearest_of(
     Ok(nearest.name)
 }
 
-/// The nearest name of these options and flags.
+/// Returns the name among these options and flags that is most similar.
 fn nearest_in(
     alloc: Global,
     choices: &[Choice],
@@ -78,8 +84,9 @@ fn nearest_in(
     Ok(nearest.name)
 }
 
-/// The name of the command that at most two edits make of this one. An edit adds, drops or changes a character, or
-/// swaps two neighbours.
+/// Returns the command that is most similar to the argument: at most two edits away, and at most one
+/// if its name has fewer than six characters. An edit adds, removes or changes a character, or swaps
+/// two neighbouring ones. Returns `Err` if memory runs out.
 pub fn nearest_command(alloc: Global, word: &str) -> Result<Option<&'static str>, OutOfMemory>
     ensures { IfOk result (λ o. IfSome o (λ n. IsCommandName n.now)) }
 {
@@ -90,7 +97,8 @@ pub fn nearest_command(alloc: Global, word: &str) -> Result<Option<&'static str>
     nearest_of(alloc, &commands, word)
 }
 
-/// The first argument of a valid command line that is nearest: a command, or else `help`.
+/// Returns the command that is most similar to a first argument, or otherwise `help` if that is
+/// similar. Returns `Err` if memory runs out.
 pub fn nearest_first(alloc: Global, word: &str) -> Result<Option<&'static str>, OutOfMemory>
     ensures { IfOk result (λ o. IfSome o (λ n. IsCommandName n.now ⊎ (n.now ≡ codes "help"))) }
 {
@@ -104,7 +112,8 @@ pub fn nearest_first(alloc: Global, word: &str) -> Result<Option<&'static str>, 
     Ok(nearest.name)
 }
 
-/// The name of the command's option or flag that at most two edits make of this one, without dashes. The command has it.
+/// Returns the command's option or flag, without dashes, that is most similar to the argument.
+/// Returns `Err` if memory runs out.
 pub fn nearest_option(
     alloc: Global,
     command: Command,

@@ -1,4 +1,4 @@
-//! The options and flags of a command, as its parser has them.
+//! The options and flags of a command, taken from its parser.
 
 ghost use Rattle.std.specs.Prelude.{◌≡◌, IfOk, filter_map, map, option_map};
 ghost use Rattle.clap.specs.Walk.{rule_of};
@@ -9,16 +9,16 @@ use clap::Arg;
 use std::alloc::{AllocError as OutOfMemory, Global};
 use timing_words::Command;
 
-/// An option that takes a value, or a flag.
+/// An option, which takes a value, or a flag.
 #[derive(Clone, Copy)]
 pub(crate) struct Choice {
-    /// Its name, without dashes.
+    /// The name, without dashes.
     pub(crate) name: &'static str,
     /// Whether it takes a value.
     pub(crate) valued: bool,
 }
 
-/// What an argument of a parser is, unless it is that of the names.
+/// Returns the option or flag of a parser's argument, or `None` for the positional arguments.
 fn choice_of(arg: &Arg<'static>) -> Option<Choice>
     ensures { option_map sort_of result ≡ sort_in (rule_of arg.now) }
 {
@@ -31,7 +31,7 @@ fn choice_of(arg: &Arg<'static>) -> Option<Choice>
     }
 }
 
-/// The options and flags among the arguments of a parser.
+/// Returns the options and flags among the arguments of a parser.
 fn choices_in(alloc: Global, args: &[Arg<'static>]) -> Result<Vec<Choice>, OutOfMemory>
     ensures { IfOk result (λ v. map sort_of v.items ≡ filter_map (λ a. sort_in (rule_of a)) args.now) }
 {
@@ -44,7 +44,8 @@ fn choices_in(alloc: Global, args: &[Arg<'static>]) -> Result<Vec<Choice>, OutOf
     Ok(choices)
 }
 
-/// The options and flags that a command takes, in the order of its parser.
+/// Returns the options and flags of a command, in the order of its parser. Returns `Err` if memory
+/// runs out.
 pub(crate) fn choices_of(alloc: Global, command: Command) -> Result<Vec<Choice>, OutOfMemory>
     ensures { IfOk result (λ v. map sort_of v.items ≡ sorts command) }
 {
@@ -52,7 +53,7 @@ pub(crate) fn choices_of(alloc: Global, command: Command) -> Result<Vec<Choice>,
     choices_in(alloc, parser.get_arguments())
 }
 
-/// The one of this name.
+/// Returns the option or flag of this name.
 pub(crate) fn choice_named(choices: &[Choice], name: &str) -> Option<Choice> {
     for choice in choices {
         if choice.name == name {
@@ -62,7 +63,7 @@ pub(crate) fn choice_named(choices: &[Choice], name: &str) -> Option<Choice> {
     None
 }
 
-/// All commands, in the order of `help`.
+/// Returns all commands, in the order of `help`.
 pub(crate) fn commands() -> [Command; 11] {
     [
         Command::Check,

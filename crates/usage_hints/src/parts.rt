@@ -1,25 +1,29 @@
-//! The arguments after a command, cut into options, flags and names.
+//! The arguments after a command, separated into options, flags and positional arguments.
 
 use crate::fault::{Mistake, Stop};
 use crate::options::{Choice, choice_named};
 use std::alloc::Global;
 
-/// An option with its value, or a flag with none.
+/// An option with its value, or a flag without one.
 #[derive(Clone, Copy)]
 pub(crate) struct Use<'a> {
+    /// The name, without dashes.
     pub(crate) name: &'static str,
+    /// The value; `None` for a flag.
     pub(crate) value: Option<&'a str>,
 }
 
 /// The arguments after a command.
 #[derive(Drop)]
 pub(crate) struct Parts<'a> {
+    /// The options and flags, in order.
     pub(crate) uses: Vec<Use<'a>>,
+    /// The positional arguments, in order.
     pub(crate) names: Vec<&'a str>,
 }
 
 impl<'a> Parts<'a> {
-    /// Whether an option or a flag is there.
+    /// Returns whether an option or flag is given.
     pub(crate) fn has(&self, name: &str) -> bool {
         for used in self.uses.as_slice() {
             if used.name == name {
@@ -29,7 +33,7 @@ impl<'a> Parts<'a> {
         false
     }
 
-    /// Takes note of an option or a flag, which may not be there yet.
+    /// Adds an option or flag. Returns `Err` if it is given already.
     fn add_use(&mut self, name: &'static str, value: Option<&'a str>) -> Result<(), Stop<'a>> {
         if self.has(name) {
             return Err(Stop::Mistake(Mistake::Repeated(name)));
@@ -39,12 +43,20 @@ impl<'a> Parts<'a> {
     }
 }
 
-/// Whether an argument is read as an option: it begins with a dash, and is longer.
+/// Returns whether an argument is read as an option: it begins with a dash and is longer than that.
 fn is_dashed(word: &str) -> bool {
     word.len() > 1 && word.starts_with("-")
 }
 
-/// The name and the value of an argument `--name` or `--name=value`.
+/// Returns whether an argument is meant as a negative number: a dash and then a digit.
+fn is_negative(word: &str) -> bool {
+    match word.as_bytes() {
+        [b'-', digit, ..] => digit.is_ascii_digit(),
+        _ => false,
+    }
+}
+
+/// Returns the name and the value of an argument `--name` or `--name=value`.
 fn name_and_value(word: &str) -> (&str, Option<&str>) {
     match word.split_once("=") {
         Some((name, value)) => (name, Some(value)),
@@ -52,7 +64,7 @@ fn name_and_value(word: &str) -> (&str, Option<&str>) {
     }
 }
 
-/// The option or flag that an argument names, with the value that stands in it.
+/// Returns the option or flag that an argument names, and the value in that argument.
 fn choice_in<'a>(choices: &[Choice], word: &'a str) -> Result<(Choice, Option<&'a str>), Stop<'a>> {
     let (dashed, value) = name_and_value(word);
     let found = match dashed.strip_prefix("--") {
@@ -65,19 +77,19 @@ fn choice_in<'a>(choices: &[Choice], word: &'a str) -> Result<(Choice, Option<&'
     }
 }
 
-/// What the next argument is read as.
+/// The meaning of the next argument.
 #[derive(Clone, Copy)]
 enum Next {
-    /// An option, a flag or a name.
+    /// An option, a flag or a positional argument.
     Any,
     /// The value of this option.
     Value(&'static str),
-    /// A name, since `--` came.
+    /// A positional argument, because `--` was given.
     Name,
 }
 
 impl<'a> Parts<'a> {
-    /// Takes the argument that begins with a dash.
+    /// Takes an argument that begins with a dash.
     fn take_dashed(&mut self, choices: &[Choice], word: &'a str) -> Result<Next, Stop<'a>> {
         if word == "--" {
             return Ok(Next::Name);
@@ -93,8 +105,11 @@ impl<'a> Parts<'a> {
         }
     }
 
-    /// Takes the argument as the value of an option.
+    /// Takes an argument as the value of an option.
     fn take_value(&mut self, name: &'static str, word: &'a str) -> Result<Next, Stop<'a>> {
+        if is_negative(word) {
+            return Err(Stop::Mistake(Mistake::BadValue(name, word)));
+        }
         if is_dashed(word) {
             return Err(Stop::Mistake(Mistake::NoValue(name)));
         }
@@ -102,7 +117,7 @@ impl<'a> Parts<'a> {
         Ok(Next::Any)
     }
 
-    /// Takes the next argument, and returns what the one after it is read as.
+    /// Takes an argument, and returns the meaning of the next one.
     fn take(&mut self, choices: &[Choice], next: Next, word: &'a str) -> Result<Next, Stop<'a>> {
         match next {
             Next::Value(name) => self.take_value(name, word),
@@ -115,7 +130,8 @@ impl<'a> Parts<'a> {
     }
 }
 
-/// Cuts the arguments after a command as its parser does: up to `--`, what begins with a dash is an option or a flag.
+/// Separates the arguments after a command as its parser does: before `--`, an argument that begins
+/// with a dash is an option or flag.
 pub(crate) fn parts_of<'a>(
     alloc: Global,
     choices: &[Choice],

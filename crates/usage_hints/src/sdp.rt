@@ -1,8 +1,8 @@
-//! What a session description has to contain where it is invalid.
+//! The expected contents in place of an invalid part of a session description.
 
 use sdp_reader::SdpCause;
 
-/// What is expected in the place of this cause.
+/// Returns what is expected in place of this fault.
 pub(crate) fn expected(cause: SdpCause) -> &'static str {
     match cause {
         SdpCause::NotText => {

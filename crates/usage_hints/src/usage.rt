@@ -7,7 +7,7 @@ use crate::values::{is_name, is_valid};
 use std::alloc::{AllocError as OutOfMemory, Global};
 use timing_words::{Command, may_be_missing, number, usage_of};
 
-/// Stops where two flags or options are both there.
+/// Returns `Err` if both of two options or flags are given.
 fn exclude<'a>(parts: &Parts<'a>, one: &'static str, other: &'static str) -> Result<(), Stop<'a>> {
     if parts.has(one) && parts.has(other) {
         return Err(Stop::Mistake(Mistake::Exclusive(one, other)));
@@ -15,7 +15,7 @@ fn exclude<'a>(parts: &Parts<'a>, one: &'static str, other: &'static str) -> Res
     Ok(())
 }
 
-/// Stops at the first option whose value it doesn't take.
+/// Returns `Err` for the first option with an invalid value.
 fn test_values<'a>(alloc: Global, parts: &Parts<'a>) -> Result<(), Stop<'a>> {
     for used in parts.uses.as_slice() {
         if let Some(value) = used.value {
@@ -27,7 +27,7 @@ fn test_values<'a>(alloc: Global, parts: &Parts<'a>) -> Result<(), Stop<'a>> {
     Ok(())
 }
 
-/// Stops at the first option that is missing and may not be.
+/// Returns `Err` for the first required option that is missing.
 fn test_presence<'a>(choices: &[Choice], parts: &Parts<'a>) -> Result<(), Stop<'a>> {
     for choice in choices {
         if !may_be_missing(choice.name) && !parts.has(choice.name) {
@@ -37,7 +37,7 @@ fn test_presence<'a>(choices: &[Choice], parts: &Parts<'a>) -> Result<(), Stop<'
     Ok(())
 }
 
-/// How many captures a command takes.
+/// Returns the greatest number of captures that a command takes.
 fn most_captures(command: Command, joined: bool) -> usize {
     match command {
         Command::Check | Command::VerifyReport => 16,
@@ -47,7 +47,7 @@ fn most_captures(command: Command, joined: bool) -> usize {
     }
 }
 
-/// The mistake of more captures than a command takes.
+/// Returns the mistake of more captures than a command takes.
 fn excess<'a>(command: Command, most: usize) -> Mistake<'a> {
     match command {
         Command::Verify if most == 1 => Mistake::TooManyUnjoined,
@@ -55,7 +55,8 @@ fn excess<'a>(command: Command, most: usize) -> Mistake<'a> {
     }
 }
 
-/// Stops where the captures are too few or too many, or at the first that isn't the name of a file.
+/// Returns `Err` if there are too few or too many captures, or for the first that can't be a file
+/// name.
 fn test_captures<'a>(alloc: Global, command: Command, parts: &Parts<'a>) -> Result<(), Stop<'a>> {
     let names = parts.names.as_slice();
     let most = most_captures(command, parts.has("joined"));
@@ -73,7 +74,7 @@ fn test_captures<'a>(alloc: Global, command: Command, parts: &Parts<'a>) -> Resu
     Ok(())
 }
 
-/// Stops where `selftest` hasn't its one number.
+/// Returns `Err` unless `selftest` has exactly one valid number of frames.
 fn test_frames<'a>(parts: &Parts<'a>) -> Result<(), Stop<'a>> {
     match parts.names.as_slice() {
         [frames] if number(frames, 2, 20_000).is_ok() => Ok(()),
@@ -81,7 +82,7 @@ fn test_frames<'a>(parts: &Parts<'a>) -> Result<(), Stop<'a>> {
     }
 }
 
-/// Stops at the first mistake in the arguments after a command.
+/// Returns `Err` for the first mistake in the arguments after a command.
 fn test_command<'a>(alloc: Global, command: Command, words: &'a [String]) -> Result<(), Stop<'a>> {
     let choices = choices_of(alloc, command)?;
     let parts = parts_of(alloc, choices.as_slice(), words)?;
@@ -95,7 +96,7 @@ fn test_command<'a>(alloc: Global, command: Command, words: &'a [String]) -> Res
     }
 }
 
-/// The first mistake in the arguments after a command.
+/// Returns the first mistake in the arguments after a command.
 fn mistake_after<'a>(
     alloc: Global,
     command: Command,
@@ -108,7 +109,7 @@ fn mistake_after<'a>(
     }
 }
 
-/// The mistake in the arguments after `help`.
+/// Returns the mistake in the arguments after `help`.
 fn mistake_of_help(words: &[String]) -> Mistake<'_> {
     match words {
         [name] if name.as_str() == "help" => Mistake::HelpOfHelp,
@@ -117,7 +118,7 @@ fn mistake_of_help(words: &[String]) -> Mistake<'_> {
     }
 }
 
-/// The usage of a command, or where none is known, all commands and how to read more of them.
+/// Returns the usage of a command, or all commands if none is known.
 fn usage_lines(alloc: Global, command: Option<Command>) -> Result<String, OutOfMemory> {
     match command {
         Some(command) => {
@@ -136,7 +137,7 @@ fn usage_lines(alloc: Global, command: Option<Command>) -> Result<String, OutOfM
     }
 }
 
-/// The lines of a mistake: what it is, and the usage.
+/// Returns the message about a mistake, and the usage.
 fn mistake_lines(
     alloc: Global,
     command: Option<Command>,
@@ -147,12 +148,13 @@ fn mistake_lines(
     format!(in alloc; "{line}{usage}")
 }
 
-/// The lines of a command line that isn't UTF-8.
+/// Returns the message about an argument that isn't UTF-8. Returns `Err` if memory runs out.
 pub(crate) fn not_text_lines(alloc: Global) -> Result<String, OutOfMemory> {
     mistake_lines(alloc, None, Mistake::NotText)
 }
 
-/// The lines of an invalid command line, without the program's name: its first mistake, and the usage of its command.
+/// Returns the message about an invalid command line, given without the program's name: its first
+/// mistake, and the usage of its command. Returns `Err` if memory runs out.
 pub(crate) fn usage_hint(alloc: Global, words: &[String]) -> Result<String, OutOfMemory> {
     let Some((name, rest)) = words.split_first() else {
         return mistake_lines(alloc, None, Mistake::NoCommand);

@@ -1,11 +1,11 @@
-//! The values that options take, by the tests of `timing_words`.
+//! The values of options, tested as in `timing_words`.
 
 use std::alloc::{AllocError as OutOfMemory, Global};
 use timing_words::{
     WordFault, check_workers, count, file_name, kind_named, media, model_named, tai,
 };
 
-/// Whether this is the name of a file.
+/// Returns whether this can be a file name. Returns `Err` if memory runs out.
 pub(crate) fn is_name(alloc: Global, text: &str) -> Result<bool, OutOfMemory> {
     match file_name(alloc, text) {
         Ok(_) => Ok(true),
@@ -14,7 +14,7 @@ pub(crate) fn is_name(alloc: Global, text: &str) -> Result<bool, OutOfMemory> {
     }
 }
 
-/// Whether the option of this name takes this value.
+/// Returns whether the value of the option of this name is valid. Returns `Err` if memory runs out.
 pub(crate) fn is_valid(alloc: Global, name: &str, value: &str) -> Result<bool, OutOfMemory> {
     match name {
         "sdp" | "report" => is_name(alloc, value),
@@ -27,7 +27,7 @@ pub(crate) fn is_valid(alloc: Global, name: &str, value: &str) -> Result<bool, O
     }
 }
 
-/// What the option of this name takes.
+/// Returns the valid values of the option of this name, in words.
 pub(crate) fn range(name: &str) -> &'static str {
     match name {
         "sdp" => "the name of a session description",

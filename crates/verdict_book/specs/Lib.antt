@@ -1,2 +1,2 @@
--- what is promised
+-- definitions that the clauses of the public functions use
 pub mod Receipts

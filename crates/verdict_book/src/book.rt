@@ -1,4 +1,4 @@
-//! A book of rows that only grows.
+//! A book of results, which only grows.
 
 ghost use Rattle.std.specs.Prelude.{◌≡◌, IfErr, IfOk};
 
@@ -7,13 +7,13 @@ use std::alloc::{AllocError as OutOfMemory, Global};
 use std::sync::Wait;
 use timing_base::Row;
 
-/// The rows that threads have posted.
+/// Results that threads have posted.
 #[derive(Drop)]
 pub struct Book {
     rows: boxcar::Vec<Row>,
 }
 
-/// What shows that a row was posted, for as long as the book lasts.
+/// Receipt of a posted result, for as long as the book exists.
 #[derive(Drop)]
 pub struct Receipt {
     place: Pushed<Row>,
@@ -22,16 +22,16 @@ pub struct Receipt {
 impl Book {
     ghost use Rattle.verdict_book.specs.Receipts.{IsOf, row_of};
 
-    /// A book without rows. `Err` is want of memory.
+    /// Returns a book without results. Returns `Err` if memory runs out.
     pub fn new(alloc: Global) -> Result<Book, OutOfMemory> {
         Ok(Book {
             rows: boxcar::Vec::new(alloc)?,
         })
     }
 
-    /// Posts a row. `Err` is want of memory, and hands the row back.
+    /// Posts a result. Returns `Err` with the result if memory runs out.
     ///
-    /// The call may wait for another thread's post in flight, and promises if it returns.
+    /// The call may wait for a post of another thread. Its contract holds if it returns.
     pub fn post<R: Wait>(&self, rt: &R, row: Row) -> Result<Receipt, Row>
         ensures book { IfOk result (λ receipt. IsOf self.now receipt) }
         ensures row { IfOk result (λ receipt. row_of receipt ≡ row) }
@@ -41,7 +41,7 @@ impl Book {
         Ok(Receipt { place })
     }
 
-    /// The row that was posted for this receipt, at any time and on any thread. Takes no memory, and
+    /// Returns the result that was posted for this receipt, at any time and on any thread. Allocates no memory, and
     /// never waits.
     pub fn read(&self, receipt: &Receipt) -> &Row
         requires book { IsOf self.now receipt.now }

@@ -1,8 +1,7 @@
-//! The book in which threads post the rows of a report.
+//! The book in which threads post the results of flows for a report.
 //!
-//! A [`Book`] is shared by reference. Who posts a [`timing_base::Row`] gets a [`Receipt`], and with
-//! it any thread reads that row, at any later time. A row that was posted stays as it is until the
-//! book is dropped.
+//! A [`Book`] is shared by reference. A thread that posts a [`timing_base::Row`] gets a [`Receipt`], with which any
+//! thread can read that result at any later time. A posted result stays unchanged until the book is dropped.
 #![tactic(auto)]
 
 mod book;

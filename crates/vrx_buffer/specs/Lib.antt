@@ -2,5 +2,5 @@ pub mod Faults
 pub mod Occupancy
 pub mod Quiet
 pub mod Stands
--- these only serve proofs
+-- definitions for proofs only
 pub mod Taking

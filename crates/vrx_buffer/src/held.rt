@@ -1,4 +1,4 @@
-//! What the buffer holds just after a packet, below 0 too.
+//! The occupancy of the buffer just after a packet, which may be negative.
 
 ghost use Rattle.std.specs.Prelude.{◌≡◌, ◌<◌, ◌≤◌, ◌^◌, ℕ, List, Bool, slice_index};
 ghost use Rattle.timing_base.specs.Media.{IsMedia, Media};
@@ -9,18 +9,18 @@ ghost use Rattle.vrx_buffer.specs.Occupancy.{IsOccupancy, is_late};
 use crate::vrx::comes_late;
 use read_schedule::Due;
 
-/// What the buffer holds just after a packet came, by the reads of one schedule.
+/// State of the buffer just after a packet came, by the reads of one schedule.
 #[derive(Clone, Copy, Debug, PartialEq, Eq)]
 pub struct Held {
-    /// The packets up to this one, less all reads that are due; below 0 where the reads are more.
+    /// Packets up to this one, less all reads that are due; negative if the reads are more.
     pub occupancy: i64,
     /// Whether the packet came after its own read.
     pub late: bool,
 }
 
 impl Held {
-    /// After the packet of this number, counted from 0, at whose instant so much is due (SMPTE ST 2110-21, virtual
-    /// receiver buffer). At equal instants the packet has come and the read is done (this project's profile).
+    /// Returns the state after packet `packet`, counted from 0. `due` is what is due at its instant (SMPTE ST 2110-21,
+    /// virtual receiver buffer). A packet and a read at the same instant both count (this project's profile).
     #[inline(always)]
     pub fn after(packet: u64, due: Due) -> Held
         requires packet { packet < 2 ^ 41 }

@@ -1,8 +1,8 @@
 //! The virtual receiver buffer of SMPTE ST 2110-21, for one flow and one sender type.
 //!
-//! A [`Vrx`] is fed the stamps of the judged packets, one by one and in order, and keeps three numbers
-//! and its first fault, and no history. A [`Held`] is what it holds at one packet, below 0 too. Times are nanoseconds
-//! of TAI; counts are packets.
+//! A [`Vrx`] gets the judged packets, one by one and in order, each with the reads that are due at its instant. It
+//! keeps its peak and its first fault, and no history. A [`Held`] is the state at one packet, with an occupancy that
+//! may be negative. Times are in nanoseconds of TAI, counts in packets.
 #![tactic(auto)]
 
 mod held;

@@ -1,4 +1,4 @@
-//! The buffer.
+//! The virtual receiver buffer.
 
 ghost use Rattle.std.specs.Prelude.{◌≡◌, ◌<◌, ◌^◌, ◌++◌, ◌∷◌, [], ℕ, List, length, slice_index};
 ghost use Rattle.std.specs.Prelude.{pos, negsuc, ◌≤◌, ◌+◌, ◌-◌, ◌↔◌, ◌≤ℤ◌, IsTrue, None, max, not, true, false};
@@ -9,31 +9,31 @@ use read_schedule::Due;
 use sender_params::Params;
 use timing_base::Kind;
 
-/// How a packet breaks the buffer's model. Packets are counted from 0.
+/// Violation of the buffer's model by a packet. Packets count from 0.
 #[derive(Clone, Copy, Debug, PartialEq, Eq)]
 pub enum VrxFault {
-    /// When the packet came, the buffer held more than VRX_FULL packets: so many.
+    /// The buffer overflows: just after the packet it holds more than VRX_FULL packets.
     Over {
-        /// The packet.
+        /// Number of the packet.
         packet: u64,
-        /// The packets that the buffer held.
+        /// Number of packets in the buffer.
         held: u64,
     },
-    /// The packet came after its own read, which found nothing.
+    /// The buffer underflows: the packet came after its own read.
     Empty {
-        /// The packet.
+        /// Number of the packet.
         packet: u64,
     },
 }
 
-/// The buffer between two packets of one flow.
+/// State of the buffer between two packets of one flow.
 #[derive(Clone, Copy, Debug, PartialEq, Eq)]
 pub struct Vrx {
-    /// The sender type.
+    /// Sender type, which sets the schedule of the reads and VRX_FULL.
     pub kind: Kind,
-    /// The greatest number held just after any packet, and 0 before the first.
+    /// Greatest occupancy just after any packet, in packets; 0 before the first.
     pub peak: u64,
-    /// The first fault.
+    /// First violation.
     pub fault: Option<VrxFault>,
 }
 
@@ -44,7 +44,7 @@ impl Vrx {
     ghost use Rattle.vrx_buffer.specs.Stands.{StandsFor, Takes};
     ghost use Rattle.vrx_buffer.specs.Taking.{IsWithin, Took, earlier, fault_by};
 
-    /// The empty buffer of a flow, judged as one of this sender type.
+    /// Returns the empty buffer of a flow that is judged as one of this sender type.
     pub fn new(kind: Kind) -> Vrx
         ensures kind { result.kind ≡ kind }
         ensures stands { (params : _) → StandsFor params result [] }
@@ -56,19 +56,19 @@ impl Vrx {
         }
     }
 
-    /// Puts in the packet of this number, counted from 0, at whose instant so much is due, of the schedule
-    /// of this sender type, and answers how it breaks the model, if it does. At equal instants the packet
-    /// has come and the read is done (SMPTE ST 2110-21, virtual receiver buffer; this project's profile).
+    /// Puts in packet `packet`, counted from 0, and returns its violation of the model, if any. `due` is what is due at
+    /// its instant in the schedule of this sender type. A packet and a read at the same instant both count (SMPTE ST
+    /// 2110-21, virtual receiver buffer; this project's profile).
     ///
-    /// Feed one buffer with one `Params` and one schedule alone, and with packets that follow one another:
-    /// `stands` says nothing of others.
+    /// The caller must pass the same `Params` and the same schedule at each call, and every packet in order: for others
+    /// the result is not guaranteed.
     #[inline(always)]
     pub fn feed_due(&mut self, params: &Params, packet: u64, due: Due) -> Option<VrxFault>
         requires { packet < 2 ^ 41 }
 
         ensures kind { self.new.kind ≡ self.old.kind }
 
-        // Whatever packets the buffer stood for, and whenever this one came.
+        // For any packets before, and any instant of this one.
         ensures fault { (stamps : List ℕ) (at : ℕ) → packet ≡ length stamps
             → StandsFor params.now self.old stamps
             → IsDueAt params.now.media params.now.n
@@ -81,7 +81,7 @@ impl Vrx {
         self.take(params, packet, due.count, late)
     }
 
-    /// Puts in a packet as [`Vrx::feed_due`] does, and doesn't say how it breaks the model.
+    /// Puts in a packet as [`Vrx::feed_due`] does, without returning its violation.
     #[inline(always)]
     pub fn pass_due(&mut self, params: &Params, packet: u64, due: Due)
         requires { packet < 2 ^ 41 }
@@ -96,13 +96,13 @@ impl Vrx {
         }
     }
 
-    /// Whether the packet of this number, at whose instant so much is due, of the schedule of this sender
-    /// type, comes before its own read and raises no peak. Then the buffer stands for it, too, as it is; else
-    /// one of the other calls puts it in.
+    /// Returns whether packet `packet`, counted from 0, comes before its own read and raises no peak. `due` is what is
+    /// due at its instant in the schedule of this sender type. If the result is `true`, the state is already that after
+    /// the packet. If it is `false`, one of the other calls has to put the packet in.
     #[inline(always)]
     pub fn is_quiet_at(&self, packet: u64, due: Due) -> bool
-        // Whatever packets the buffer stood for, and whenever this one comes: it has no fault where none
-        // before it breaks the model.
+        // For any packets before, and any instant of this one: it has no fault if no packet before it violates the
+        // model.
         ensures fault { (params : Params) (stamps : List ℕ) (at : ℕ) → packet ≡ length stamps
             → StandsFor params self.now stamps
             → IsDueAt params.media params.n
@@ -121,7 +121,7 @@ impl Vrx {
         due.count <= packet && packet - due.count < self.peak
     }
 
-    /// After the first fault: this packet came when so many reads were due.
+    /// Puts in a packet after the first fault. `count` reads were due when it came.
     fn go_on(&mut self, packet: u64, count: u64)
         requires { packet < 2 ^ 41 }
         ensures kind { self.new.kind ≡ self.old.kind }
@@ -131,8 +131,7 @@ impl Vrx {
         self.peak = self.peak.max((packet + 1).saturating_sub(count));
     }
 
-    /// Puts in the packet of this number, which came when so many reads were due, and after its own read
-    /// or not.
+    /// Puts in packet `packet`. `count` reads were due when it came, and `late` is whether it came after its own read.
     #[inline(always)]
     fn take(&mut self, params: &Params, packet: u64, count: u64, late: bool) -> Option<VrxFault>
         requires { packet < 2 ^ 41 }
@@ -147,7 +146,7 @@ impl Vrx {
         self.note(params, packet, held, late)
     }
 
-    /// Whether a packet raises no peak and has no fault, as none had before it.
+    /// Returns whether a packet raises no peak and has no fault, and no packet before it has one.
     #[inline(always)]
     fn is_quiet(&self, held: u64, late: bool) -> bool
         ensures { IsTrue result
@@ -156,7 +155,7 @@ impl Vrx {
         held <= self.peak && !late && self.fault.is_none()
     }
 
-    /// Keeps what is new with a packet.
+    /// Updates the peak and the first fault for a packet, and returns its violation.
     #[inline(never)]
     fn note(&mut self, params: &Params, packet: u64, held: u64, late: bool) -> Option<VrxFault>
         ensures kind { self.new.kind ≡ self.old.kind }
@@ -177,7 +176,7 @@ impl Vrx {
     }
 }
 
-/// Whether a packet at whose instant so much is due comes after its own read.
+/// Returns whether packet `packet` comes after its own read. `due` is what is due at its instant.
 #[inline(always)]
 pub(crate) fn comes_late(packet: u64, due: Due) -> bool
     requires { packet < 2 ^ 41 }

@@ -1,4 +1,4 @@
-//! Calls of the program, and what they are compared with.
+//! Calls of the program, and the comparison of their results.
 
 use std::alloc::{AllocError, Global};
 use std::fmt::Display;
@@ -10,17 +10,20 @@ use timing_outside::{Gate, MemorySink, Shelf, WritePlan};
 use timing_report::Status;
 use timing_top::run;
 
-/// The room on standard output and on standard error, the bytes of a write on the first, and the write that fails
-/// there, counted from 1, or 0 where none does.
+/// The plan of the sinks of a call.
 #[derive(Clone, Copy)]
 pub struct Sinks {
+    /// The bytes that standard output has room for.
     pub room: usize,
+    /// The bytes that standard error has room for.
     pub room_for_err: u64,
+    /// The greatest number of bytes of a write on standard output.
     pub piece: u32,
+    /// The number of the write on standard output that fails, counted from 1, or 0 if none does.
     pub fail: u32,
 }
 
-/// Room for all, and no write fails.
+/// Sinks with room for everything, where no write fails.
 pub const SINKS: Sinks = Sinks {
     room: 8192,
     room_for_err: 4096,
@@ -28,15 +31,18 @@ pub const SINKS: Sinks = Sinks {
     fail: 0,
 };
 
-/// How a call ended, and what stands on its sinks.
+/// The status of a call, and its sinks.
 #[derive(Drop)]
 pub struct Outcome {
+    /// The status.
     pub status: Status,
+    /// Standard output.
     pub out: MemorySink,
+    /// Standard error.
     pub err: MemorySink,
 }
 
-/// Fails with this text where something doesn't hold.
+/// Returns a failure with this text if `is` is false.
 fn holds<D: Display + Drop>(is: bool, otherwise: D) -> Result<(), Fail> {
     if is {
         Ok(())
@@ -45,13 +51,14 @@ fn holds<D: Display + Drop>(is: bool, otherwise: D) -> Result<(), Fail> {
     }
 }
 
-/// Bytes as a text, where they are one.
+/// Returns bytes as text, if they are UTF-8.
 fn told(bytes: &[u8]) -> &str {
     str::from_utf8(bytes).unwrap_or("bytes that are no text")
 }
 
 impl Outcome {
-    /// Fails where the call of these words didn't end so, or something else stands on standard error.
+    /// Returns a failure if the call of this command line didn't end with the expected status, or standard error
+    /// differs.
     pub fn ended(&self, line: &str, wanted: (Status, &str)) -> Result<(), Fail> {
         let (status, err) = (self.status, self.err.bytes());
         holds(
@@ -64,7 +71,7 @@ impl Outcome {
         )
     }
 
-    /// Fails where the answer isn't what was wanted of these words.
+    /// Returns a failure if the status, standard output or standard error isn't what was expected of this command line.
     pub fn is(&self, line: &str, wanted: (Status, &[u8], &str)) -> Result<(), Fail> {
         self.ended(line, (wanted.0, wanted.2))?;
         let out = self.out.bytes();
@@ -75,7 +82,7 @@ impl Outcome {
     }
 }
 
-/// The words of a line, which blanks part.
+/// Returns the arguments of a command line, which are separated by blanks.
 fn words_of(alloc: Global, line: &str) -> Result<Vec<String>, AllocError> {
     let mut words = Vec::new(alloc);
     for word in line.split(' ') {
@@ -86,7 +93,7 @@ fn words_of(alloc: Global, line: &str) -> Result<Vec<String>, AllocError> {
     Ok(words)
 }
 
-/// Standard output as it is to be.
+/// Returns a standard output with this plan.
 fn sink_of(alloc: Global, sinks: Sinks) -> Result<MemorySink, AllocError> {
     let mut fails = Vec::new(alloc);
     if sinks.fail > 0 {
@@ -96,7 +103,7 @@ fn sink_of(alloc: Global, sinks: Sinks) -> Result<MemorySink, AllocError> {
     MemorySink::with_plan(alloc, sinks.room as u64, WritePlan { piece, fails })
 }
 
-/// Runs the words of a line over a shelf.
+/// Runs a command line over a shelf.
 pub fn answered<R: AllocGlobal + Wait + Threads + Sync, H: Shelf, G: Gate>(
     rt: &R,
     line: &str,

@@ -1,4 +1,4 @@
-//! Words that many rows run, and lines that many reports have.
+//! Command lines that many rows run, and lines that many reports have.
 
 /// Judges the plain capture on one thread.
 pub const CHECK: &str = "check --serial --sdp p.sdp a.pcap";
@@ -9,7 +9,7 @@ pub const CHECK_TWO: &str = "check --serial --sdp p.sdp a.pcap b.pcap";
 /// Judges two captures as one.
 pub const JOINED: &str = "check --serial --joined --sdp p.sdp a.pcap b.pcap";
 
-/// The lines above the flows, for one capture that ends whole.
+/// The lines before the flows, for one capture that is read to its end.
 pub const HEADER: &str = "ST 2110-21 timing report\nfile 1 end a.pcap\n";
 
 /// The lines of the plain flow.

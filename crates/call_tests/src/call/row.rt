@@ -1,4 +1,4 @@
-//! A row: a call of the program over files in memory, and what is to come of it.
+//! A row: a call of the program over files in memory, and its expected result.
 
 use crate::call::answer::{SINKS, Sinks, answered};
 use crate::call::bytes::{joined, part};
@@ -11,7 +11,7 @@ use std::thread::Threads;
 use timing_outside::{MemoryShelf, NoGate, ReadPlan};
 use timing_report::{Input, Status};
 
-/// How a check is run: on one thread, and with so many workers.
+/// The ways to run a check: on one thread, and with these numbers of workers.
 pub const WAYS: &[&str] = &[
     "--serial",
     "--workers 1",
@@ -21,53 +21,60 @@ pub const WAYS: &[&str] = &[
     "--workers 16",
 ];
 
-/// Fewer of them, for what takes long.
+/// Fewer ways, for rows that take long.
 pub const FEW_WAYS: &[&str] = &["--serial", "--workers 1", "--workers 3"];
 
-/// As the line says.
+/// Only the way that stands in the command line.
 pub const ONE_WAY: &[&str] = &["--serial"];
 
-/// How a file is read: the bytes of a read, the number of the read that fails, counted from 1, or 0 where none does,
-/// and whether its fetch fails.
+/// The plan of the reads of a file.
 #[derive(Clone, Copy)]
 pub struct Reads {
+    /// The greatest number of bytes of a read.
     pub piece: u32,
+    /// The number of the read that fails, counted from 1, or 0 if none does.
     pub fail: u32,
+    /// Whether fetching the file fails.
     pub fetch_fails: bool,
 }
 
-/// Nothing fails, and a read takes 65,536 bytes.
+/// A plan where nothing fails, with reads of up to 65,536 bytes.
 pub const WHOLE: Reads = Reads {
     piece: 65_536,
     fail: 0,
     fetch_fails: false,
 };
 
-/// A call of the program, and what is to come of it.
+/// A call of the program, and its expected result.
 #[derive(Clone, Copy)]
 pub struct Row {
-    /// The words, which blanks part.
+    /// The arguments, separated by blanks.
     pub line: &'static str,
-    /// What stands in the place of `--serial`, in one run after the other.
+    /// The options that replace `--serial`, each in a run of its own.
     pub ways: &'static [&'static str],
-    /// `p.sdp`.
+    /// The steps that make `p.sdp`.
     pub sdp: &'static [Step],
+    /// The plan of its reads.
     pub sdp_reads: Reads,
-    /// `a.pcap`.
+    /// The steps that make `a.pcap`.
     pub capture: &'static [Step],
+    /// The plan of its reads.
     pub reads: Reads,
-    /// `b.pcap`.
+    /// The steps that make `b.pcap`.
     pub second: &'static [Step],
+    /// The plan of its reads.
     pub second_reads: Reads,
-    /// Whether none of them is there.
+    /// Whether the shelf has none of these files.
     pub is_empty: bool,
+    /// The plan of the sinks.
     pub sinks: Sinks,
+    /// The expected status.
     pub status: Status,
-    /// What stands on standard output, text behind text, as far as there is room.
+    /// The expected text on standard output, in pieces, as far as there is room.
     pub out: &'static [&'static str],
-    /// The file that stands behind it.
+    /// The steps that make the file expected behind that text.
     pub file: &'static [Step],
-    /// What stands on standard error.
+    /// The expected text on standard error.
     pub err: &'static str,
 }
 
@@ -109,7 +116,7 @@ fn put(
     capture_gen::examples::put(alloc, shelf, name, text, plan)
 }
 
-/// Makes a file, and puts it on a shelf.
+/// Makes a file by these steps, and puts it on a shelf.
 pub fn shelve(
     alloc: Global,
     shelf: &mut MemoryShelf,
@@ -122,7 +129,7 @@ pub fn shelve(
 }
 
 impl Row {
-    /// The shelf with the row's files.
+    /// Returns a shelf with the files of the row.
     pub fn shelf(&self, alloc: Global) -> Result<MemoryShelf, Fail> {
         let mut shelf = MemoryShelf::new(alloc);
         if !self.is_empty {
@@ -133,7 +140,7 @@ impl Row {
         Ok(shelf)
     }
 
-    /// The text that is to stand on standard output.
+    /// Returns the expected text on standard output.
     fn text(&self, alloc: Global) -> Result<String, AllocError> {
         let mut text = String::new(alloc);
         for part in self.out {
@@ -142,7 +149,7 @@ impl Row {
         Ok(text)
     }
 
-    /// All that is to stand there.
+    /// Returns all bytes expected on standard output.
     pub fn wanted(&self, alloc: Global) -> Result<Vec<u8>, Fail> {
         let text = self.text(alloc)?;
         let file = made(alloc, self.file)?;
@@ -150,7 +157,7 @@ impl Row {
         Ok(joined(alloc, part(text.as_bytes(), 0, len), &file)?)
     }
 
-    /// Runs the row in one way, and compares the answer.
+    /// Runs the row in one way, and compares the result.
     fn holds_in<R: AllocGlobal + Wait + Threads + Sync>(
         &self,
         rt: &R,
@@ -163,7 +170,7 @@ impl Row {
         found.is(line.as_str(), (self.status, wanted, self.err))
     }
 
-    /// Runs the row in each of its ways, and compares the answers.
+    /// Runs the row in each of its ways, and compares the results.
     pub fn holds<R: AllocGlobal + Wait + Threads + Sync>(&self, rt: &R) -> Result<(), Fail> {
         let wanted = self.wanted(rt.alloc())?;
         for way in self.ways {
@@ -172,7 +179,7 @@ impl Row {
         Ok(())
     }
 
-    /// The row with a read of its first capture that fails, 100 bytes in each, and what is said of that.
+    /// Returns the row with a failing read of its first capture, with reads of 100 bytes, and the result of that.
     fn failing(&self, number: u32) -> Row {
         Row {
             reads: Reads {
@@ -187,8 +194,8 @@ impl Row {
         }
     }
 
-    /// Each of the first reads of the first capture fails in turn, so many, 100 bytes in each. A read of the number
-    /// `past`, which there isn't, leaves the answer as it is.
+    /// Runs the row once for each of the first `count` reads of the first capture, which fails; a read has 100 bytes.
+    /// Then runs it with a failing read `past`, a number that isn't reached, with its own result.
     pub fn fails_by_reads<R: AllocGlobal + Wait + Threads + Sync>(
         &self,
         rt: &R,
@@ -205,7 +212,7 @@ impl Row {
     }
 }
 
-/// Runs rows, and compares the answers.
+/// Runs rows, and compares the results.
 pub fn hold<R: AllocGlobal + Wait + Threads + Sync>(rt: &R, rows: &[Row]) -> Result<(), Fail> {
     for row in rows {
         row.holds(rt)?;

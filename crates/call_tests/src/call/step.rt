@@ -1,4 +1,4 @@
-//! How the files of a row are made, step by step.
+//! The steps that make the files of a row.
 
 use crate::call::bytes::{filled, joined, part, patched};
 use capture_gen::examples::{described, second_path, two_paths};
@@ -7,37 +7,37 @@ use std::alloc::{AllocError, Global};
 use std::test::Fail;
 use timing_outside::MemorySink;
 
-/// A step by which a file is made, from the bytes that those before it made, none at first.
+/// A step that makes a file from the bytes of the steps before it; there are none at first.
 #[derive(Clone, Copy)]
 pub enum Step {
-    /// A made capture of two frames, with the flaw of a number up to 4.
+    /// A generated capture of two frames with this flaw, from 0 to 4.
     Made(u32),
-    /// A made capture of so many frames, up to 20,000.
+    /// A generated capture of this many frames, from 1 to 20,000.
     Frames(u32),
     /// The capture of the second path.
     SecondPath,
-    /// The plain description.
+    /// The plain SDP.
     Described,
-    /// The description of media on two paths.
+    /// The SDP of media on two paths.
     TwoPaths,
 
-    /// These bytes more.
+    /// Appends these bytes.
     Bytes(&'static [u8]),
-    /// This byte more, so often.
+    /// Appends this byte this many times.
     Fill(u8, u32),
 
-    /// The bytes from one place up to another alone.
+    /// Keeps only the bytes from the first number up to, but not including, the second.
     Part(usize, usize),
-    /// All but these.
+    /// Removes these bytes.
     Without(usize, usize),
-    /// These bytes over those from a place on.
+    /// Overwrites the bytes from a place on.
     Patch(usize, &'static [u8]),
 }
 
-/// The plain capture: two frames of 20 packets, behind a packet that ends the frame before them.
+/// The plain capture: two frames of 20 packets, behind a packet with the marker of the frame before.
 pub const PLAIN: Step = Step::Made(0);
 
-/// A made capture of so many frames, with the flaw of a number.
+/// Returns a generated capture of this many frames, with this flaw.
 fn made_capture(alloc: Global, frames: u32, flaw: u32) -> Result<Vec<u8>, Fail> {
     if frames == 0 || frames > 20_000 || flaw > 4 {
         return Err(Fail::new("no capture is made so"));
@@ -47,7 +47,7 @@ fn made_capture(alloc: Global, frames: u32, flaw: u32) -> Result<Vec<u8>, Fail> 
     Ok(Vec::from_slice(alloc, sink.bytes())?)
 }
 
-/// What a step makes that begins a file.
+/// Returns the bytes of a step that begins a file.
 fn begun(alloc: Global, step: Step) -> Result<Vec<u8>, AllocError> {
     match step {
         Step::SecondPath => second_path(alloc),
@@ -57,7 +57,7 @@ fn begun(alloc: Global, step: Step) -> Result<Vec<u8>, AllocError> {
     }
 }
 
-/// What a step makes of these bytes.
+/// Returns these bytes after a step.
 fn formed(alloc: Global, step: Step, bytes: &[u8]) -> Result<Vec<u8>, AllocError> {
     match step {
         Step::Bytes(more) => joined(alloc, bytes, more),
@@ -71,7 +71,7 @@ fn formed(alloc: Global, step: Step, bytes: &[u8]) -> Result<Vec<u8>, AllocError
     }
 }
 
-/// What a step makes of these bytes, as a made capture too.
+/// Returns these bytes after a step, which may be a generated capture.
 fn stepped(alloc: Global, step: Step, bytes: &[u8]) -> Result<Vec<u8>, Fail> {
     match step {
         Step::Made(flaw) => made_capture(alloc, 2, flaw),
@@ -80,7 +80,7 @@ fn stepped(alloc: Global, step: Step, bytes: &[u8]) -> Result<Vec<u8>, Fail> {
     }
 }
 
-/// The file that these steps make.
+/// Returns the file that these steps make.
 pub fn made(alloc: Global, steps: &[Step]) -> Result<Vec<u8>, Fail> {
     let mut bytes = Vec::new(alloc);
     for step in steps {

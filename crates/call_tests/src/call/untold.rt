@@ -1,18 +1,22 @@
-//! A source that doesn't tell its bytes, and is watched.
+//! A source with bytes that contracts don't know, and with a watch on its reads.
 
 use timing_outside::{Failed, MemorySource, Source};
 
-/// What is done before each read of a source.
+/// A watch on the reads of a source.
 pub trait Watch: Send + Drop {
-    /// Answers how many bytes the read may give, where so many were taken and so many are asked for.
+    /// Returns the greatest number of bytes that the next read may give. `taken` bytes were read before, and `asked`
+    /// are asked for. Each read calls it once.
     fn before(&mut self, taken: usize, asked: usize) -> usize;
 }
 
-/// A source that doesn't tell its bytes, with a watch on its reads.
+/// A source with bytes that contracts don't know, and with a watch on its reads.
 #[derive(Drop)]
 pub struct UntoldSource<W: Watch> {
+    /// The source that is read.
     pub inner: MemorySource,
+    /// The number of bytes that were read.
     pub taken: usize,
+    /// The watch.
     pub watch: W,
 }
 

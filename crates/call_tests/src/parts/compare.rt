@@ -1,14 +1,14 @@
-//! How rows compare. A comparison is a call: what it prints where it fails is proved once, and not in each row.
+//! Comparisons of values. Each is a call, so that the text it prints on a failure is proved once, and not in every row.
 
 use std::fmt::Debug;
 use std::process::Abort;
 
-/// Asserts that what came is what was wanted.
+/// Asserts that `got` equals `want`.
 pub fn same<T: PartialEq + Debug>(rt: &impl Abort, got: &T, want: &T) {
     assert!(rt; got == want, "{got:?}, not {want:?}");
 }
 
-/// The same, of this row of a table or turn of a loop.
+/// Asserts that `got` equals `want`, in this row of a table or pass of a loop.
 pub fn same_at<R: Debug, T: PartialEq + Debug>(rt: &impl Abort, row: &R, got: &T, want: &T) {
     assert!(rt; got == want, "at {row:?}: {got:?}, not {want:?}");
 }

@@ -1,4 +1,4 @@
-//! The intake of captures in memory, with each message compared.
+//! The intake of captures in memory; each message is compared.
 
 ghost use Rattle.std.specs.Prelude.{◌≡◌, ◌≤◌, ◌∷◌, [], IfOk, length};
 ghost use Rattle.flow_worker.specs.Intakes.{AreOfFile, HaveSentNothing};
@@ -17,7 +17,7 @@ use timing_base::worked::undeclared_to;
 use timing_base::{FileNote, Media, PcapFault};
 use timing_outside::{MemorySink, NoGate, Source};
 
-// The made capture of 13 frames of 20 packets: with the packet before them it has 261 records.
+// The generated capture of 13 frames of 20 packets: 261 packet records with the packet before them.
 fn made(alloc: Global) -> Result<MemorySink, Fail> {
     let mut sink = MemorySink::new(alloc, capture_len(13, 0))?;
     write_capture(0, 13, 0, &mut sink)?;
@@ -63,7 +63,7 @@ fn taken_in<R: Wait + Abort + AllocGlobal, S: Source>(
     done
 }
 
-// Takes the front message.
+// Takes the first message of the lane.
 fn take<R: Wait>(rt: &R, lane: &Lane, taker: &mut TakePass) -> Option<Message>
     requires lane { taker.old.lane ≡ lane.now }
     ensures lane { taker.new.lane ≡ taker.old.lane }
@@ -81,7 +81,7 @@ fn close<R: Wait>(rt: &R, lane: Lane, passes: Vec<SendPass>, taker: TakePass) ->
     lane.close(rt, passes, taker)
 }
 
-// Asserts that a message is a batch of file 0, with the packets of a media that have these records.
+// Asserts that a message is a batch of file 0, with the packets of a media in these packet records.
 fn is_batch(rt: &impl Abort, message: Option<Message>, media: u32, records: &[u64]) {
     match &message {
         Some(Message::Batch(batch)) => {
@@ -96,7 +96,7 @@ fn is_batch(rt: &impl Abort, message: Option<Message>, media: u32, records: &[u6
     }
 }
 
-// Asserts that a message is the end of file 0, with this note and so many records.
+// Asserts that a message is the end of file 0, with this note and number of packet records.
 fn is_end(rt: &impl Abort, message: Option<Message>, note: FileNote, records: u64) {
     match &message {
         Some(Message::End(end)) => {
@@ -133,7 +133,7 @@ fn batches(rt: HostRuntime) -> Result<(), Fail> {
     Ok(())
 }
 
-// The first read gives the file header, 99 records and 48 bytes of the hundredth; the second fails.
+// The first read gives the capture header, 99 packet records and 48 bytes of the next one; the second read fails.
 #[test]
 fn failed_read(rt: HostRuntime) -> Result<(), Fail> {
     let alloc = rt.alloc();
@@ -152,7 +152,7 @@ fn failed_read(rt: HostRuntime) -> Result<(), Fail> {
     Ok(())
 }
 
-// A capture with a record for each of these, to port 50000 and so many more.
+// A capture with a packet record for each of `ports`, to port 50000 + that number.
 fn capture(alloc: Global, ports: &[u8]) -> Result<Vec<u8>, AllocError> {
     let mut text = Vec::from_slice(alloc, &HEAD)?;
     for more in ports {
@@ -166,7 +166,7 @@ fn capture(alloc: Global, ports: &[u8]) -> Result<Vec<u8>, AllocError> {
     Ok(text)
 }
 
-// The fourth of five records goes to no media.
+// The fourth of five packet records belongs to no media.
 #[test]
 fn two_lanes(rt: HostRuntime) -> Result<(), Fail> {
     let alloc = rt.alloc();

@@ -1,4 +1,4 @@
-//! Reports in JSON on both sides of each limit of what is read, with ample memory.
+//! JSON reports on both sides of each limit of what is read, while memory suffices.
 
 use std::alloc::{AllocError, Global};
 use std::process::Abort;
@@ -6,7 +6,7 @@ use std::test::Fail;
 use timing_base::{Broken, FailProof, FlowKey, Kind};
 use timing_report::json_report::{ReportError, ReportProof, read_json};
 
-// Whether the bytes are in the form of a report. Memory is ample.
+// Whether the bytes are in the form of a report. Memory suffices.
 fn is_read(rt: &impl Abort, alloc: Global, bytes: &[u8]) -> bool {
     match read_json(alloc, bytes) {
         Ok(_) => true,
@@ -46,7 +46,7 @@ static WHOLE_TEXTS: [(&[u8], bool); 20] = [
     (b"{\"flows\":[],\"flows\":1}", false),
 ];
 
-/// Asserts that a text is read, or that it isn't.
+/// Asserts that a text is read, or that it is refused.
 fn text_is_read(rt: &impl Abort, alloc: Global, text: &[u8], read: bool) {
     assert!(rt; is_read(rt, alloc, text) == read, "{text:?}");
 }
@@ -58,7 +58,7 @@ fn whole_texts(rt: HostRuntime) {
     }
 }
 
-/// Asserts that the text of these parts is read, or that it isn't.
+/// Asserts that the text of these parts is read, or that it is refused.
 fn parts_are_read(
     rt: &impl Abort,
     alloc: Global,
@@ -73,15 +73,16 @@ fn parts_are_read(
     Ok(())
 }
 
-/// What comes before the members of a report's one flow, and before all but the first two of them.
+/// The text before the members of a report's only flow.
 const MEMBERS: &str = "{\"flows\":[{";
 
+/// The text before the members of a report's only flow, with the two that name the flow.
 const FLOW: &str = "{\"flows\":[{\"file\":1,\"media\":1,";
 
-/// What ends a report of one flow.
+/// The text that ends a report with one flow.
 const END: &str = "}]}";
 
-/// Members of a flow, and whether a report of such a flow is read.
+/// Members of a flow, and whether a report with such a flow is read.
 static KEYS: [(&str, bool); 16] = [
     ("\"file\":1,\"media\":1", true),
     ("\"file\":16,\"media\":64", true),
@@ -109,7 +110,7 @@ fn keys(rt: HostRuntime) -> Result<(), Fail> {
     Ok(())
 }
 
-/// Asserts that types of these three parts are read, of a flow and of a run alike, or that they aren't.
+/// Asserts that the types of these three parts are read, in a flow and in a run, or that they are refused.
 fn types_are_read(
     rt: &impl Abort,
     alloc: Global,
@@ -146,7 +147,7 @@ fn types(rt: HostRuntime) -> Result<(), Fail> {
     Ok(())
 }
 
-/// Proofs, and whether each is read.
+/// Violations, and whether each is read.
 static PROOFS: [(&str, bool); 14] = [
     ("null", false),
     ("[]", false),
@@ -225,7 +226,7 @@ fn lists_of_runs(rt: HostRuntime) -> Result<(), Fail> {
     Ok(())
 }
 
-/// A text with so many pieces behind it.
+/// A text with `count` pieces behind it.
 fn repeated(alloc: Global, front: &str, piece: &str, count: u32) -> Result<String, AllocError> {
     let mut text = String::from_str(alloc, front)?;
     for _ in 0..count {
@@ -234,7 +235,7 @@ fn repeated(alloc: Global, front: &str, piece: &str, count: u32) -> Result<Strin
     Ok(text)
 }
 
-/// Asserts that a report of so many runs, of which each but the first has a comma before it, is read, or that it isn't.
+/// Asserts that a report with `commas` runs behind the first one is read, or that it is refused.
 fn runs_are_read(
     rt: &impl Abort,
     alloc: Global,
@@ -245,14 +246,14 @@ fn runs_are_read(
     parts_are_read(rt, alloc, &[FLOW, runs.as_str(), "]", END], read)
 }
 
-/// Asserts that a report with so many lists in one another is read, or that it isn't.
+/// Asserts that a report with this many nested lists is read, or that it is refused.
 fn depth_is_read(rt: &impl Abort, alloc: Global, lists: u32, read: bool) -> Result<(), AllocError> {
     let begins = repeated(alloc, "{\"flows\":[],\"other\":", "[", lists)?;
     let ends = repeated(alloc, "", "]", lists)?;
     parts_are_read(rt, alloc, &[begins.as_str(), ends.as_str(), "}"], read)
 }
 
-/// Asserts that a report of this length is read, or that it isn't.
+/// Asserts that a report of this length is read, or that it is refused.
 fn length_is_read(
     rt: &impl Abort,
     alloc: Global,
@@ -264,7 +265,7 @@ fn length_is_read(
     Ok(())
 }
 
-// The object and the lists in it are 127 and 128 in one another.
+// The nesting is 127 and 128 with the object around the lists.
 #[test]
 fn limits(rt: HostRuntime) -> Result<(), Fail> {
     runs_are_read(&rt, rt.alloc(), 1024, true)?;
@@ -276,14 +277,14 @@ fn limits(rt: HostRuntime) -> Result<(), Fail> {
     Ok(())
 }
 
-/// A report of no flows, and blanks up to this length.
+/// A report without flows, and blanks up to this length.
 fn padded(alloc: Global, len: usize) -> Result<Vec<u8>, AllocError> {
     let mut bytes = Vec::from_slice(alloc, b"{\"flows\":[]}")?;
     bytes.resize(len, b' ')?;
     Ok(bytes)
 }
 
-/// A report of two runs with fails, one without, and fails of the flow itself.
+/// A report with two runs with violations, one run without, and violations of the flow itself.
 static ORDERED: &str = concat!(
     "{\"flows\":[{\"runs\":[{\"types\":[{\"type\":\"NL\",\"proof\":{\"model\":\"Bucket\",\"from\":3,\"to\":3,\"count\":5,\"limit\":4}}]},",
     "{},{\"types\":[{\"type\":\"N\",\"proof\":{\"model\":\"Bucket\",\"from\":4,\"to\":4,\"count\":5,\"limit\":4}}]}],",
@@ -292,7 +293,7 @@ static ORDERED: &str = concat!(
     "{\"type\":\"N\",\"proof\":{\"model\":\"Bucket\",\"from\":2,\"to\":2,\"count\":5,\"limit\":4}}]}]}"
 );
 
-/// The run, the type and the packet of each of its fails.
+/// The run, the type and the packet of each of its violations.
 static ORDER: [(u32, Kind, u64); 4] = [
     (0, Kind::W, 1),
     (0, Kind::N, 2),
@@ -300,7 +301,7 @@ static ORDER: [(u32, Kind, u64); 4] = [
     (2, Kind::N, 4),
 ];
 
-/// Asserts that a fail is that of this run, type and packet.
+/// Asserts that a violation is that of this run, type and packet.
 fn is_told(rt: &impl Abort, told: &ReportProof, (run, kind, from): (u32, Kind, u64)) {
     let proof = FailProof {
         model: Broken::Bucket,
@@ -322,7 +323,7 @@ fn is_told(rt: &impl Abort, told: &ReportProof, (run, kind, from): (u32, Kind, u
     assert!(rt; *told == want, "{told:?}, not {want:?}");
 }
 
-/// Asserts that these fails are told, in this order.
+/// Asserts that these violations are read, in this order.
 fn are_told(rt: &impl Abort, told: &[ReportProof], want: &[(u32, Kind, u64)]) {
     assert!(rt; told.len() == want.len());
     for (told, want) in told.iter().zip(want) {

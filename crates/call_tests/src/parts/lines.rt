@@ -1,4 +1,4 @@
-//! Lines of words and what they are read as, worked by hand.
+//! Command lines and the requests that they are read as, worked by hand.
 
 use super::compare::{same, same_at};
 use std::alloc::{AllocError, Global};
@@ -10,7 +10,7 @@ use timing_base::{
 };
 use timing_words::{Command, Request, WordFault, read_words};
 
-// The words of a line, which bars part.
+// The arguments of a line, which are separated by bars.
 fn words_of(alloc: Global, line: &str) -> Result<Vec<String>, AllocError> {
     let mut words = Vec::new(alloc);
     for word in line.split('|') {
@@ -29,7 +29,7 @@ fn files(alloc: Global, items: &Items<FileName>) -> Result<String, AllocError> {
     Ok(text)
 }
 
-/// The fields of a check.
+/// The fields of a `check`.
 fn shown_check(alloc: Global, job: &CheckJob) -> Result<String, AllocError> {
     let captures = files(alloc, &job.captures)?;
     let sdp = job.sdp.as_str();
@@ -38,14 +38,14 @@ fn shown_check(alloc: Global, job: &CheckJob) -> Result<String, AllocError> {
     format!(in alloc; "check {sdp} {workers} {tai} {json} {joined}:{captures}")
 }
 
-/// The numbers of a fail.
+/// The numbers of a violation.
 fn shown_proof(alloc: Global, proof: &FailProof) -> Result<String, AllocError> {
     let (model, from, to) = (proof.model, proof.from, proof.to);
     let (count, limit) = (proof.count, proof.limit);
     format!(in alloc; "{model:?} {from} {to} {count} {limit}")
 }
 
-/// The fields of the claim of one fail.
+/// The fields of a `verify`.
 fn shown_verify(alloc: Global, job: &VerifyJob) -> Result<String, AllocError> {
     let captures = files(alloc, &job.captures)?;
     let proof = shown_proof(alloc, &job.proof)?;
@@ -54,7 +54,7 @@ fn shown_verify(alloc: Global, job: &VerifyJob) -> Result<String, AllocError> {
     format!(in alloc; "verify {sdp} {media} {kind:?} {proof} {tai} {joined}:{captures}")
 }
 
-/// The fields of the claims of a report.
+/// The fields of a `verify-report`.
 fn shown_report(alloc: Global, job: &ReportJob) -> Result<String, AllocError> {
     let captures = files(alloc, &job.captures)?;
     let (sdp, report) = (job.sdp.as_str(), job.report.as_str());
@@ -62,20 +62,20 @@ fn shown_report(alloc: Global, job: &ReportJob) -> Result<String, AllocError> {
     format!(in alloc; "report {sdp} {report} {tai} {joined}:{captures}")
 }
 
-/// The fields of a self-test.
+/// The fields of a `selftest`.
 fn shown_self_test(alloc: Global, job: &SelfTestJob) -> Result<String, AllocError> {
     let (frames, workers) = (job.frames, job.workers);
     format!(in alloc; "selftest {frames} {workers}")
 }
 
-/// The fields of a window.
+/// The fields of a `window`.
 fn shown_window(alloc: Global, job: &FlowJob) -> Result<String, AllocError> {
     let (sdp, capture) = (job.sdp.as_str(), job.capture.as_str());
     let (media, tai) = (job.media, job.tai);
     format!(in alloc; "window {sdp} {media} {tai}: {capture}")
 }
 
-/// The fields of a shape.
+/// The fields of a `shape`.
 fn shown_shape(alloc: Global, job: &ShapeJob) -> Result<String, AllocError> {
     let (sdp, capture) = (job.flow.sdp.as_str(), job.flow.capture.as_str());
     let (media, tai) = (job.flow.media, job.flow.tai);
@@ -83,7 +83,7 @@ fn shown_shape(alloc: Global, job: &ShapeJob) -> Result<String, AllocError> {
     format!(in alloc; "shape {sdp} {media} {kind:?} {tai} {list}: {capture}")
 }
 
-/// The fields of a skew.
+/// The fields of a `skew`.
 fn shown_skew(alloc: Global, job: &SkewJob) -> Result<String, AllocError> {
     let captures = files(alloc, &job.captures)?;
     let sdp = job.sdp.as_str();
@@ -91,26 +91,26 @@ fn shown_skew(alloc: Global, job: &SkewJob) -> Result<String, AllocError> {
     format!(in alloc; "skew {sdp} {media} {pair}:{captures}")
 }
 
-/// The fields of a scan.
+/// The fields of a `scan`.
 fn shown_scan(alloc: Global, job: &ScanJob) -> Result<String, AllocError> {
     let (capture, form) = (job.capture.as_str(), job.form);
     format!(in alloc; "scan {form:?}: {capture}")
 }
 
-/// The fields of a list of packets or frames.
+/// The fields of a `series`.
 fn shown_series(alloc: Global, job: &SeriesJob) -> Result<String, AllocError> {
     let (sdp, capture) = (job.flow.sdp.as_str(), job.flow.capture.as_str());
     let (media, tai, frames) = (job.flow.media, job.flow.tai, job.frames);
     format!(in alloc; "series {sdp} {media} {tai} {frames}: {capture}")
 }
 
-/// The fields of a command that measures the flows of one capture.
+/// The fields of a `measure` or a `page`.
 fn shown_capture(alloc: Global, command: &str, job: &CaptureJob) -> Result<String, AllocError> {
     let (sdp, tai, capture) = (job.sdp.as_str(), job.tai, job.capture.as_str());
     format!(in alloc; "{command} {sdp} {tai}: {capture}")
 }
 
-/// The command whose words are asked for.
+/// The command that help is asked about.
 fn shown_help(alloc: Global, command: Option<Command>) -> Result<String, AllocError> {
     format!(in alloc; "help {command:?}")
 }
@@ -133,7 +133,7 @@ fn shown(alloc: Global, request: &Request) -> Result<String, AllocError> {
     }
 }
 
-// What words are read as, and whether memory sufficed.
+// The request that arguments are read as, or the error.
 fn read(alloc: Global, words: &[String]) -> Result<String, AllocError> {
     match read_words(alloc, words) {
         Ok(request) => shown(alloc, &request),
@@ -142,7 +142,7 @@ fn read(alloc: Global, words: &[String]) -> Result<String, AllocError> {
     }
 }
 
-// Words that are no request.
+// The arguments are a usage error.
 fn are_none(rt: &impl Abort, alloc: Global, words: &[String]) {
     same(rt, &read_words(alloc, words).err(), &Some(WordFault::Usage));
 }
@@ -152,7 +152,7 @@ fn no_words(rt: HostRuntime) {
     are_none(&rt, rt.alloc(), &[]);
 }
 
-// The words of a line are read as this.
+// The arguments of a line are read as this request.
 fn is_read(rt: &impl Abort, alloc: Global, line: &str, want: &str) -> Result<(), AllocError> {
     let words = words_of(alloc, line)?;
     let got = read(alloc, &words)?;
@@ -160,7 +160,8 @@ fn is_read(rt: &impl Abort, alloc: Global, line: &str, want: &str) -> Result<(),
     Ok(())
 }
 
-// Each row is a line of words, and what it is read as. The rows are one text, since a proof takes a list of them apart.
+// Each row has a command line and the request that it is read as. The rows are one text, since a proof would take a
+// list of them apart.
 fn are_read(rt: &impl Abort, alloc: Global, rows: &str) -> Result<(), AllocError> {
     for row in rows.lines() {
         let (line, want) = row.split_once(" => ").unwrap_or((row, ""));
@@ -190,14 +191,14 @@ static ROWS: &str = concat!(
     "check|--sdp|p|-- => Usage\n",
     "check|--|--sdp|p|c => Usage\n",
     "check|--sdp|--|p|c => Usage\n",
-    // a value that is none
+    // a value of the wrong form
     "check|--sdp|-p|c => Usage\n",
     "check|--sdp|--json|c => Usage\n",
     "check|c|--sdp => Usage\n",
     "check|--sdp=|c => Usage\n",
     "check|--sdp||c => Usage\n",
     "check|--sdp|p| => Usage\n",
-    // twice
+    // an option that stands twice
     "check|--sdp|p|--sdp|p|c => Usage\n",
     "check|--sdp=p|c|--sdp=q => Usage\n",
     "check|--sdp|p|--serial|--serial|c => Usage\n",
@@ -211,7 +212,7 @@ static ROWS: &str = concat!(
     "check|--sdp|p|--serial=|c => Usage\n",
     "check|--sdp|p|--serial=true|c => Usage\n",
     "check|--sdp|p|--serial|true|c => check p 0 0 false false: true c\n",
-    // what the command does not take
+    // options that the command does not have
     "check|--sdp|p|--list|c => Usage\n",
     "check|--sdp|p|--media|1|c => Usage\n",
     "check|--sdp|p|--ser|c => Usage\n",
@@ -254,47 +255,47 @@ static ROWS: &str = concat!(
     "check|--sdp|p|--tai|1000|c => check p 4 1000 false false: c\n",
     "check|--sdp|p|--tai|1001|c => Usage\n",
     "check|--sdp|p|--tai|18446744073709551616|c => Usage\n",
-    // exclusions, and what is missing
+    // options that exclude each other, and missing ones
     "check|--sdp|p|--workers|2|--serial|c => Usage\n",
     "check|--serial|--sdp|p|c|--workers=2 => Usage\n",
     "check|c => Usage\n",
     "check|--json|c => Usage\n",
-    // names
+    // file names
     "check|--sdp|p|é b => check p 4 0 false false: é b\n",
     "check|--sdp|p|a\u{7f} => Usage\n",
     "check|--sdp|p|c|c|c|c|c|c|c|c|c|c|c|c|c|c|c|c => check p 4 0 false false: c c c c c c c c c c c c c c c c\n",
     "check|--sdp|p|c|c|c|c|c|c|c|c|c|c|c|c|c|c|c|c|c => Usage\n",
-    // how a scan prints
+    // the forms of a scan
     "scan|c => scan Lines: c\n",
     "scan|c|--json => scan Json: c\n",
     "scan|--draft|--|-c => scan Draft: -c\n",
     "scan|--json|--draft|c => Usage\n",
     "scan|--draft=x|c => Usage\n",
-    // what is measured
+    // measure
     "measure|--sdp|p|c => measure p 0: c\n",
     "measure|c|--tai=37|--sdp=p => measure p 37: c\n",
     "measure|--sdp|p|--media|1|c => Usage\n",
     "measure|--sdp|p|--tai|1001|c => Usage\n",
     "measure|--sdp|p|c|d => Usage\n",
     "measure|c => Usage\n",
-    // what is listed
+    // series
     "series|--sdp|p|--media|1|c => series p 0 0 false: c\n",
     "series|--frames|c|--tai=37|--media=64|--sdp=p => series p 63 37 true: c\n",
     "series|--sdp|p|--media|65|c => Usage\n",
     "series|--sdp|p|c => Usage\n",
     "series|--sdp|p|--media|1|--frames=1|c => Usage\n",
     "series|--sdp|p|--media|1|c|d => Usage\n",
-    // a page
+    // page
     "page|--sdp|p|c => page p 0: c\n",
     "page|c|--tai=37|--sdp=p => page p 37: c\n",
     "page|--sdp|p|--json|c => Usage\n",
     "page|--sdp|p|c|d => Usage\n",
 );
 
-// Names that a line end cuts.
+// File names with a line end.
 static CUT_NAMES: [&str; 2] = ["check|--sdp|p|a\nb", "check|--sdp|a\nb|c"];
 
-// The lines of the commands but `check`.
+// The command lines of the commands except `check`.
 static OTHER_ROWS: &str = concat!(
     // verify
     "verify|--sdp|p|--media|1|--type|N|--model|Bucket|--from|20|--to|24|--count|5|--limit|4|c => verify p 0 N Bucket 20 24 5 4 0 false: c\n",
@@ -418,7 +419,7 @@ fn lines_of_other_commands(rt: HostRuntime) -> Result<(), AllocError> {
     are_read(&rt, rt.alloc(), OTHER_ROWS)
 }
 
-// A check of a capture whose name has so many letters.
+// A `check` of a capture with a name of this many letters.
 fn long_name(alloc: Global, letters: u32) -> Result<Vec<String>, AllocError> {
     let mut line = String::from_str(alloc, "check|--sdp|p|")?;
     for _ in 0..letters {

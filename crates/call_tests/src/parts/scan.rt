@@ -1,4 +1,4 @@
-//! A scan of a few records, laid out by hand.
+//! A scan of a few packet records, laid out by hand.
 
 ghost use Rattle.std.specs.Prelude.{◌≤◌};
 ghost use Rattle.capture_scan.specs.Stands.{count_records};
@@ -10,7 +10,7 @@ use std::process::Abort;
 use std::test::Fail;
 use timing_base::{Rtp, Target};
 
-// A marked packet from 192.0.2.1 to 239.0.0.1, with the first line header of a field.
+// A packet with the marker from 192.0.2.1 to 239.0.0.1, with the first line header of a field.
 const FRAME: [u8; 62] = [
     0x01, 0x00, 0x5e, 0x00, 0x00, 0x01, // destination
     0x02, 0x00, 0x00, 0x00, 0x00, 0x01, // source
@@ -63,7 +63,7 @@ fn sees_a_packet(rt: HostRuntime) {
     same(&rt, &look_at(7, 70, &FRAME), &Seen::Read(packet));
 }
 
-// A scan, and how many records it was given.
+// A scan, and the number of packet records that it was given.
 #[derive(Drop)]
 struct Counted {
     scan: Scan,
@@ -79,7 +79,7 @@ impl Counted {
         }
     }
 
-    // Takes the next record. Asserts what `take` requires, since a proof does not count the calls.
+    // Takes the next packet record. Asserts what `take` requires, since a proof does not count the calls.
     fn take(&mut self, rt: &impl Abort, at: u64, frame: &[u8]) -> Result<(), Fail> {
         assert!(rt; self.records < 1 << 41);
         self.records += 1;
@@ -88,8 +88,8 @@ impl Counted {
     }
 }
 
-// What is found in five records: a packet, one of another SSRC, one that was cut, no frame, and a packet behind
-// one that is lost.
+// The result for five packet records: a packet, one with another SSRC, one that was cut, no frame, and a packet behind
+// a lost one.
 fn five_records(rt: &impl Abort, alloc: Global) -> Result<Found, Fail> {
     let mut other = FRAME;
     other[53] = 2; // SSRC
@@ -105,7 +105,7 @@ fn five_records(rt: &impl Abort, alloc: Global) -> Result<Found, Fail> {
     Ok(found)
 }
 
-// Two packets of 48 bytes, and one between them that is lost.
+// The stream has two packets of 48 bytes, and one between them is lost.
 fn check_stream(rt: &impl Abort, stream: &Stream) {
     same(rt, &stream.ssrc, &1);
     same(rt, &stream.packets, &2);

@@ -1,4 +1,4 @@
-//! Two flows, from their packets to their row.
+//! Two flows, from their packets to the comparison.
 
 ghost use Rattle.std.specs.Prelude.{◌≡◌, ◌<◌, ◌^◌};
 ghost use Rattle.path_skew.specs.Stands.{count_first, count_second};
@@ -10,7 +10,7 @@ use std::process::Abort;
 use timing_base::worked::reading;
 use timing_base::{FlowPacket, PacketFault};
 
-// Two flows, and how many packets of each were taken.
+// Two flows, and the number of packets of each that were taken.
 #[derive(Drop)]
 struct Pair {
     skew: Skew,
@@ -20,19 +20,19 @@ struct Pair {
     ghost counted_second: { count_second skew ≡ seconds },
 }
 
-// A packet by record, stamp and number.
+// A packet in this packet record, with this capture timestamp and packet number.
 fn came(rec: u64, at: u64, number: u32) -> FlowPacket {
     let rtp = Ok(reading(number, 0, false));
     FlowPacket { rec, at, rtp }
 }
 
-// A packet that was not read.
+// A packet that wasn't read as RTP.
 fn unread(rec: u64, at: u64, fault: PacketFault) -> FlowPacket {
     let rtp = Err(fault);
     FlowPacket { rec, at, rtp }
 }
 
-// A skew, and the records of its packets.
+// A skew, and the packet records of its packets.
 fn extreme(skew: i64, first_rec: u64, second_rec: u64) -> Option<Extreme> {
     Some(Extreme {
         skew,
@@ -71,7 +71,7 @@ impl Pair {
     }
 }
 
-// Two packets of each flow, of which one each isn't read.
+// Two packets of each flow, one of which isn't read.
 fn with_unread(rt: &impl Abort, pair: &mut Pair) {
     pair.first(rt, unread(1, 10, PacketFault::Short));
     pair.first(rt, came(2, 20, 7));
@@ -79,7 +79,7 @@ fn with_unread(rt: &impl Abort, pair: &mut Pair) {
     pair.second(rt, unread(5, 50, PacketFault::Version));
 }
 
-// Number 7 of the second flow twice, and number 6 of the first; one more isn't read.
+// Number 7 of the second flow twice, and number 6 of the first flow twice; one more packet isn't read.
 fn with_repeated(rt: &impl Abort, pair: &mut Pair) {
     pair.second(rt, came(9, 60, 7));
     pair.second(rt, came(11, 61, 7));
@@ -107,16 +107,16 @@ fn unread_and_repeated(rt: HostRuntime) {
 
 const MANY: u32 = 100_000;
 
-// The number of packet i of a flow.
+// The packet number of packet i of a flow.
 #[derive(Clone, Copy)]
 enum Numbers {
     Rising,
     Falling,
-    // Rising ones above and falling ones below, in turn.
+    // Rising numbers above and falling ones below, in turn.
     Alternating,
     // The high half stays 0.
     Low,
-    // By twos far from all others, with equal low digits.
+    // Pairs far from all others, with equal low digits.
     Apart,
     // Each far from the one before.
     Turned,
@@ -139,7 +139,7 @@ fn number(numbers: Numbers, i: u32) -> u32 {
     }
 }
 
-// The row of two flows with these numbers, the second 3 ns later, and 5 ns from packet 50,000 on.
+// The comparison of two flows with these numbers; the second is 3 ns later, and 5 ns from packet 50,000 on.
 fn many(rt: &impl Abort, alloc: Global, numbers: Numbers) -> SkewRow {
     let mut pair = Pair::new(alloc);
     for i in 0..MANY {
@@ -153,7 +153,7 @@ fn many(rt: &impl Abort, alloc: Global, numbers: Numbers) -> SkewRow {
     pair.finish()
 }
 
-// What is told where each number is matched or repeated.
+// The comparison if every number is matched or repeated.
 fn matched(matched: u64) -> SkewRow {
     SkewRow {
         matched,

@@ -1,4 +1,4 @@
-//! A worker over messages that are laid out by hand, with each row read from the book.
+//! A worker over messages that are laid out by hand; each result is read from the book.
 
 ghost use Rattle.std.specs.Prelude.{◌≡◌, ◌≤◌, ◌<◌, All, IfOk, IfSome, length, slice_index_or};
 ghost use Rattle.ruled_intake.specs.Lanes.{AreSenders, LaneId};
@@ -16,7 +16,7 @@ use timing_base::{FileNote, FlowKey, FlowPacket, Items, PacketFault, Row, Unjudg
 use timing_outside::NoGate;
 use verdict_book::{Book, Receipt};
 
-// The packet of a media with this number, of this record. It doesn't end its frame.
+// The packet of a media with this number, in this packet record, without the marker.
 fn packet(media: u32, rec: u32, number: u32) -> Packet {
     Packet::new(
         media,
@@ -28,7 +28,7 @@ fn packet(media: u32, rec: u32, number: u32) -> Packet {
     )
 }
 
-// A packet of a media, of this record, that is too short.
+// A packet of a media, in this packet record, that is too short.
 fn short(media: u32, rec: u32) -> Packet {
     Packet::new(
         media,
@@ -40,7 +40,7 @@ fn short(media: u32, rec: u32) -> Packet {
     )
 }
 
-// Two packets of a file.
+// A batch of two packets of a file.
 fn two(alloc: Global, file: u32, packets: [Packet; 2]) -> Result<Message, AllocError> {
     let packets = Vec::from_array(alloc, packets)?;
     Ok(Message::Batch(Batch {
@@ -49,7 +49,7 @@ fn two(alloc: Global, file: u32, packets: [Packet; 2]) -> Result<Message, AllocE
     }))
 }
 
-// The end of a file with so many records.
+// The end of a file with this many packet records.
 fn end(file: u32, records: u32) -> Message {
     Message::End(FileEnd {
         file,
@@ -79,17 +79,18 @@ fn send_all<R: Wait + Abort>(rt: &R, lane: &Lane, passes: Vec<SendPass>, message
     }
 }
 
-/// What is asked of a worker.
+/// The setting of a worker.
 #[derive(Clone, Copy)]
 struct Asked {
     /// Whether it is the last of three workers, and not the only one.
     third: bool,
+    /// Whether the files are joined.
     joined: bool,
     /// Whether the halt is raised before it begins.
     halted: bool,
 }
 
-/// The receipts of one worker of these lanes, which takes what its lane holds.
+/// The receipts of one worker of these lanes, which takes the messages of its lane.
 fn worked_on<R: Wait + Abort>(
     rt: &R,
     alloc: Global,
@@ -120,7 +121,7 @@ fn worked_on<R: Wait + Abort>(
     work(rt, alloc, &run, worker, taker, book, &halt, &NoGate).receipts
 }
 
-/// The receipts of a worker that takes these messages, of two media and two files.
+/// The receipts of a worker that takes these messages, with two media and two files.
 fn worked<R: Wait + Abort>(
     rt: &R,
     alloc: Global,
@@ -143,7 +144,7 @@ fn worked<R: Wait + Abort>(
     }
 }
 
-// Asserts that a row is that of this flow, which isn't judged.
+// Asserts that a result is that of this flow, which isn't judged.
 fn is_row(rt: &impl Abort, found: &Row, want: (u32, u32, Unjudged)) {
     let (file, media, why) = want;
     assert_eq!(rt; found.key, FlowKey { file, media });
@@ -153,7 +154,7 @@ fn is_row(rt: &impl Abort, found: &Row, want: (u32, u32, Unjudged)) {
     }
 }
 
-// Asserts that the receipts are of these rows.
+// Asserts that the receipts are those of these results.
 fn are_rows(
     rt: &impl Abort,
     book: &Book,
@@ -180,7 +181,7 @@ fn files_each_for_itself(rt: HostRuntime) -> Result<(), Fail> {
     messages.push(two(alloc, 0, [packet(0, 1, 0), short(1, 2)])?)?;
     messages.push(two(alloc, 1, [packet(0, 1, 0), packet(0, 2, 1)])?)?;
     messages.push(end(1, 2))?;
-    // Behind the end, and of a file and a media that aren't there.
+    // Messages behind the end, and of a file and a media that don't exist.
     messages.push(two(alloc, 1, [short(0, 3), short(1, 4)])?)?;
     messages.push(two(alloc, 7, [short(0, 1), short(1, 2)])?)?;
     messages.push(two(alloc, 0, [packet(0, 3, 1), short(9, 4)])?)?;
@@ -209,8 +210,7 @@ fn files_each_for_itself(rt: HostRuntime) -> Result<(), Fail> {
     Ok(())
 }
 
-// The second file comes first. The first has 6 records, so that record 1 of the second is the
-// seventh.
+// The second file comes first. The first file has 6 packet records, so that record 1 of the second is record 7 of both.
 #[test]
 fn second_file_waits_for_the_first(rt: HostRuntime) -> Result<(), Fail> {
     let alloc = rt.alloc();
@@ -250,7 +250,7 @@ fn second_file_waits_for_the_first(rt: HostRuntime) -> Result<(), Fail> {
     Ok(())
 }
 
-// Of three workers the third has the flows of the first media of the second file alone.
+// The third of three workers has only the flow of the first media of the second file.
 #[test]
 fn flows_of_others_are_passed_over(rt: HostRuntime) -> Result<(), Fail> {
     let alloc = rt.alloc();
@@ -271,7 +271,7 @@ fn flows_of_others_are_passed_over(rt: HostRuntime) -> Result<(), Fail> {
     Ok(())
 }
 
-// An end is missing, and the halt is raised.
+// The end of a file is missing, and the halt is raised.
 #[test]
 fn halt_stops_without_receipts(rt: HostRuntime) -> Result<(), Fail> {
     let alloc = rt.alloc();

@@ -10,7 +10,7 @@ use std::test::Fail;
 use std::thread::Threads;
 use timing_report::{Input, Status};
 
-// A description of no bytes.
+// An empty SDP.
 const NO_TEXT: Row = Row {
     sdp: &[],
     status: Status::SdpRefused(SdpFault {
@@ -37,7 +37,8 @@ fn no_room_for_err(rt: HostRuntime) -> Result<(), Fail> {
     NO_ROOM_FOR_ERR.holds(&rt)
 }
 
-// The description is refused before the capture is fetched: the capture's first read would fail, and then its fetch.
+// The SDP is refused before the capture is fetched: in one row the first read of the capture would fail, in the other
+// its fetch.
 const SDP_REFUSED_FIRST_UNREADABLE: Row = Row {
     reads: Reads { fail: 1, ..WHOLE },
     ..NO_TEXT
@@ -58,7 +59,7 @@ fn sdp_refused_first(rt: HostRuntime) -> Result<(), Fail> {
     hold(&rt, &SDP_REFUSED_FIRST)
 }
 
-// A description that is too large is read up to one byte beyond the limit, in 17 reads: an 18th would fail.
+// An SDP that is too large is read up to one byte behind the limit, in 17 reads; an 18th would fail.
 static SDP_TOO_LARGE: Row = Row {
     sdp: &[Step::Fill(b'x', 1_048_577)],
     sdp_reads: Reads { fail: 18, ..WHOLE },
@@ -75,7 +76,7 @@ fn sdp_too_large(rt: HostRuntime) -> Result<(), Fail> {
     SDP_TOO_LARGE.holds(&rt)
 }
 
-// Nothing is printed, as the first capture can't be read.
+// The first capture can't be read, and nothing is printed.
 const FIRST_FAILS: Row = Row {
     status: Status::ReadFault(Input::Capture(0)),
     out: &[],
@@ -83,14 +84,14 @@ const FIRST_FAILS: Row = Row {
     ..PASS
 };
 
-// As the description can't.
+// The SDP can't be read.
 const SDP_FAILS: Row = Row {
     status: Status::ReadFault(Input::Sdp),
     err: "read fault: sdp\n",
     ..FIRST_FAILS
 };
 
-// Of two captures the second can't be read.
+// The second of two captures can't be read.
 const SECOND_FAILS: Row = Row {
     line: CHECK_TWO,
     second: &[PLAIN],
@@ -105,7 +106,7 @@ const UNFETCHED: Reads = Reads {
     ..WHOLE
 };
 
-// All captures are fetched before one is read.
+// All captures are fetched before the first one is read.
 const FETCH_FAILS_SECOND: Row = Row {
     second_reads: UNFETCHED,
     ..SECOND_FAILS
@@ -152,7 +153,7 @@ const THIRD_FAILS: Reads = Reads {
     ..WHOLE
 };
 
-// The least capture that fails is named.
+// If several captures fail, the first of them is named.
 const FAILING_READS_SECOND: Row = Row {
     reads: Reads {
         piece: 100,
@@ -191,7 +192,7 @@ fn failing_reads(rt: HostRuntime) -> Result<(), Fail> {
     hold(&rt, &FAILING_READS)
 }
 
-// Each of the first reads of the description fails, 100 bytes in each, so many.
+// Runs a check for each of the first `count` reads of the SDP, which fails; a read has 100 bytes.
 fn sdp_reads_fail<R: AllocGlobal + Wait + Threads + Sync>(rt: &R, count: u32) -> Result<(), Fail> {
     let mut row = SDP_FAILS;
     row.sdp_reads.piece = 100;
@@ -202,7 +203,7 @@ fn sdp_reads_fail<R: AllocGlobal + Wait + Threads + Sync>(rt: &R, count: u32) ->
     Ok(())
 }
 
-// The description has 346 bytes: with pieces of 100 bytes the fifth read finds its end.
+// The SDP has 346 bytes: with reads of 100 bytes the fifth read finds its end.
 const EACH_READ_OF_SDP_FAILS_SIXTH: Row = Row {
     sdp_reads: Reads {
         piece: 100,
@@ -218,8 +219,7 @@ fn each_read_of_sdp_fails(rt: HostRuntime) -> Result<(), Fail> {
     EACH_READ_OF_SDP_FAILS_SIXTH.holds(&rt)
 }
 
-// With less room than the report needs a write fails, and a front of it that is as long as the room is
-// written.
+// With less room than the report needs a write fails, and a prefix of the report is written that fills the room.
 fn rooms_fail<R: AllocGlobal + Wait + Threads + Sync>(rt: &R, len: usize) -> Result<(), Fail> {
     let mut row = Row {
         ways: FEW_WAYS,
@@ -234,7 +234,7 @@ fn rooms_fail<R: AllocGlobal + Wait + Threads + Sync>(rt: &R, len: usize) -> Res
     Ok(())
 }
 
-// The bytes of the plain report.
+// The length of the plain report in bytes.
 const LEN: usize = HEADER.len() + NARROW.len() + 9;
 
 const EACH_ROOM_ENOUGH: Row = Row {
@@ -265,7 +265,7 @@ fn fourth_write_fails(rt: HostRuntime) -> Result<(), Fail> {
     FOURTH_WRITE_FAILS.holds(&rt)
 }
 
-// With pieces of 100 bytes the capture takes 30 reads, and one more that finds its end.
+// With reads of 100 bytes the capture takes 30 reads, and one more that finds its end.
 #[test]
 fn each_read_fails(rt: HostRuntime) -> Result<(), Fail> {
     PASS.fails_by_reads(&rt, 31, 32)

@@ -1,6 +1,6 @@
-//! Reads of a capture or a report that fail, for each command but `check`.
+//! Reads of a capture or a report that fail, for each command except `check`.
 
-use super::plain::{LISTED, MEASURED, PACKETS, WINDOW};
+use super::plain::{FRAMES, LISTED, MEASURED, PACKETS, WINDOW};
 use crate::call::{ONE_WAY, PASS, Reads, Row, Step, WHOLE, hold};
 use std::sync::Wait;
 use std::test::Fail;
@@ -22,10 +22,42 @@ fn measure_failing_reads(rt: HostRuntime) -> Result<(), Fail> {
     MEASURED.fails_by_reads(&rt, 30, 1000)
 }
 
-// A read of the first pass fails: nothing is printed.
+// A read fails before the end of the first frame, at byte 1,536: nothing is printed.
 #[test]
 fn series_failing_reads(rt: HostRuntime) -> Result<(), Fail> {
-    PACKETS.fails_by_reads(&rt, 30, 1000)
+    PACKETS.fails_by_reads(&rt, 16, 1000)
+}
+
+// A read fails behind the first frame: its row is printed.
+const FAILS_BEHIND_FRAME: Row = Row {
+    reads: Reads {
+        piece: 100,
+        fail: 17,
+        ..WHOLE
+    },
+    status: Status::ReadFault(Input::Capture(0)),
+    out: &[
+        "run,group,record,stamp,first,last,timestamp,step,offset,latency,bucket,gapped_least,gapped,linear_least,linear\n1,0,2,1600000000000764000,764000,19004000,1800,,1663502088,-1663502020,1,1,1,1,1\n",
+    ],
+    err: "read fault: capture 1\n",
+    ..FRAMES
+};
+
+static SERIES_FAILS_LATER: [Row; 2] = [
+    FAILS_BEHIND_FRAME,
+    Row {
+        reads: Reads {
+            piece: 100,
+            fail: 30,
+            ..WHOLE
+        },
+        ..FAILS_BEHIND_FRAME
+    },
+];
+
+#[test]
+fn series_failing_reads_later(rt: HostRuntime) -> Result<(), Fail> {
+    hold(&rt, &SERIES_FAILS_LATER)
 }
 
 const SCANNED: Row = Row {
@@ -54,7 +86,7 @@ const PAIR: Row = Row {
     ..PASS
 };
 
-// Each of the first 29 reads of the second capture fails, 100 bytes in each.
+// Runs the comparison for each of the first 29 reads of the second capture, which fails; a read has 100 bytes.
 fn second_reads_fail<R: AllocGlobal + Wait + Threads + Sync>(rt: &R) -> Result<(), Fail> {
     let mut row = Row {
         status: Status::ReadFault(Input::Capture(1)),
@@ -104,7 +136,7 @@ fn skew_failing_reads(rt: HostRuntime) -> Result<(), Fail> {
     SKEW_FAILING_READS_FIRST.fails_by_reads(&rt, 30, 1000)
 }
 
-// The capture with a burst in its second frame, split in two: the second part begins with a packet of its first frame.
+// The capture with a burst in its second frame, split in two; the second part begins within the first frame.
 static VERIFY_JOINED_FAILING_READ: Row = Row {
     line: "verify --joined --sdp p.sdp --media 1 --type N --model Bucket --from 20 --to 24 --count 5 --limit 4 a.pcap b.pcap",
     ways: ONE_WAY,
@@ -126,7 +158,7 @@ fn verify_joined_failing_read(rt: HostRuntime) -> Result<(), Fail> {
     VERIFY_JOINED_FAILING_READ.holds(&rt)
 }
 
-// The report of a linear sender, `b.pcap` by name: its second read fails, and then its fetch.
+// The report of a linear sender, in `b.pcap`: in one row its second read fails, in the other its fetch.
 const FAILING_REPORT_READ: Row = Row {
     line: "verify-report --sdp p.sdp --report b.pcap a.pcap",
     ways: ONE_WAY,

@@ -1,11 +1,11 @@
-//! Standard output without room for all that is written, for each command but `check`.
+//! Standard output without room for the whole output, for each command except `check`.
 
 use super::plain::{MEASURED, PACKETS, PAGE_LINE};
 use crate::call::{ONE_WAY, PASS, Row, SINKS, Sinks, hold};
 use std::test::Fail;
 use timing_report::Status;
 
-// Standard output has room for the first 8 bytes of a text that is written in one piece.
+// Standard output has room for the first 8 bytes of a text that is written at once.
 static MEASURE_WITHOUT_ROOM: Row = Row {
     sinks: Sinks { room: 8, ..SINKS },
     status: Status::WriteFault,
@@ -19,7 +19,7 @@ fn measure_without_room(rt: HostRuntime) -> Result<(), Fail> {
     MEASURE_WITHOUT_ROOM.holds(&rt)
 }
 
-// A write of the header fails, or one of a row. A prefix of the text is written.
+// The write of the header fails, or that of a row. A prefix of the text is written.
 const SERIES_WITHOUT_ROOM_HEADER: Row = Row {
     sinks: Sinks { room: 8, ..SINKS },
     status: Status::WriteFault,

@@ -1,4 +1,4 @@
-//! That intakes and workers run beside each other.
+//! Intakes and workers run concurrently.
 
 use crate::call::{CHECK_TWO, Outcome, PASS, Row, SINKS, Step, UntoldSource, Watch, answered};
 use std::process::Abort;
@@ -9,11 +9,10 @@ use std::thread::Threads;
 use timing_outside::{Gate, MemoryShelf, NoGate, OpenFault, Shelf};
 use timing_report::Status;
 
-// How often a flag is looked at.
+// The number of times that a flag is read.
 const LOOKS: u32 = 200_000_000;
 
-// A gate at which the first intake and the first worker meet: each raises a flag, and looks for the
-// other's.
+// A gate at which the first intake and the first worker meet: each raises a flag, and waits for the flag of the other.
 #[derive(Drop)]
 struct Meeting {
     intake_came: AtomicBool,
@@ -90,7 +89,7 @@ fn two_threads_at_once(rt: HostRuntime) -> Result<(), Fail> {
     meets(&rt, &TWO_THREADS_AT_ONCE_SELF_TEST)
 }
 
-// What holds two intakes and a worker for each other: each raises a flag, and looks for another's.
+// The flags by which two intakes and a worker wait for each other: each raises one, and waits for another.
 #[derive(Drop)]
 struct Hall {
     a_began: AtomicBool,
@@ -116,7 +115,7 @@ fn empty_hall() -> Hall {
     }
 }
 
-// Raises a flag, looks for another, and notes whether that was seen.
+// Raises a flag, waits for another, and notes whether it was seen.
 fn holds(raised: &AtomicBool, other: &AtomicBool, saw: &AtomicBool) {
     raised.store(true, Ordering::SeqCst);
     saw.store(sees(other), Ordering::SeqCst);
@@ -130,10 +129,10 @@ impl Gate for Hall {
     }
 }
 
-// The byte past which no read goes, unless it begins there or later: 256 records end before it.
+// The byte at which a read that begins before it ends; 256 packet records end before it.
 const STOP: usize = 20_000;
 
-// Which text a source gives.
+// The file that a source is of.
 #[derive(Clone, Copy)]
 enum Name {
     A,
@@ -141,7 +140,7 @@ enum Name {
     Other,
 }
 
-// Holds a source at its first byte, and the first capture's at the stop too.
+// Holds each capture's source at its first byte, and that of the first capture also at `STOP`.
 #[derive(Drop)]
 struct Held<'a> {
     name: Name,
@@ -149,7 +148,7 @@ struct Held<'a> {
 }
 
 impl Held<'_> {
-    // Holds where a read begins at a byte at which it has to.
+    // Holds the source if a read begins at such a byte.
     fn hold(&self, taken: usize) {
         let hall = self.hall;
         match self.name {
@@ -174,7 +173,7 @@ impl Watch for Held<'_> {
     }
 }
 
-// A shelf of such sources, which counts how often each capture is fetched.
+// A shelf of such sources, which counts the fetches of each capture.
 #[derive(Drop)]
 struct HeldShelf<'a> {
     inner: MemoryShelf,
@@ -219,10 +218,6 @@ impl<'a> Shelf for HeldShelf<'a> {
         let UntoldSource { inner, .. } = source;
         self.inner.give_back(inner);
     }
-
-    fn note_change(&mut self, name: &str) {
-        self.inner.note_change(name);
-    }
 }
 
 // Two captures of 20 frames.
@@ -233,7 +228,7 @@ const LONG: Row = Row {
     ..PASS
 };
 
-// What a check on one thread prints of them.
+// The output of a check of them on one thread.
 fn printed<R: Abort + AllocGlobal + Wait + Threads + Sync>(rt: &R) -> Result<Outcome, Fail> {
     let mut shelf = LONG.shelf(rt.alloc())?;
     let found = answered(rt, CHECK_TWO, SINKS, &mut shelf, &NoGate)?;
@@ -241,7 +236,7 @@ fn printed<R: Abort + AllocGlobal + Wait + Threads + Sync>(rt: &R) -> Result<Out
     Ok(found)
 }
 
-// A check with a worker prints the same, and each capture is fetched once.
+// A check with a worker has the same output, and fetches each capture once.
 fn prints_in_hall<R: Abort + AllocGlobal + Wait + Threads + Sync>(
     rt: &R,
     hall: &Hall,
@@ -266,8 +261,8 @@ fn prints_in_hall<R: Abort + AllocGlobal + Wait + Threads + Sync>(
     Ok(())
 }
 
-// Both captures are read at once, and the worker takes before the first is read whole: a run that reads
-// one capture after the other, or judges only after all were read, would not see the flags.
+// Both captures are read at the same time, and the worker takes packets before the first capture is read whole. A run
+// that read one capture after the other, or judged only after all were read, would not see the flags.
 #[test]
 fn captures_are_read_and_judged_at_once(rt: HostRuntime) -> Result<(), Fail> {
     let wanted = printed(&rt)?;

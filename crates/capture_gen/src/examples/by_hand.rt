@@ -1,4 +1,4 @@
-//! A capture's parts, laid out by hand, and captures that are read in pieces.
+//! Parts of a capture, laid out by hand, and captures that are read in pieces.
 
 use std::alloc::Global;
 use timing_outside::{MemoryShelf, MemorySource, OpenFault, ReadPlan, Shelf};
@@ -8,7 +8,7 @@ pub const HEAD: [u8; 24] = [
     0x4d, 0x3c, 0xb2, 0xa1, 2, 0, 4, 0, 0, 0, 0, 0, 0, 0, 0, 0, 0, 0, 4, 0, 1, 0, 0, 0,
 ];
 
-/// The frame of packet 0 to port 50000 of 239.0.0.1, which doesn't end its group.
+/// The Ethernet frame of packet 0 to 239.0.0.1, port 50000, which has no marker.
 pub const FRAME: [u8; 56] = [
     0x01, 0x00, 0x5e, 0x00, 0x00, 0x01, 0x02, 0x00, 0x00, 0x00, 0x00, 0x01, 0x08, 0x00, // Ethernet
     0x45, 0x00, 0x00, 0x2a, 0x00, 0x00, 0x40, 0x00, 0x40, 0x11, 0x00, 0x00, // IPv4
@@ -18,8 +18,8 @@ pub const FRAME: [u8; 56] = [
     0x00, 0x00, // extended sequence number
 ];
 
-/// A source of this text, which comes in pieces of so many bytes, or of 1 for 0. The reads of these
-/// numbers fail.
+/// Returns a source of this text that gives at most `piece` bytes in a read, at least 1. The reads
+/// with these numbers, counted from 1, fail. Returns `Err` if memory runs out.
 pub fn source_of(
     alloc: Global,
     text: &[u8],

@@ -7,13 +7,13 @@ use crate::packet::Packet;
 use pcap_reader::file_head;
 use std::alloc::{AllocError, Global};
 
-/// The plain packets without the last one.
+/// The number of plain packets without the last one.
 const PACKETS: u8 = 40;
 
-/// Where the last byte of the address stands in the record of a packet.
+/// The place of the address's last byte in a packet record.
 const ADDRESS_END: usize = 49;
 
-/// A plain packet, counted from 0 with the one before the groups.
+/// Returns a plain packet, counted from 0 with the one before the frames.
 fn plain_packet(number: u8) -> Packet
     ensures { result.at < 2 ^ 61 }
 {
@@ -23,15 +23,16 @@ fn plain_packet(number: u8) -> Packet
     }
 }
 
-/// How much later a packet comes on the second path, in nanoseconds.
+/// Returns the delay of a packet on the second path, in nanoseconds.
 fn lateness(number: u8) -> u64
     ensures { result < 1000 }
 {
     if number == 4 { 900 } else { 150 }
 }
 
-/// The capture of a second path: the plain packets but the last, sent to 239.0.0.2, each 150 ns later
-/// but the fifth, which comes 900 ns later.
+/// Returns the capture of a second path: all plain packets except the last, sent to 239.0.0.2. Each
+/// comes 150 ns later than on the first path, the packet with number 4 900 ns later. Returns `Err`
+/// if memory runs out.
 pub fn second_path(alloc: Global) -> Result<Vec<u8>, AllocError> {
     let mut out = Vec::from_slice(alloc, &file_head())?;
     for number in 0..PACKETS {

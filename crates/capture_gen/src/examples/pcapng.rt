@@ -1,30 +1,30 @@
-//! Captures in the layout of pcapng (draft-ietf-opsawg-pcapng), little-endian.
+//! Captures in pcapng (draft-ietf-opsawg-pcapng), little-endian.
 
 use std::alloc::{AllocError, Global};
 
-/// A section: type, total length, byte order, version 1.0, length not told, total length.
+/// A section header: type, total length, byte order, version 1.0, no section length, total length.
 pub const SECTION: [u8; 28] = [
     0x0a, 0x0d, 0x0d, 0x0a, 28, 0, 0, 0, 0x4d, 0x3c, 0x2b, 0x1a, 1, 0, 0, 0, 255, 255, 255, 255,
     255, 255, 255, 255, 28, 0, 0, 0,
 ];
 
-/// An interface of stamps in nanoseconds: type, total length, link type 1, snaplen, option 9 and the
-/// last option, total length.
+/// An interface description with timestamps in nanoseconds: type, total length, link type 1,
+/// snaplen, option 9 and the end of the options, total length.
 pub const NANOS: [u8; 32] = [
     1, 0, 0, 0, 32, 0, 0, 0, 1, 0, 0, 0, 0, 0, 4, 0, 9, 0, 1, 0, 9, 0, 0, 0, 0, 0, 0, 0, 32, 0, 0,
     0,
 ];
 
-/// The same without options, so that stamps are microseconds.
+/// An interface description without options, so that timestamps are microseconds.
 pub const MICROS: [u8; 20] = [1, 0, 0, 0, 20, 0, 0, 0, 1, 0, 0, 0, 0, 0, 4, 0, 20, 0, 0, 0];
 
-/// Puts a number of 32 bits at the end of a file.
+/// Appends a 32-bit number to a file. Returns `Err` if memory runs out.
 pub fn push_number(file: &mut Vec<u8>, number: u32) -> Result<(), AllocError> {
     file.extend_from_slice(&number.to_le_bytes())
 }
 
-/// Puts an enhanced packet block at the end of a file: of this interface, with this stamp, these data,
-/// a whole number of words, and so many bytes behind them that stand for options.
+/// Appends an enhanced packet block to a file, with this interface, this timestamp, these data (a
+/// multiple of 4 bytes), and `options` bytes in place of options. Returns `Err` if memory runs out.
 pub fn push_packet(
     file: &mut Vec<u8>,
     interface: u32,
@@ -48,7 +48,7 @@ pub fn push_packet(
     push_number(file, total)
 }
 
-/// The number in the first four bytes.
+/// Returns the little-endian number in the first four bytes.
 fn little(bytes: &[u8]) -> u32 {
     let mut number = 0;
     for byte in bytes.iter().take(4).rev() {
@@ -57,7 +57,8 @@ fn little(bytes: &[u8]) -> u32 {
     number
 }
 
-/// A section with one interface, and a packet of another.
+/// Returns a file with a section of one interface, and a packet of another. Returns `Err` if memory
+/// runs out.
 pub fn without_interface(alloc: Global) -> Result<Vec<u8>, AllocError> {
     let mut file = Vec::from_slice(alloc, &SECTION)?;
     file.extend_from_slice(&NANOS)?;
@@ -65,8 +66,8 @@ pub fn without_interface(alloc: Global) -> Result<Vec<u8>, AllocError> {
     Ok(file)
 }
 
-/// A made capture, whose records have 72 bytes, as a pcapng file with one interface. Its stamps are
-/// divided by `unit` nanoseconds.
+/// Returns a made capture, with packet records of 72 bytes, as a pcapng file with one interface.
+/// Its timestamps are in units of `unit` nanoseconds. Returns `Err` if memory runs out.
 pub fn as_pcapng(
     alloc: Global,
     capture: &[u8],

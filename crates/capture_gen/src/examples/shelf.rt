@@ -1,9 +1,10 @@
-//! Texts on a shelf.
+//! Contents on a shelf.
 
 use std::alloc::{AllocError, Global};
 use timing_outside::{MemoryShelf, ReadPlan};
 
-/// Puts a copy of a text on a shelf, in the place of one of the same name.
+/// Puts a copy of these bytes on a shelf under this name, in place of any that were there. Returns
+/// `Err` if memory runs out.
 pub fn put(
     alloc: Global,
     shelf: &mut MemoryShelf,

@@ -1,4 +1,4 @@
-//! Captures by how their sender spreads the packets.
+//! Captures by the spacing of their packets.
 
 ghost use Rattle.std.specs.Prelude.{◌≡◌, ◌<◌, ◌*◌, ◌^◌};
 
@@ -6,25 +6,26 @@ use crate::packet::Packet;
 use pcap_reader::file_head;
 use std::alloc::{AllocError, Global};
 
-/// The second in which the first group begins, in nanoseconds since 1970-01-01 00:00:00.
+/// The second in which the first frame begins, in nanoseconds since 1970-01-01 00:00:00.
 const START: u64 = 1_600_000_000 * 1_000_000_000;
 
-/// A capture of packets that come in groups, the frames or fields of video, behind one packet that
-/// ends the group before them.
+/// A capture of groups of packets, which are the frames or fields of a video, after one packet that
+/// ends the frame before them.
 #[derive(Clone, Copy, Debug)]
 pub struct Spread {
-    /// When packet 0 of group 0 comes, in nanoseconds after second 1,600,000,000.
+    /// The capture timestamp of packet 0 of group 0, in nanoseconds after second 1,600,000,000.
     pub first: u32,
+    /// The number of groups.
     pub groups: u8,
-    /// The packets of each group.
+    /// The number of packets in each group.
     pub packets: u8,
-    /// From a group to the next, in nanoseconds.
+    /// The time from a group to the next, in nanoseconds.
     pub group_nanos: u32,
-    /// From a packet to the next of its group, in nanoseconds.
+    /// The time from a packet to the next of its group, in nanoseconds.
     pub packet_nanos: u32,
-    /// The group of which some packets come with packet 0.
+    /// The group in which some packets come together with packet 0, counted from 0.
     pub bunched: u8,
-    /// How many packets of that group come together, packet 0 among them.
+    /// The number of packets of that group that come together, including packet 0.
     pub at_once: u8,
 }
 
@@ -39,7 +40,7 @@ pub const NARROW: Spread = Spread {
     at_once: 1,
 };
 
-/// The packet that comes before the groups.
+/// The packet before the groups.
 pub const BEFORE: Packet = Packet {
     at: START - 1_000_000,
     timestamp: 0,
@@ -50,7 +51,8 @@ pub const BEFORE: Packet = Packet {
 impl Spread {
     ghost use Rattle.capture_gen.specs.Spreads.{instant, packet_at};
 
-    /// When a packet of a group comes, in nanoseconds since 1970-01-01 00:00:00.
+    /// Returns the capture timestamp of a packet, in nanoseconds since 1970-01-01 00:00:00. Groups,
+    /// and packets of a group (`place`), count from 0.
     fn instant(&self, group: u8, place: u8) -> u64
         ensures value { result ≡ instant self.now group place }
         ensures fits { result < 2 ^ 61 }
@@ -63,7 +65,7 @@ impl Spread {
         START + u64::from(self.first) + u64::from(self.group_nanos) * u64::from(group) + late
     }
 
-    /// A packet of a group.
+    /// Returns a packet of a group. Groups, and packets of a group (`place`), count from 0.
     pub fn packet(&self, group: u8, place: u8) -> Packet
         ensures value { result ≡ packet_at self.now group place }
         ensures fits { result.at < 2 ^ 61 }
@@ -76,7 +78,7 @@ impl Spread {
         }
     }
 
-    /// Adds the records of a group.
+    /// Appends the packet records of a group. Returns `Err` if memory runs out.
     fn add_group(&self, out: &mut Vec<u8>, group: u8) -> Result<(), AllocError> {
         for place in 0..self.packets {
             out.extend_from_slice(&self.packet(group, place).record())?;
@@ -84,7 +86,7 @@ impl Spread {
         Ok(())
     }
 
-    /// The capture.
+    /// Returns the whole capture. Returns `Err` if memory runs out.
     pub fn capture(&self, alloc: Global) -> Result<Vec<u8>, AllocError> {
         let mut out = Vec::from_slice(alloc, &file_head())?;
         out.extend_from_slice(&BEFORE.record())?;

@@ -1,4 +1,4 @@
--- What a capture holds, as lists.
+-- The result of a scan as lists, which the texts are functions of.
 use Rattle.std.specs.Prelude.{ℕ, List, Option}
 use Rattle.capture_scan.specs.declared.found.Found.{Found}
 use Rattle.capture_scan.specs.declared.found.PassedOver.{PassedOver}
@@ -6,7 +6,7 @@ use Rattle.capture_scan.specs.declared.found.Span.{Span}
 use Rattle.capture_scan.specs.declared.found.UnreadTarget.{UnreadTarget}
 use Rattle.capture_scan.specs.declared.stream.Stream.{Stream}
 
--- what is told of a capture; the fields are those of `Found`
+-- the result of a scan; the fields are those of `Found`
 pub record Contents : Type 0 where
   pub records : ℕ
   pub span : Option Span
@@ -15,6 +15,7 @@ pub record Contents : Type 0 where
   pub unread : List UnreadTarget
   pub more : ℕ
 
+-- the lists of a `Found`
 abbrev pub contents_of : Found → Contents
 contents_of found = record {
   records = found.records;

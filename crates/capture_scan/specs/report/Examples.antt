@@ -1,5 +1,5 @@
--- The contents of captures that are worked by hand. The first: 41 packets of one sender, 2 frames of 20 packets after a
--- packet with the marker, at 50 frames per second.
+-- The results of scans for the examples that are worked by hand. The first capture has 41 packets of one sender: one
+-- packet with the marker, and two frames of 20 packets at 50 frames per second.
 use Rattle.std.specs.Prelude.{ℕ, Bool, true, false, [], ◌∷◌, Some, None}
 use Rattle.timing_base.specs.declared.target.Target.{Target}
 use Rattle.capture_scan.specs.Examples.{order_with, pace_with, sender}
@@ -13,11 +13,11 @@ use Rattle.capture_scan.specs.report.Draft.{height_of, is_height_guessed}
 abbrev pub group : Target
 group = record { address = 0xef000001; port = 50000 }
 
--- no frame was passed over
+-- no frame without a target
 abbrev pub none_passed : PassedOver
 none_passed = record { empty = 0; tags = 0; ipv6 = 0; other = 0; not_udp = 0; fragment = 0; broken = 0 }
 
--- the stream; no packet has a line header
+-- the stream of the first capture; no packet has a line header
 abbrev pub plain_stream : Stream
 plain_stream = record {
   source = sender;
@@ -35,7 +35,7 @@ plain_stream = record {
   lines = None;
 }
 
--- a capture of so many records with this stream alone
+-- the first capture, with this stream alone
 abbrev pub plain_contents : Contents
 plain_contents = record {
   records = 41;
@@ -46,7 +46,7 @@ plain_contents = record {
   more = 0;
 }
 
--- a capture without a record
+-- a capture without packet records
 abbrev pub empty_contents : Contents
 empty_contents = record {
   records = 0;
@@ -57,23 +57,24 @@ empty_contents = record {
   more = 0;
 }
 
--- the height where lines up to this number were seen, counted from 0: of two fields, and of whole frames
+-- the height of a draft if lines up to number `greatest` (from 0) of two fields were seen
 abbrev pub fields_to : ℕ → ℕ
 fields_to greatest = height_of (Some (record { greatest = greatest; second_field = true; fits = true }))
 
+-- the height of a draft if lines up to number `greatest` (from 0) of whole frames were seen
 abbrev pub frames_to : ℕ → ℕ
 frames_to greatest = height_of (Some (record { greatest = greatest; second_field = false; fits = true }))
 
--- whether it is a guess
+-- whether that height of whole frames is a guess
 abbrev pub guessed_of_frames : ℕ → Bool
 guessed_of_frames greatest =
     is_height_guessed (Some (record { greatest = greatest; second_field = false; fits = true }))
 
--- so many ticks in so many steps
+-- a sum of ticks over this many steps
 abbrev pub ticks_in : ℕ → ℕ → Rate
 ticks_in ticks steps = record { ticks = ticks; steps = steps }
 
--- the stream with one packet lost, of fields with 540 lines each
+-- the stream with one packet lost, and with fields of 540 lines
 abbrev pub stream_of_fields : Stream
 stream_of_fields = record plain_stream {
   packets = 40;
@@ -82,14 +83,14 @@ stream_of_fields = record plain_stream {
   lines = Some (record { greatest = 539; second_field = true; fits = true });
 }
 
--- the stream with whole frames of which 478 lines were seen, at 12.5 frames per second
+-- the stream at 12.5 frames per second, with 478 lines seen of whole frames
 abbrev pub stream_of_478 : Stream
 stream_of_478 = record plain_stream {
   pace = Some (pace_with 20 20 7200 7200 14400 2);
   lines = Some (record { greatest = 477; second_field = false; fits = true });
 }
 
--- a stream of something else to the next port: a line header doesn't fit
+-- a stream of audio to the next port; a line header doesn't fit raw video
 abbrev pub stream_of_audio : Stream
 stream_of_audio = record plain_stream {
   target = record { address = 0xef000001; port = 50001 };
@@ -97,7 +98,8 @@ stream_of_audio = record plain_stream {
   lines = Some (record { greatest = 22253; second_field = true; fits = false });
 }
 
--- a capture with it, with frames that were passed over and packets that aren't told one by one
+-- a capture with the stream of fields, frames without a target, unread packets, and packets of streams that aren't
+-- listed
 abbrev pub mixed_contents : Contents
 mixed_contents = record {
   records = 51;

@@ -1,11 +1,11 @@
--- What a reader of session descriptions makes of a draft, and which videos a draft has. Lines count from 1.
+-- The media that the reader of SDP gets from a draft, and the conditions on the videos of a draft. Lines count from 1.
 use Rattle.std.specs.Prelude.{◌≡◌, ◌≤◌, ◌<◌, ◌+◌, ◌*◌, ◌^◌, ℕ, ⊤, false, List, [], ◌∷◌, None}
 use Rattle.timing_base.specs.Media.{Media}
 use Rattle.capture_scan.specs.declared.stream.Stream.{Stream}
 use Rattle.capture_scan.specs.report.Draft.{has_target}
 use Rattle.capture_scan.specs.declared.report.draft.DraftVideo.{DraftVideo}
 
--- the media of a video whose lines begin with this one; no sender type, offset or limit is declared
+-- the media of a video with its first line at this number; no sender type, TROFF or CMAX is declared
 abbrev pub media_at : ℕ → DraftVideo → Media
 media_at line v = record {
   line = line;
@@ -22,22 +22,22 @@ media_at line v = record {
   cmax = None;
 }
 
--- the media of videos from a line on: each has five lines
+-- the media of videos, the first of which begins at this line; each has five lines
 abbrev pub media_from : ℕ → List DraftVideo → List Media
 media_from line [] = []
 media_from line (v ∷ rest) = media_at line v ∷ media_from (line + 5) rest
 
--- the media of a draft: four lines are the session's
+-- the media of a draft; its first four lines are the session's
 abbrev pub media_of : List DraftVideo → List Media
 media_of videos = media_from 5 videos
 
--- no video has the target of an earlier one
+-- no two videos have the same target
 abbrev pub HaveOwnTargets : List DraftVideo → Type 0
 HaveOwnTargets [] = ⊤
 HaveOwnTargets (v ∷ rest) = (has_target v.target rest ≡ false) × HaveOwnTargets rest
 
--- a video has the ranges of a description: address, port and payload type, sizes of 1 to 32,767, and more than 0 and at
--- most 240 frames per second, as a fraction with a denominator of 1 to 1001
+-- the values of a video are in the ranges of an SDP: address, port and payload type, sizes of 1 to 32,767, and a rate
+-- above 0 and at most 240 frames per second, as a fraction with a denominator of 1 to 1001
 pub record IsDrafted (v : DraftVideo) : Type 0 where
   pub address : v.target.address < 2 ^ 32
   pub port_some : 1 ≤ v.target.port
@@ -52,7 +52,7 @@ pub record IsDrafted (v : DraftVideo) : Type 0 where
   pub seconds_some : 1 ≤ v.rate.q
   pub seconds : v.rate.q ≤ 1001
 
--- a stream's address, port and payload type have 32, 16 and 7 bits, as in a packet
+-- the address, port and payload type of a stream have 32, 16 and 7 bits, as in a packet
 pub record HasBits (s : Stream) : Type 0 where
   pub address : s.target.address < 2 ^ 32
   pub port : s.target.port < 2 ^ 16

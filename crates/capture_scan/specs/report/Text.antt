@@ -1,5 +1,5 @@
--- What a capture holds, as lines for eyes, each of which can be read alone. Streams and records count from 1, as do
--- lines of a picture; a line header counts them from 0.
+-- The result of a scan as lines of text, each of which can be read alone. Streams, packet records and lines of a
+-- picture count from 1; a line header counts lines from 0.
 -- This project's profile: the whole format.
 use Rattle.std.specs.Prelude.{ℕ, ◌+◌, ◌*◌, ◌/◌, ◌%◌, ◌==◌, max, Bool, if◌then◌else◌, List, [], ◌∷◌}
 use Rattle.std.specs.Prelude.{◌++◌, length}
@@ -26,11 +26,12 @@ heading name note c =
     codes "capture " ++ (name ++ (codes ": " ++ (note_text note ++ (codes ", " ++ (decimal c.records
     ++ (codes " records, " ++ (decimal (length c.streams) ++ codes " streams\n")))))))
 
--- `passed over N: WHAT`, where there is one
+-- `passed over N: WHAT`, if N isn't 0
 abbrev pub class_text : ℕ → List ℕ → List ℕ
 class_text frames what =
     if frames == 0 then codes "" else codes "passed over " ++ (decimal frames ++ (codes ": " ++ (what ++ codes "\n")))
 
+-- the lines of the frames without a target
 abbrev pub passed_over_text : PassedOver → List ℕ
 passed_over_text n =
     class_text n.empty (codes "no byte, or a packet of another link")
@@ -41,25 +42,25 @@ passed_over_text n =
     ++ (class_text n.fragment (codes "a fragment of a UDP datagram")
     ++ class_text n.broken (codes "IPv4 in a bad form, or cut short"))))))
 
--- `unread N: UDP to TARGET that isn't RTP`
+-- `unread N: UDP to TARGET that isn't RTP with an extended sequence number`
 abbrev pub unread_text : UnreadTarget → List ℕ
 unread_text unread =
     codes "unread " ++ (decimal unread.packets ++ (codes ": UDP to " ++ (target_text unread.target
     ++ codes " that isn't RTP with an extended sequence number\n")))
 
--- what isn't told one by one
+-- `more N: packets of further streams and targets`, if N isn't 0
 abbrev pub more_text : ℕ → List ℕ
 more_text more =
     if more == 0 then codes ""
     else codes "more " ++ (decimal more ++ codes ": packets of further streams and targets\n")
 
--- who sends to whom
+-- source, target, SSRC and payload type of a stream
 abbrev pub key_text : Stream → List ℕ
 key_text s =
     target_text s.source ++ (codes " to " ++ (target_text s.target ++ (codes ", ssrc " ++ (ssrc_text s.ssrc
     ++ (codes ", payload type " ++ (decimal s.pt ++ (codes " but for " ++ decimal s.pts)))))))
 
--- how many packets, where
+-- the counts of a stream, and its first and last packet record
 abbrev pub packets_text : Stream → List ℕ
 packets_text s =
     decimal s.packets ++ (codes " in records " ++ (decimal s.first.rec ++ (codes " to " ++ (decimal s.last.rec
@@ -69,29 +70,31 @@ packets_text s =
 abbrev pub range_text : Range → List ℕ
 range_text range = decimal range.least ++ (codes " to " ++ decimal range.greatest)
 
--- the nearest rate, where the least step is that of it
+-- the nearest known rate, if the least step is that of the rate
 abbrev pub known_rate : Bool → Pace → Option FrameRate
 known_rate fields pace =
     if has_steps_of fields pace.step (nearest fields pace.rate) then Some (nearest fields pace.rate) else None
 
+-- a rate, or that none is known
 abbrev pub known_text : Option FrameRate → List ℕ
 known_text None = codes "none that is known"
 known_text (Some rate) = rate_text rate
 
+-- a rate and the range of the steps
 abbrev pub steps_told : Option FrameRate → Range → List ℕ
 steps_told rate step = known_text rate ++ (codes ", steps of " ++ (range_text step ++ codes " ticks"))
 
--- the rate of frames, or of fields, and the steps of the timestamp from one marker to the next
+-- the frame rate, and the steps of the RTP timestamp from one marker to the next
 abbrev pub rate_told : Bool → Option Pace → List ℕ
 rate_told fields None = codes "not seen: fewer than two markers"
 rate_told fields (Some pace) = steps_told (known_rate fields pace) pace.step
 
--- the packets from one marker to the next
+-- the number of packets from one marker to the next
 abbrev pub frame_told : Option Pace → List ℕ
 frame_told None = codes "not seen: fewer than two markers"
 frame_told (Some pace) = range_text pace.frame ++ codes " packets"
 
--- the hundredths of a percent that are lost of what was sent, rounded down; 0 where nothing was sent
+-- the share of what was sent that is lost, in hundredths of a percent, rounded down
 abbrev pub lost_share : Stream → ℕ
 lost_share s = s.order.lost * 10000 / max 1 (s.packets + s.order.lost)
 
@@ -104,23 +107,23 @@ loss_text s =
     ++ (decimal s.order.same ++ (codes " repeated, " ++ (decimal s.order.wraps
     ++ codes " wraps without the extended number")))))))))))))
 
--- the lines of a picture, or of a field
+-- the lines that were seen, of a frame or of each field
 abbrev pub count_told : Lines → List ℕ
 count_told lines =
     if lines.second_field then decimal (lines.greatest + 1) ++ codes " in each of two fields"
     else decimal (lines.greatest + 1)
 
--- a stream of something else has none
+-- the lines that were seen; none if a line header doesn't fit raw video
 abbrev pub lines_told : Option Lines → List ℕ
 lines_told None = codes "not seen: no line header was captured"
 lines_told (Some lines) =
     if lines.fits then count_told lines else codes "none: not raw video, as a line header doesn't fit its packet"
 
--- a line of a stream
+-- a line of the stream with this number
 abbrev pub stream_line : ℕ → List ℕ → List ℕ → List ℕ
 stream_line number what told = codes "stream " ++ (decimal number ++ (what ++ (told ++ codes "\n")))
 
--- the stream with this number
+-- the lines of the stream with this number, from 1
 abbrev pub stream_text : ℕ → Stream → List ℕ
 stream_text number s =
     stream_line number (codes " from    ") (key_text s)
@@ -130,12 +133,12 @@ stream_text number s =
     ++ (stream_line number (codes " lost    ") (loss_text s)
     ++ stream_line number (codes " lines   ") (lines_told s.lines)))))
 
--- the streams from one on
+-- the lines of the streams from this number on
 abbrev pub streams_text : ℕ → List Stream → List ℕ
 streams_text number [] = []
 streams_text number (s ∷ rest) = stream_text number s ++ streams_text (number + 1) rest
 
--- the text
+-- the text of a scan
 abbrev pub contents_text : List ℕ → FileNote → Contents → List ℕ
 contents_text name note c =
     heading name note c

@@ -1,4 +1,4 @@
-//! A draft of a session description, made of the streams of a capture.
+//! A draft of a session description (SDP), made from the streams of a capture.
 
 ghost use Rattle.std.specs.Prelude.{◌≡◌, ◌++◌, ◌∷◌, [], ◌≤◌, IfOk, string_bytes};
 ghost use Rattle.std.specs.List.{flat_map};
@@ -10,10 +10,10 @@ use std::alloc::{AllocError as OutOfMemory, Global};
 use std::fmt;
 use timing_base::Target;
 
-/// What of a video is a guess, beside its width, which no packet says.
+/// The values of a video that are guesses. The width always is one, since no packet contains it.
 #[derive(Clone, Copy)]
 pub struct Guesses {
-    /// Lines were captured, but as many as were seen aren't in use.
+    /// Line headers were captured, and the lines seen aren't a height in use.
     pub height: bool,
     /// No known rate has a step within a hundredth of the mean.
     pub rate: bool,
@@ -24,29 +24,31 @@ pub struct Guesses {
 /// A video of a draft.
 #[derive(Clone, Copy)]
 pub struct DraftVideo {
-    /// Where the packets go; its port is above 0.
+    /// The destination address and port; the port is above 0.
     pub target: Target,
     /// The RTP payload type.
     pub pt: u8,
-    /// In pixels; a guess from the height.
+    /// The width in pixels, guessed from the height.
     pub width: u32,
-    /// In lines of a whole picture: the least height in use with as many lines as were seen, or up to four more, and
-    /// else as many as were seen; 1080 where no line header was captured.
+    /// The height in lines of a whole frame: the least height in use from the lines seen to four more; else the lines
+    /// seen, at most 32,767; 1080 if no line header was captured.
     pub height: u32,
     /// Whether a line of a second field was seen.
     pub interlaced: bool,
-    /// Frames per second; the slowest known rate where no step was seen.
+    /// The frame rate; 24000/1001 if no step was seen.
     pub rate: Ratio,
+    /// The values that are guesses.
     pub guesses: Guesses,
 }
 
-/// A draft of a session description: its videos, at most 64, each with a target of its own.
+/// A draft of an SDP: at most 64 videos, each with a target of its own.
 #[derive(Drop)]
 pub struct Draft {
+    /// The videos, in the order of the streams.
     pub videos: Vec<DraftVideo>,
 }
 
-/// Whether no line header was seen that doesn't fit raw video.
+/// Returns whether no line header was seen that doesn't fit raw video.
 fn is_raw(lines: Option<Lines>) -> bool
     ensures { result ≡ is_raw lines }
 {
@@ -56,7 +58,7 @@ fn is_raw(lines: Option<Lines>) -> bool
     }
 }
 
-/// Whether a line of a second field was seen.
+/// Returns whether a line of a second field was seen, and all line headers fit raw video.
 pub(crate) fn has_fields(lines: Option<Lines>) -> bool
     ensures { result ≡ has_fields lines }
 {
@@ -66,14 +68,14 @@ pub(crate) fn has_fields(lines: Option<Lines>) -> bool
     }
 }
 
-/// Whether whole frames of so many lines are in use.
+/// Returns whether this is a height in use.
 fn is_in_use(count: u32) -> bool
     ensures { result ≡ is_in_use count }
 {
     matches!(count, 2160 | 1080 | 720 | 576 | 486 | 480)
 }
 
-/// Whether so many lines are those of a height, or up to four fewer.
+/// Returns whether `height` is `count` lines, or up to four more.
 fn is_near(count: u32, height: u32) -> bool
     requires { count ≤ 131072 }
     ensures { result ≡ is_near count height }
@@ -81,7 +83,7 @@ fn is_near(count: u32, height: u32) -> bool
     count <= height && height <= count + 4
 }
 
-/// The least height in use of so many lines, or of up to four more.
+/// Returns the least height in use from `count` lines to four more.
 fn near_height(count: u32) -> Option<u32>
     requires { count ≤ 131072 }
     ensures { result ≡ near_height count }
@@ -103,8 +105,8 @@ fn near_height(count: u32) -> Option<u32>
     }
 }
 
-/// Whether so many lines are those of a field: a frame of twice as many has 2,160 at most, and they aren't near a height
-/// in use themselves.
+/// Returns whether these are the lines of one field: a frame of twice as many has at most 2,160, and no height in use
+/// is from `count` to four more.
 fn are_of_fields(count: u32) -> bool
     requires { count ≤ 65536 }
     ensures { result ≡ are_of_fields count }
@@ -112,8 +114,8 @@ fn are_of_fields(count: u32) -> bool
     2 * count <= 2160 && near_height(count).is_none()
 }
 
-/// The lines of a whole picture, as far as they were seen. Some senders number the lines of each field by
-/// themselves, and others those of both over the whole frame.
+/// Returns the lines of a whole frame, as far as they were seen. Some senders number the lines of each field from 0,
+/// others number those of both fields over the whole frame.
 fn seen_height(lines: Lines) -> u32
     ensures lines { result ≡ seen_height lines }
     ensures few { result ≤ 131072 }
@@ -126,7 +128,7 @@ fn seen_height(lines: Lines) -> u32
     }
 }
 
-/// The lines of a whole picture.
+/// Returns the height of the video: 1080 without a captured line header.
 fn height_of(lines: Option<Lines>) -> u32
     ensures { result ≡ height_of lines }
 {
@@ -137,7 +139,7 @@ fn height_of(lines: Option<Lines>) -> u32
     near_height(seen).unwrap_or(seen).min(32_767)
 }
 
-/// Whether lines were seen, and as many aren't in use.
+/// Returns whether lines were seen that aren't a height in use.
 fn is_height_guessed(lines: Option<Lines>) -> bool
     ensures { result ≡ is_height_guessed lines }
 {
@@ -147,7 +149,7 @@ fn is_height_guessed(lines: Option<Lines>) -> bool
     }
 }
 
-/// The pixels of a line that go with a height.
+/// Returns the width in pixels that goes with a height.
 fn width_of(height: u32) -> u32
     requires { height ≤ 32767 }
     ensures { result ≡ width_of height }
@@ -161,7 +163,7 @@ fn width_of(height: u32) -> u32
     }
 }
 
-/// The rate, as far as it was seen.
+/// Returns the frame rate: 24000/1001 if no step was seen.
 fn rate_of(fields: bool, pace: Option<Pace>) -> Ratio
     ensures { result ≡ rate_of fields pace }
 {
@@ -171,7 +173,7 @@ fn rate_of(fields: bool, pace: Option<Pace>) -> Ratio
     }
 }
 
-/// Whether the rate isn't one that is known.
+/// Returns whether no known rate has a step within a hundredth of the mean.
 fn is_rate_guessed(fields: bool, pace: Option<Pace>) -> bool
     ensures { result ≡ is_rate_guessed fields pace }
 {
@@ -182,7 +184,7 @@ fn is_rate_guessed(fields: bool, pace: Option<Pace>) -> bool
 }
 
 impl Guesses {
-    /// What of a stream's video is a guess.
+    /// Returns which values of the video of a stream are guesses.
     fn of(stream: &Stream) -> Guesses
         ensures { result ≡ guesses_of stream.now }
     {
@@ -195,7 +197,7 @@ impl Guesses {
 }
 
 impl DraftVideo {
-    /// The video of a stream.
+    /// Returns the video of a stream.
     fn of(stream: &Stream) -> DraftVideo
         ensures { result ≡ video_of stream.now }
     {
@@ -213,7 +215,7 @@ impl DraftVideo {
     }
 }
 
-/// Whether one of the videos has this target.
+/// Returns whether one of the videos has this target.
 fn has_target(target: Target, videos: &[DraftVideo]) -> bool
     ensures { result ≡ has_target target videos.now }
 {
@@ -225,7 +227,7 @@ fn has_target(target: Target, videos: &[DraftVideo]) -> bool
     false
 }
 
-/// Whether a stream adds its video to these.
+/// Returns whether a stream adds its video to these.
 fn is_added(videos: &[DraftVideo], stream: &Stream) -> bool
     ensures { result ≡ is_added videos.now stream.now }
 {
@@ -235,9 +237,12 @@ fn is_added(videos: &[DraftVideo], stream: &Stream) -> bool
 }
 
 impl Draft {
-    /// The draft of these streams: a video for each stream that has three markers or more, a target port above 0 and
-    /// no line header that doesn't fit raw video, in order, at most 64 of them, and each target once. `Err` is want of
-    /// memory.
+    /// Returns the draft of these streams.
+    ///
+    /// A stream has a video if it has three markers or more, a target port above 0 and no line header that doesn't fit
+    /// raw video. Streams are taken in order, up to 64 videos, and only the first with each target.
+    ///
+    /// Returns `Err` if memory runs out.
     pub fn of(alloc: Global, streams: &[Stream]) -> Result<Draft, OutOfMemory>
         ensures { IfOk result (λ draft. draft.videos.items ≡ videos_of streams.now) }
     {
@@ -250,7 +255,7 @@ impl Draft {
         Ok(Draft { videos })
     }
 
-    /// The draft as a session description. `Err` is want of memory.
+    /// Returns the draft as the text of an SDP. Returns `Err` if memory runs out.
     pub fn text(&self, alloc: Global) -> Result<String, OutOfMemory>
         ensures { IfOk result (λ s. string_bytes s ≡ draft_text self.now.videos.items) }
     {
@@ -261,7 +266,7 @@ impl Draft {
     }
 }
 
-/// An address of a connection.
+/// An address of a line `c=`, with `/32` as the TTL if it is a multicast address.
 #[derive(Clone, Copy)]
 struct ConnectionText {
     address: u32,
@@ -283,7 +288,7 @@ impl fmt::Display for ConnectionText {
     }
 }
 
-/// That the pictures are two fields each, where they are.
+/// The parameter `interlace` if frames have two fields, else nothing.
 #[derive(Clone, Copy)]
 struct InterlaceText {
     interlaced: bool,
@@ -326,14 +331,14 @@ fn add_video(text: &mut String, video: &DraftVideo) -> Result<(), OutOfMemory>
     add_parameters(text, video)
 }
 
-/// Adds the line of the port and the payload type.
+/// Adds the line `m=`, with the port and the payload type.
 fn add_media(text: &mut String, video: &DraftVideo) -> Result<(), OutOfMemory>
     ensures { IfOk result (λ _. string_bytes text.new ≡ string_bytes text.old ++ media_line video.now) }
 {
     writeln!(text, "m=video {} RTP/AVP {}", video.target.port, video.pt)
 }
 
-/// Adds a guess, if it is one.
+/// Adds `what` if it is a guess.
 fn add_guess(text: &mut String, is_guess: bool, what: &str) -> Result<(), OutOfMemory>
     ensures { IfOk result (λ _. string_bytes text.new ≡ string_bytes text.old ++ guess_text is_guess what.now) }
 {
@@ -344,7 +349,7 @@ fn add_guess(text: &mut String, is_guess: bool, what: &str) -> Result<(), OutOfM
     }
 }
 
-/// Adds what is a guess beside the width, and the end of the line.
+/// Adds the guesses besides the width, and the newline.
 fn add_others(text: &mut String, guesses: Guesses) -> Result<(), OutOfMemory>
     ensures { IfOk result (λ _. string_bytes text.new ≡ string_bytes text.old ++ guesses_text guesses) }
 {
@@ -354,7 +359,7 @@ fn add_others(text: &mut String, guesses: Guesses) -> Result<(), OutOfMemory>
     text.push_str("\n")
 }
 
-/// Adds the line of what is a guess.
+/// Adds the line `i=`, with the list of guesses.
 fn add_guesses(text: &mut String, video: &DraftVideo) -> Result<(), OutOfMemory>
     ensures { IfOk result (λ _. string_bytes text.new ≡ string_bytes text.old ++ guess_line video.now) }
 {
@@ -362,7 +367,7 @@ fn add_guesses(text: &mut String, video: &DraftVideo) -> Result<(), OutOfMemory>
     add_others(text, video.guesses)
 }
 
-/// Adds the line of the address.
+/// Adds the line `c=`, with the address.
 fn add_connection(text: &mut String, video: &DraftVideo) -> Result<(), OutOfMemory>
     ensures { IfOk result (λ _. string_bytes text.new ≡ string_bytes text.old ++ connection_line video.now) }
 {
@@ -372,14 +377,14 @@ fn add_connection(text: &mut String, video: &DraftVideo) -> Result<(), OutOfMemo
     writeln!(text, "c=IN IP4 {address}")
 }
 
-/// Adds the line of the payload format.
+/// Adds the line `a=rtpmap`, with the payload format.
 fn add_map(text: &mut String, video: &DraftVideo) -> Result<(), OutOfMemory>
     ensures { IfOk result (λ _. string_bytes text.new ≡ string_bytes text.old ++ map_line video.now) }
 {
     writeln!(text, "a=rtpmap:{} raw/90000", video.pt)
 }
 
-/// Adds the line of the parameters.
+/// Adds the line `a=fmtp`, with the parameters.
 fn add_parameters(text: &mut String, video: &DraftVideo) -> Result<(), OutOfMemory>
     ensures { IfOk result (λ _. string_bytes text.new ≡ string_bytes text.old ++ parameter_line video.now) }
 {

@@ -1,4 +1,4 @@
-//! What a capture holds as JSON.
+//! Writes the result of a scan as JSON.
 
 ghost use Rattle.std.specs.Prelude.{◌≡◌, ◌++◌, ◌<◌, ◌^◌, IfOk, map, codes, string_bytes};
 ghost use Rattle.serde_json.specs.View.{view};
@@ -16,14 +16,14 @@ use timing_base::{FileNote, Target};
 use timing_report::json_report::Object;
 use timing_report::{NoteText, SsrcText};
 
-/// An address and a port.
+/// Returns the JSON of an address and a port.
 fn target_value(alloc: Global, target: Target) -> Result<Value, OutOfMemory>
     ensures { IfOk result (λ value. view value ≡ target_data target) }
 {
     Ok(Value::from(format!(in alloc; "{target}")?))
 }
 
-/// The stamps of the first record and the last, where there is one.
+/// Adds the capture timestamps of the first and the last packet record, if there is a record.
 fn put_span(object: &mut Object, span: Option<Span>) -> Result<(), OutOfMemory>
     ensures { IfOk result (λ _. Puts (span_members span) object.old object.new) }
 {
@@ -36,7 +36,7 @@ fn put_span(object: &mut Object, span: Option<Span>) -> Result<(), OutOfMemory>
     }
 }
 
-/// The frames without a target, by class.
+/// Returns the JSON of the numbers of frames without a target, by class.
 fn passed_over_value(alloc: Global, classes: &PassedOver) -> Result<Value, OutOfMemory>
     ensures { IfOk result (λ value. view value ≡ passed_over_data classes.now) }
 {
@@ -51,7 +51,7 @@ fn passed_over_value(alloc: Global, classes: &PassedOver) -> Result<Value, OutOf
     Ok(object.into_value())
 }
 
-/// The unread packets of a target.
+/// Returns the JSON of a target with unread packets.
 fn unread_value(alloc: Global, unread: &UnreadTarget) -> Result<Value, OutOfMemory>
     ensures { IfOk result (λ value. view value ≡ unread_data unread.now) }
 {
@@ -61,7 +61,7 @@ fn unread_value(alloc: Global, unread: &UnreadTarget) -> Result<Value, OutOfMemo
     Ok(object.into_value())
 }
 
-/// The targets with unread packets.
+/// Returns the JSON of the targets with unread packets.
 fn unread_values(alloc: Global, unread: &[UnreadTarget]) -> Result<Value, OutOfMemory>
     ensures { IfOk result (λ value. view value ≡ list_of (map unread_data unread.now)) }
 {
@@ -72,7 +72,7 @@ fn unread_values(alloc: Global, unread: &[UnreadTarget]) -> Result<Value, OutOfM
     Ok(Value::Array(values))
 }
 
-/// When a packet came.
+/// Returns the JSON of the packet record and the capture timestamp of a packet.
 fn arrival_value(alloc: Global, arrival: Arrival) -> Result<Value, OutOfMemory>
     ensures { IfOk result (λ value. view value ≡ arrival_data arrival) }
 {
@@ -82,7 +82,7 @@ fn arrival_value(alloc: Global, arrival: Arrival) -> Result<Value, OutOfMemory>
     Ok(object.into_value())
 }
 
-/// The least and the greatest of some numbers.
+/// Returns the JSON of the least and the greatest of some numbers.
 fn range_value(alloc: Global, range: Range) -> Result<Value, OutOfMemory>
     ensures { IfOk result (λ value. view value ≡ range_data range) }
 {
@@ -92,7 +92,7 @@ fn range_value(alloc: Global, range: Range) -> Result<Value, OutOfMemory>
     Ok(object.into_value())
 }
 
-/// The ticks of so many steps.
+/// Returns the JSON of a sum of ticks and its number of steps.
 fn rate_value(alloc: Global, rate: Rate) -> Result<Value, OutOfMemory>
     requires { rate.ticks < 2 ^ 64 }
     ensures { IfOk result (λ value. view value ≡ rate_data rate) }
@@ -103,7 +103,7 @@ fn rate_value(alloc: Global, rate: Rate) -> Result<Value, OutOfMemory>
     Ok(object.into_value())
 }
 
-/// The rate, where its ticks have 64 bits.
+/// Adds the rate, if its sum of ticks has at most 64 bits.
 fn put_rate(object: &mut Object, alloc: Global, rate: Rate) -> Result<(), OutOfMemory>
     ensures { IfOk result (λ _. Puts (rate_members rate) object.old object.new) }
 {
@@ -114,7 +114,7 @@ fn put_rate(object: &mut Object, alloc: Global, rate: Rate) -> Result<(), OutOfM
     }
 }
 
-/// From one packet with the marker to the next, where there are two.
+/// Adds the numbers from one packet with the marker to the next, if there are two such packets.
 fn put_pace(object: &mut Object, alloc: Global, pace: Option<Pace>) -> Result<(), OutOfMemory>
     ensures { IfOk result (λ _. Puts (pace_members pace) object.old object.new) }
 {
@@ -128,7 +128,7 @@ fn put_pace(object: &mut Object, alloc: Global, pace: Option<Pace>) -> Result<()
     }
 }
 
-/// The first line headers, where there is one and all fit raw video.
+/// Adds the numbers of the first line headers, if there is one and all fit raw video.
 fn put_lines(object: &mut Object, lines: Option<Lines>) -> Result<(), OutOfMemory>
     ensures { IfOk result (λ _. Puts (lines_members lines) object.old object.new) }
 {
@@ -144,7 +144,7 @@ fn put_lines(object: &mut Object, lines: Option<Lines>) -> Result<(), OutOfMemor
     }
 }
 
-/// Who sends what to whom.
+/// Adds source, target, SSRC and payload type of a stream.
 fn put_key(object: &mut Object, alloc: Global, stream: &Stream) -> Result<(), OutOfMemory>
     ensures { IfOk result (λ _. Puts (key_members stream.now) object.old object.new) }
 {
@@ -157,7 +157,7 @@ fn put_key(object: &mut Object, alloc: Global, stream: &Stream) -> Result<(), Ou
     object.put_count("pts", stream.pts)
 }
 
-/// How many packets, and when.
+/// Adds the counts of a stream, and its first and last packet.
 fn put_packets(object: &mut Object, alloc: Global, stream: &Stream) -> Result<(), OutOfMemory>
     ensures { IfOk result (λ _. Puts (packet_members stream.now) object.old object.new) }
 {
@@ -168,7 +168,7 @@ fn put_packets(object: &mut Object, alloc: Global, stream: &Stream) -> Result<()
     object.put("last", arrival_value(alloc, stream.last)?)
 }
 
-/// The order of the sequence numbers.
+/// Adds the order of the sequence numbers.
 fn put_order(object: &mut Object, order: Order) -> Result<(), OutOfMemory>
     ensures { IfOk result (λ _. Puts (order_members order) object.old object.new) }
 {
@@ -178,7 +178,7 @@ fn put_order(object: &mut Object, order: Order) -> Result<(), OutOfMemory>
     object.put_count("wraps", order.wraps)
 }
 
-/// A stream.
+/// Returns the JSON of a stream.
 fn stream_value(alloc: Global, stream: &Stream) -> Result<Value, OutOfMemory>
     ensures { IfOk result (λ value. view value ≡ stream_data stream.now) }
 {
@@ -191,7 +191,7 @@ fn stream_value(alloc: Global, stream: &Stream) -> Result<Value, OutOfMemory>
     Ok(object.into_value())
 }
 
-/// The streams.
+/// Returns the JSON of the streams.
 fn stream_values(alloc: Global, streams: &[Stream]) -> Result<Value, OutOfMemory>
     ensures { IfOk result (λ value. view value ≡ list_of (map stream_data streams.now)) }
 {
@@ -202,7 +202,7 @@ fn stream_values(alloc: Global, streams: &[Stream]) -> Result<Value, OutOfMemory
     Ok(Value::Array(values))
 }
 
-/// The capture: its name and how it ends, and its records.
+/// Adds the name of the capture, how it ends, and the numbers of its packet records.
 fn put_file(
     object: &mut Object,
     alloc: Global,
@@ -222,7 +222,7 @@ fn put_file(
     put_span(object, found.span)
 }
 
-/// What the capture holds.
+/// Adds the targets with unread packets, and the streams.
 fn put_held(object: &mut Object, alloc: Global, found: &Found) -> Result<(), OutOfMemory>
     ensures { IfOk result (λ _. Puts (held_members (contents_of found.now)) object.old object.new) }
 {
@@ -230,7 +230,7 @@ fn put_held(object: &mut Object, alloc: Global, found: &Found) -> Result<(), Out
     object.put("streams", stream_values(alloc, found.streams.as_slice())?)
 }
 
-/// The whole as a value.
+/// Returns the whole result as a JSON value.
 fn value_of(alloc: Global, name: &str, note: FileNote, found: &Found) -> Result<Value, OutOfMemory>
     ensures { IfOk result (λ value. view value ≡ contents_data name.now note (contents_of found.now)) }
 {
@@ -240,12 +240,17 @@ fn value_of(alloc: Global, name: &str, note: FileNote, found: &Found) -> Result<
     Ok(object.into_value())
 }
 
-/// What a capture of this name holds, as one JSON value and a line end. `note` says how the capture ends. `Err` is
-/// want of memory.
+/// Returns the result of a scan as one JSON value and a newline. `name` is the name of the capture, and `note` how it
+/// ends. The keys of each object stand in byte order.
 ///
-/// The keys of each object stand in byte order. Missing are `first` and `last` where there is no record; of a stream
-/// `frame`, `step` and `rate` where it hasn't two markers, `rate` also where its ticks have more than 64 bits, and
-/// `line` and `second_field` where no packet reaches through a line header, or one of the headers doesn't fit raw video.
+/// These keys may be missing:
+///
+/// - `first` and `last` of the capture, if it has no packet record;
+/// - `frame`, `step` and `rate` of a stream, if it has fewer than two packets with the marker;
+/// - `rate`, if its sum of ticks has more than 64 bits;
+/// - `line` and `second_field`, if no line header was captured whole, or one doesn't fit raw video.
+///
+/// Returns `Err` if memory runs out.
 pub fn json_of(
     alloc: Global,
     name: &str,

@@ -1,4 +1,5 @@
-//! The texts tried by hand. Each function is a theorem: it does nothing, and its clauses are proved.
+//! Texts of scans that are worked by hand, and laws of drafts. Each function is a theorem: it does nothing, and its
+//! clauses are proved.
 
 ghost use Rattle.std.specs.Prelude.{◌≡◌, ◌≤◌, ◌*◌, ◌++◌, ◌∷◌, [], All, List, None, Ok, Some, codes, false, is_none, length, map, not, true};
 ghost use Rattle.std.specs.List.{list_any};
@@ -31,7 +32,7 @@ pub fn plain_json_by_hand()
         ++ codes "\"wraps\":0}],\"unread\":[]}\n")))))))) }
 {}
 
-/// The whole JSON of a capture without a record.
+/// The whole JSON of a capture without packet records.
 #[tactic(auto, unfolding(crate::proofs::lemmas::report::Numerals::scan_texts))]
 pub fn empty_json_by_hand()
     ensures { json_text (codes "e.pcap") (note.Cut 24) empty_contents
@@ -40,13 +41,13 @@ pub fn empty_json_by_hand()
         ++ codes "\"records\":0,\"streams\":[],\"unread\":[]}\n") }
 {}
 
-/// The ticks of each known rate are right: frames per second times the ticks of a frame are 90,000 ticks.
+/// The eighths of a tick of each known rate: the rate times the ticks of a frame is 90,000 ticks per second.
 pub fn known_rates_by_hand()
     ensures { map (λ r. r.eighths * numerator r) (slowest ∷ faster) ≡ map (λ r. 720000 * denominator r) (slowest ∷ faster) }
 {}
 
-/// The nearest rates: of 1501.5 ticks, half-way between 1501.5 and 1500 ticks and below, of fields of 1501.5 ticks, and
-/// of steps that are longer or shorter than all.
+/// The nearest rates: of a mean step of 1501.5 ticks, of one half-way between 1501.5 and 1500 ticks and of one below
+/// that, of fields of 1501.5 ticks, and of steps that are longer or shorter than those of all known rates.
 pub fn nearest_by_hand()
     ensures near { nearest false (ticks_in 3003 2) ≡ slowed 60 12012 }
     ensures half_way { nearest false (ticks_in 6003 4) ≡ slowed 60 12012 }
@@ -56,7 +57,7 @@ pub fn nearest_by_hand()
     ensures short { nearest false (ticks_in 1 1) ≡ exact 120 6000 }
 {}
 
-/// Rates as people say them.
+/// The texts of frame rates.
 #[tactic(auto, unfolding(crate::proofs::lemmas::report::Numerals::scan_texts))]
 pub fn rates_by_hand()
     ensures film { rate_text (slowed 24 30030) ≡ codes "23.98 frames per second (24000/1001)" }
@@ -65,9 +66,10 @@ pub fn rates_by_hand()
     ensures whole { rate_text (exact 50 14400) ≡ codes "50 frames per second" }
 {}
 
-/// The rate of a draft by the mean step: known ones; 50 frames per second up to means of which its 1,800 ticks are 99 and
-/// 101 hundredths; and means that aren't within a hundredth of any: 12.5 frames per second, of frames and of fields, 2.4,
-/// 374 ticks, which are above 240 frames per second, and no tick.
+/// The frame rate of a draft. `whole` to `fields`: known rates. `low` to `higher`: 50 frames per second has steps of
+/// 1,800 ticks, and is taken for means of which these are 99 to 101 hundredths. The others aren't within a hundredth of
+/// any known rate: 12.5 frames per second, of frames and of fields; 2.4; 374 ticks, which would be above 240 frames per
+/// second; and 0 ticks.
 #[tactic(auto, unfolding(crate::proofs::lemmas::report::Numerals::scan_texts))]
 pub fn drafted_rates_by_hand()
     ensures whole { drafted_rate false (ticks_in 3600 2) ≡ ratio_with 50 1 }
@@ -84,15 +86,17 @@ pub fn drafted_rates_by_hand()
     ensures none { drafted_rate false (ticks_in 0 1) ≡ ratio_with 120 1 }
 {}
 
-/// A rate whose denominator in lowest terms would be above 1001 isn't measured: of 7207 ticks 24000/1001 is the nearest.
+/// A rate with a denominator above 1001 in lowest terms isn't measured: of a step of 7207 ticks the nearest rate is
+/// 24000/1001.
 #[tactic(auto, unfolding(crate::proofs::lemmas::report::Numerals::scan_texts))]
 pub fn long_denominator_by_hand()
     ensures { drafted_rate false (ticks_in 7207 1) ≡ ratio_with 24000 1001 }
 {}
 
-/// The height of a draft by the greatest line number and the second field: fields of 1080, 576, 486 and 480 lines that are
-/// numbered by themselves or over the whole frame, whole frames, up to four lines fewer than a height in use and five
-/// fewer, fields that would have more than 2,160 lines, heights that aren't in use, and no line.
+/// The height of a draft. `fields` and `over_frame`: fields with lines numbered within the field, or over the whole
+/// frame. `frames`: whole frames. `near` and `fewer`: up to four lines fewer than a height in use, and five fewer.
+/// `near_fields` and `others`: the same for fields, heights not in use, and fields that would make more than 2,160
+/// lines. `greatest`: the greatest line number. `no_line`: no line header. `guessed`: which heights are guesses.
 pub fn heights_by_hand()
     ensures fields { map fields_to (539 ∷ 287 ∷ 242 ∷ 239 ∷ []) ≡ 1080 ∷ 576 ∷ 486 ∷ 480 ∷ [] }
     ensures over_frame { map fields_to (1079 ∷ 575 ∷ 485 ∷ 479 ∷ []) ≡ 1080 ∷ 576 ∷ 486 ∷ 480 ∷ [] }
@@ -106,7 +110,7 @@ pub fn heights_by_hand()
     ensures guessed { map guessed_of_frames (1079 ∷ 1078 ∷ 599 ∷ []) ≡ false ∷ true ∷ true ∷ [] }
 {}
 
-/// The whole draft of a stream.
+/// The whole draft of one stream.
 #[tactic(auto, unfolding(crate::proofs::lemmas::report::Numerals::scan_texts))]
 pub fn plain_draft_by_hand()
     ensures { draft_text (videos_of plain_contents.streams)
@@ -116,7 +120,7 @@ pub fn plain_draft_by_hand()
         ++ codes "a=fmtp:96 width=1920; height=1080; exactframerate=50; \n")) }
 {}
 
-/// The draft of a stream of fields, and of a second one to the same target, which has no video.
+/// The draft of a stream of fields, and of a second stream to the same target, which adds no video.
 #[tactic(auto, unfolding(crate::proofs::lemmas::report::Numerals::scan_texts))]
 pub fn fields_draft_by_hand()
     ensures { draft_text (videos_of (stream_of_fields ∷ plain_stream ∷ []))
@@ -126,8 +130,7 @@ pub fn fields_draft_by_hand()
         ++ codes "a=fmtp:96 width=1920; height=1080; exactframerate=30000/1001; interlace; \n")) }
 {}
 
-/// The draft of a stream of audio, which has no video, and of one of which 478 lines were seen, at 12.5 frames per
-/// second.
+/// The draft of a stream of audio, which adds no video, and of a stream with 478 lines seen, at 12.5 frames per second.
 #[tactic(auto, unfolding(crate::proofs::lemmas::report::Numerals::scan_texts))]
 pub fn guessed_draft_by_hand()
     ensures { draft_text (videos_of (stream_of_audio ∷ stream_of_478 ∷ []))
@@ -152,8 +155,8 @@ pub fn plain_text_by_hand()
         ++ codes "stream 1 lines   not seen: no line header was captured\n"))))))) }
 {}
 
-/// The whole text of a capture with frames that were passed over, unread packets, further streams, and a stream of
-/// fields with a loss.
+/// The whole text of a capture with frames without a target, unread packets, packets of streams that aren't listed, and
+/// a stream of fields with a lost packet.
 #[tactic(auto, unfolding(crate::proofs::lemmas::report::Numerals::scan_texts))]
 pub fn mixed_text_by_hand()
     ensures { contents_text (codes "b.pcap") (note.Cut 2904) mixed_contents
@@ -172,9 +175,9 @@ pub fn mixed_text_by_hand()
         ++ codes "stream 1 lines   540 in each of two fields\n"))))))))))) }
 {}
 
-/// What is said of a stream's video to be a guess is exactly what is one. The rate: where the step of no known rate is
-/// within a hundredth of the mean. The height: where lines were seen and as many aren't in use; else it is that of the
-/// lines that were seen. That lines weren't captured: where none was.
+/// The list of guesses is exact. The rate is a guess if no known rate has a step within a hundredth of the mean. The
+/// height is a guess if line headers were captured and the lines seen aren't a height in use; if it isn't a guess, it
+/// is the lines seen. `lines not captured` stands there if no line header was captured.
 pub fn guesses_are_exact()
     ensures rate { (s : Stream) (pace : Pace) → s.pace ≡ Some pace
         → (video_of s).guesses.rate ≡ not (list_any (is_within (has_fields s.lines) pace.rate) (slowest ∷ faster)) }
@@ -184,26 +187,26 @@ pub fn guesses_are_exact()
     ensures lines { (s : Stream) → (video_of s).guesses.lines ≡ is_none s.lines }
 {}
 
-/// A stream of something else has no video: one of whose line headers one doesn't fit raw video.
+/// A stream with a line header that doesn't fit raw video has no video.
 pub fn other_streams_have_no_video()
     ensures { (videos : List DraftVideo) (s : Stream) → is_raw s.lines ≡ false → is_added videos s ≡ false }
 {}
 
-/// A draft is read back as the media that it was made from: videos with the ranges of a description and targets of
-/// their own, 1 to 64, are the session of their draft, with each one's address, port, payload type, sizes, rate and
-/// interlace, and no sender type.
+/// A draft is read back as the media that it was made from: address, port, payload type, sizes, rate and `interlace` of
+/// each video, and no sender type. This holds of 1 to 64 videos with values in the ranges of an SDP and different
+/// targets.
 pub fn drafts_are_read_back()
     ensures { (videos : List DraftVideo) → All IsDrafted videos → HaveOwnTargets videos → 1 ≤ length videos
         → length videos ≤ 64 → session (draft_text videos) ≡ Ok (media_of videos) }
 {}
 
-/// The videos of streams have targets of their own, and are at most 64.
+/// The videos of streams have different targets, and are at most 64.
 pub fn drafts_have_own_targets()
     ensures own { (streams : List Stream) → HaveOwnTargets (videos_of streams) }
     ensures few { (streams : List Stream) → length (videos_of streams) ≤ 64 }
 {}
 
-/// So the draft of streams is read back as their videos, where it has one.
+/// The draft of streams is read back as their videos, if it has at least one.
 pub fn streams_are_read_back()
     ensures { (streams : List Stream) → All HasBits streams → 1 ≤ length (videos_of streams)
         → session (draft_text (videos_of streams)) ≡ Ok (media_of (videos_of streams)) }

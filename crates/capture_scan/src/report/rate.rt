@@ -1,4 +1,4 @@
-//! Frame rates: those that are known, and what a draft says.
+//! Frame rates: the known ones, and the rate of a draft.
 
 ghost use Rattle.std.specs.Prelude.{◌≡◌, ◌≢◌, ◌≤◌, ◌<◌, ◌^◌, IfSome};
 ghost use Rattle.capture_scan.specs.report.Rates.{denominator_from, drafted_rate, frames_in, has_steps_of, is_known, is_slow, is_within, limited, measured, nearest, ratio_of, slowest};
@@ -6,27 +6,27 @@ ghost use Rattle.capture_scan.specs.report.Rates.{denominator_from, drafted_rate
 use crate::{Range, Rate};
 use std::fmt;
 
-/// A frame rate that is known.
+/// A known frame rate.
 #[derive(Clone, Copy)]
 pub struct FrameRate {
-    /// Frames per second, of which `slowed` leaves 1000/1001.
+    /// The frames per second, before `slowed` applies.
     pub whole: u16,
     /// Whether the rate is 1000/1001 of `whole`.
     pub slowed: bool,
-    /// The ticks of a frame at 90 kHz, in eighths of a tick.
+    /// The duration of a frame in eighths of a tick of 90 kHz.
     pub eighths: u16,
 }
 
 /// A frame rate as a fraction in lowest terms: `p` frames in `q` seconds.
 #[derive(Clone, Copy)]
 pub struct Ratio {
-    /// At least 1, and at most 240 for each second.
+    /// The frames, from 1 to 240 for each second.
     pub p: u32,
-    /// 1 to 1001.
+    /// The seconds, from 1 to 1001.
     pub q: u32,
 }
 
-/// Whether the mean step is half-way between those of a rate and of the next faster one, or greater.
+/// Returns whether the mean step is at least half-way between the steps of a rate and of the next faster one.
 fn is_slow(fields: bool, rate: Rate, slow: FrameRate, next: FrameRate) -> bool
     ensures { result ≡ is_slow fields rate slow next }
 {
@@ -40,7 +40,7 @@ fn is_slow(fields: bool, rate: Rate, slow: FrameRate, next: FrameRate) -> bool
 }
 
 impl FrameRate {
-    /// The slowest that is known, 24000/1001 frames per second.
+    /// Returns the slowest known rate, 24000/1001 frames per second.
     pub(crate) fn slowest() -> FrameRate
         ensures { result ≡ slowest }
     {
@@ -51,10 +51,10 @@ impl FrameRate {
         }
     }
 
-    /// The known rate whose step is nearest to the mean; the slower of two that are as near.
+    /// Returns the known rate with the step nearest to the mean; the slower of two that are as near.
     ///
-    /// Known are 24000/1001, 24, 25, 30000/1001, 30, 50, 60000/1001, 60, 100, 120000/1001 and 120 frames per second. A
-    /// step is a frame, or a field where there are two in a frame.
+    /// The known rates are 24000/1001, 24, 25, 30000/1001, 30, 50, 60000/1001, 60, 100, 120000/1001 and 120 frames per
+    /// second. A step is a frame, or a field if `fields` is true.
     pub fn nearest(fields: bool, rate: Rate) -> FrameRate
         ensures { result ≡ nearest fields rate }
     {
@@ -119,7 +119,7 @@ impl FrameRate {
         slow
     }
 
-    /// Whether the least step is that of this rate, in ticks rounded down or up.
+    /// Returns whether the least step is that of this rate, in ticks rounded down or up.
     pub(crate) fn has_steps(self, fields: bool, step: Range) -> bool
         ensures { result ≡ has_steps_of fields step self }
     {
@@ -132,7 +132,7 @@ impl FrameRate {
     }
 }
 
-/// Whether the step of a rate is within a hundredth of the mean.
+/// Returns whether the step of a known rate is within a hundredth of the mean.
 fn is_within(fields: bool, rate: Rate, known: FrameRate) -> bool
     ensures { result ≡ is_within fields rate known }
 {
@@ -144,14 +144,14 @@ fn is_within(fields: bool, rate: Rate, known: FrameRate) -> bool
     }
 }
 
-/// Whether the mean step is within a hundredth of that of a known rate.
+/// Returns whether the mean step is within a hundredth of that of a known rate.
 pub(crate) fn is_known(fields: bool, rate: Rate) -> bool
     ensures { result ≡ is_known fields rate }
 {
     is_within(fields, rate, FrameRate::nearest(fields, rate))
 }
 
-/// The frames of the steps, in as many seconds as they have ticks.
+/// Returns the number of frames in as many seconds as the steps have ticks.
 fn frames_in(fields: bool, rate: Rate) -> u128
     ensures frames { result ≡ frames_in fields rate }
     ensures few { result < 2 ^ 81 }
@@ -160,7 +160,7 @@ fn frames_in(fields: bool, rate: Rate) -> u128
     each * u128::from(rate.steps)
 }
 
-/// The least denominator of a description with which the frames by the ticks are a fraction.
+/// Returns the least denominator from 1 to 1001 with which `frames` in `ticks` seconds are a fraction.
 fn least_denominator(frames: u128, ticks: u128) -> Option<u32>
     requires some { ticks ≢ 0 }
     requires few { frames < 2 ^ 81 }
@@ -177,7 +177,7 @@ fn least_denominator(frames: u128, ticks: u128) -> Option<u32>
 }
 
 impl Ratio {
-    /// A rate that is known, as a fraction.
+    /// Returns a known rate as a fraction.
     fn of(rate: FrameRate) -> Ratio
         ensures { result ≡ ratio_of rate }
     {
@@ -192,14 +192,14 @@ impl Ratio {
         }
     }
 
-    /// The slowest rate that is known.
+    /// Returns the slowest known rate as a fraction.
     pub(crate) fn slowest() -> Ratio
         ensures { result ≡ ratio_of slowest }
     {
         Ratio::of(FrameRate::slowest())
     }
 
-    /// A fraction, if a description can have it.
+    /// Returns a fraction, if an SDP can have it as a rate.
     fn limited(p: u128, q: u32) -> Option<Ratio>
         requires { q ≤ 1001 }
         ensures { result ≡ limited p q }
@@ -211,7 +211,7 @@ impl Ratio {
         }
     }
 
-    /// The rate by the mean step, if a description can have it.
+    /// Returns the rate by the mean step, if an SDP can have it.
     fn measured(fields: bool, rate: Rate) -> Option<Ratio>
         ensures { result ≡ measured fields rate }
     {
@@ -223,8 +223,8 @@ impl Ratio {
         Ratio::limited(u128::from(q) * frames / rate.ticks, q)
     }
 
-    /// The rate of a draft: the known one that is nearest to the mean step, if its step is within a hundredth of the
-    /// mean. Else the rate by the mean itself, if a description can have it, and else that nearest one.
+    /// Returns the rate of a draft: the known rate with the step nearest to the mean, if that step is within a
+    /// hundredth of the mean. Else the rate by the mean itself, if an SDP can have it, and else that nearest one.
     pub(crate) fn drafted(fields: bool, rate: Rate) -> Ratio
         ensures { result ≡ drafted_rate fields rate }
     {

@@ -1,4 +1,4 @@
-//! What a capture holds as lines for eyes.
+//! Writes the result of a scan as lines of text.
 
 ghost use Rattle.std.specs.Prelude.{◌≡◌, ◌++◌, ◌+◌, ◌*◌, ◌/◌, max, IfOk, codes, string_bytes};
 ghost use Rattle.std.specs.List.{flat_map};
@@ -33,7 +33,7 @@ fn add_heading(
     )
 }
 
-/// Adds the line of a class of frames that are passed over, where there is one.
+/// Adds the line of a class of frames without a target, if there is such a frame.
 fn add_class(text: &mut String, frames: u64, what: &str) -> Result<(), OutOfMemory>
     ensures { IfOk result (λ _. string_bytes text.new ≡ string_bytes text.old ++ class_text frames what.now) }
 {
@@ -44,7 +44,7 @@ fn add_class(text: &mut String, frames: u64, what: &str) -> Result<(), OutOfMemo
     }
 }
 
-/// Adds the lines of the frames that are passed over.
+/// Adds the lines of the frames without a target.
 fn add_passed_over(text: &mut String, classes: &PassedOver) -> Result<(), OutOfMemory>
     ensures { IfOk result (λ _. string_bytes text.new ≡ string_bytes text.old ++ passed_over_text classes.now) }
 {
@@ -76,7 +76,7 @@ fn add_unread(text: &mut String, unread: &[UnreadTarget]) -> Result<(), OutOfMem
     Ok(())
 }
 
-/// Adds the line of what isn't told one by one, where there is any.
+/// Adds the line of the packets of further streams and targets, if there are any.
 fn add_more(text: &mut String, more: u64) -> Result<(), OutOfMemory>
     ensures { IfOk result (λ _. string_bytes text.new ≡ string_bytes text.old ++ more_text more) }
 {
@@ -87,21 +87,21 @@ fn add_more(text: &mut String, more: u64) -> Result<(), OutOfMemory>
     }
 }
 
-/// How many packets were sent.
+/// Returns the number of packets that were sent: those captured and those lost.
 fn sent(packets: u64, lost: u64) -> u128
     ensures { result ≡ packets + lost }
 {
     u128::from(packets) + u128::from(lost)
 }
 
-/// The hundredths of a percent that are lost of what was sent, rounded down.
+/// Returns the share of what was sent that is lost, in hundredths of a percent, rounded down.
 fn share(packets: u64, lost: u64) -> u128
     ensures { result ≡ lost * 10000 / max 1 (packets + lost) }
 {
     u128::from(lost) * 10_000 / sent(packets, lost).max(1)
 }
 
-/// Who sends to whom.
+/// The source, target, SSRC and payload type of a stream.
 #[derive(Clone, Copy)]
 struct KeyText {
     stream: Stream,
@@ -125,7 +125,7 @@ impl fmt::Display for KeyText {
     }
 }
 
-/// How many packets, where.
+/// The counts of a stream, and its first and last packet record.
 #[derive(Clone, Copy)]
 struct PacketsText {
     stream: Stream,
@@ -148,7 +148,7 @@ impl fmt::Display for PacketsText {
     }
 }
 
-/// The nearest rate, where the least step is that of it.
+/// Returns the nearest known rate, if the least step is that of the rate.
 fn known_rate(fields: bool, pace: Pace) -> Option<FrameRate>
     ensures { result ≡ known_rate fields pace }
 {
@@ -160,7 +160,7 @@ fn known_rate(fields: bool, pace: Pace) -> Option<FrameRate>
     }
 }
 
-/// A rate, where one is known.
+/// A rate, or that none is known.
 #[derive(Clone, Copy)]
 struct KnownText {
     rate: Option<FrameRate>,
@@ -198,7 +198,7 @@ impl fmt::Display for RangeText {
     }
 }
 
-/// A rate, where one is known, and the steps that were seen.
+/// A rate, or that none is known, and the range of the steps.
 #[derive(Clone, Copy)]
 struct StepsText {
     rate: Option<FrameRate>,
@@ -218,7 +218,7 @@ impl fmt::Display for StepsText {
     }
 }
 
-/// The rate of frames, or of fields where a line of a second field was seen.
+/// The frame rate, and the steps of the RTP timestamp; `fields` if a line of a second field was seen.
 #[derive(Clone, Copy)]
 struct RateTold {
     fields: bool,
@@ -245,7 +245,7 @@ impl fmt::Display for RateTold {
     }
 }
 
-/// The packets from one marker to the next.
+/// The number of packets from one marker to the next.
 #[derive(Clone, Copy)]
 struct FrameTold {
     pace: Option<Pace>,
@@ -268,7 +268,7 @@ impl fmt::Display for FrameTold {
     }
 }
 
-/// What was lost.
+/// The order of the sequence numbers of a stream.
 #[derive(Clone, Copy)]
 struct LossText {
     stream: Stream,
@@ -293,14 +293,14 @@ impl fmt::Display for LossText {
     }
 }
 
-/// The lines of a picture, or of a field, as far as they were seen.
+/// Returns the number of lines of a frame or of a field, as far as they were seen.
 fn lines_in(lines: Lines) -> u32
     ensures { result ≡ lines.greatest + 1 }
 {
     u32::from(lines.greatest) + 1
 }
 
-/// The lines of a picture, or of a field.
+/// The number of lines of a frame or of each field.
 #[derive(Clone, Copy)]
 struct CountTold {
     lines: Lines,
@@ -349,7 +349,7 @@ impl fmt::Display for LinesTold {
     }
 }
 
-/// Adds the line of who sends to whom.
+/// Adds the line with the source and the target.
 fn add_key(text: &mut String, number: u64, stream: &Stream) -> Result<(), OutOfMemory>
     ensures { IfOk result (λ _. string_bytes text.new ≡ string_bytes text.old
         ++ stream_line number (codes " from    ") (key_text stream.now)) }
@@ -358,7 +358,7 @@ fn add_key(text: &mut String, number: u64, stream: &Stream) -> Result<(), OutOfM
     writeln!(text, "stream {number} from    {told}")
 }
 
-/// Adds the line of how many packets there are.
+/// Adds the line with the counts of packets.
 fn add_packets(text: &mut String, number: u64, stream: &Stream) -> Result<(), OutOfMemory>
     ensures { IfOk result (λ _. string_bytes text.new ≡ string_bytes text.old
         ++ stream_line number (codes " packets ") (packets_text stream.now)) }
@@ -367,7 +367,7 @@ fn add_packets(text: &mut String, number: u64, stream: &Stream) -> Result<(), Ou
     writeln!(text, "stream {number} packets {told}")
 }
 
-/// Adds the line of the rate.
+/// Adds the line with the rate.
 fn add_rate(text: &mut String, number: u64, stream: &Stream) -> Result<(), OutOfMemory>
     ensures { IfOk result (λ _. string_bytes text.new ≡ string_bytes text.old
         ++ stream_line number (codes " rate    ") (rate_told (has_fields stream.now.lines) stream.now.pace)) }
@@ -379,7 +379,7 @@ fn add_rate(text: &mut String, number: u64, stream: &Stream) -> Result<(), OutOf
     writeln!(text, "stream {number} rate    {told}")
 }
 
-/// Adds the line of the size of a frame.
+/// Adds the line with the packets of a frame.
 fn add_frame(text: &mut String, number: u64, stream: &Stream) -> Result<(), OutOfMemory>
     ensures { IfOk result (λ _. string_bytes text.new ≡ string_bytes text.old
         ++ stream_line number (codes " frame   ") (frame_told stream.now.pace)) }
@@ -388,7 +388,7 @@ fn add_frame(text: &mut String, number: u64, stream: &Stream) -> Result<(), OutO
     writeln!(text, "stream {number} frame   {told}")
 }
 
-/// Adds the line of what was lost.
+/// Adds the line with the losses.
 fn add_loss(text: &mut String, number: u64, stream: &Stream) -> Result<(), OutOfMemory>
     ensures { IfOk result (λ _. string_bytes text.new ≡ string_bytes text.old
         ++ stream_line number (codes " lost    ") (loss_text stream.now)) }
@@ -397,7 +397,7 @@ fn add_loss(text: &mut String, number: u64, stream: &Stream) -> Result<(), OutOf
     writeln!(text, "stream {number} lost    {told}")
 }
 
-/// Adds the line of the lines of a picture.
+/// Adds the line with the lines of a picture.
 fn add_lines(text: &mut String, number: u64, stream: &Stream) -> Result<(), OutOfMemory>
     ensures { IfOk result (λ _. string_bytes text.new ≡ string_bytes text.old
         ++ stream_line number (codes " lines   ") (lines_told stream.now.lines)) }
@@ -408,7 +408,7 @@ fn add_lines(text: &mut String, number: u64, stream: &Stream) -> Result<(), OutO
     writeln!(text, "stream {number} lines   {told}")
 }
 
-/// Adds the lines of a stream.
+/// Adds the lines of a stream; `number` counts from 1.
 fn add_stream(text: &mut String, number: u64, stream: &Stream) -> Result<(), OutOfMemory>
     ensures { IfOk result (λ _. string_bytes text.new ≡ string_bytes text.old ++ stream_text number stream.now) }
 {
@@ -430,7 +430,7 @@ fn add_streams(text: &mut String, streams: &[Stream]) -> Result<(), OutOfMemory>
     Ok(())
 }
 
-/// Adds what isn't a stream: the targets with unread packets, and what isn't told; and then the streams.
+/// Adds the targets with unread packets, the packets of further streams and targets, and then the streams.
 fn add_held(text: &mut String, found: &Found) -> Result<(), OutOfMemory>
     ensures { IfOk result (λ _. string_bytes text.new ≡ string_bytes text.old
         ++ (flat_map unread_text found.now.unread.items
@@ -441,11 +441,13 @@ fn add_held(text: &mut String, found: &Found) -> Result<(), OutOfMemory>
     add_streams(text, found.streams.as_slice())
 }
 
-/// What a capture of this name holds, as lines. `note` says how the capture ends. `Err` is want of memory.
+/// Returns the result of a scan as lines of text. `name` is the name of the capture, and `note` how it ends.
 ///
-/// First the capture, then the classes of frames that were passed over, the targets with packets that aren't read, and
-/// of each stream six lines. A rate is told where the least step is that of a known rate, in ticks rounded down or up.
-/// A loss is told in hundredths of a percent of what was sent, rounded down.
+/// The capture stands first, then the classes of frames without a target, the targets with unread packets, and six
+/// lines for each stream. A rate is printed if the least step is that of a known rate, in ticks rounded down or up. The
+/// lost share of what was sent is printed in hundredths of a percent, rounded down.
+///
+/// Returns `Err` if memory runs out.
 pub fn text_of(
     alloc: Global,
     name: &str,

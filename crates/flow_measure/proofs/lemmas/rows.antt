@@ -1,4 +1,2 @@
-pub mod Filling
-pub mod Numbering
 pub mod Grouping
 pub mod Rowing

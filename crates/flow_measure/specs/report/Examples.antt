@@ -1,5 +1,5 @@
--- Numbers that are worked by hand: two frames of 20 packets at 50 frames per second, after a packet with the marker.
--- Frame k begins k * 20 ms after second 1,600,000,000, its packet j comes 764,000 + 960,000 j ns later, and its
+-- Examples worked by hand: two frames of 20 packets at 50 frames per second, after a packet with the RTP marker. Frame
+-- k begins k * 20 ms after second 1,600,000,000, its packet j arrives 764,000 + 960,000 j ns later, and its RTP
 -- timestamp is 1800 (k + 1).
 use Rattle.std.specs.Prelude.{ℕ, zero, suc, ◌-◌, ◌*◌, pos, neg_ℤ, List, [], ◌∷◌, ◌++◌, Option, Some, None}
 use Rattle.timing_base.specs.Examples.{plain_media}
@@ -18,20 +18,20 @@ use Rattle.flow_measure.specs.report.Told.{ToldBins, ToldFlow, ToldGaps, ToldKin
 use Rattle.flow_measure.specs.declared.report.rows.GroupRow.{GroupRow}
 use Rattle.flow_measure.specs.declared.report.rows.PacketRow.{PacketRow}
 
--- so many zeros
+-- a list of n zeros
 abbrev pub zeros : ℕ → List ℕ
 zeros zero = []
 zeros (suc n) = 0 ∷ zeros n
 
--- bins of which nothing is above the limit or below 0
+-- bins without numbers above the limit or below 0
 abbrev pub bins_within : (limit width : ℕ) → List ℕ → ToldBins
 bins_within limit width counts = record { limit = limit; width = width; counts = counts; above = 0; below = 0 }
 
--- one packet at each of 40, up to a limit in bins of one
+-- bins of width 1 up to a limit that hold the number 1 forty times
 abbrev pub ones_to : (limit : ℕ) → ToldBins
 ones_to limit = bins_within limit 1 (0 ∷ 40 ∷ zeros (limit - 1))
 
--- a type that no packet breaks
+-- a type with no packet that breaks a limit
 abbrev pub kept : (bucket buffer : ToldBins) → ToldKind
 kept bucket buffer = record {
   groups_broken = 0;
@@ -43,11 +43,11 @@ kept bucket buffer = record {
   named = None;
 }
 
--- the same whole number so often
+-- the summary of `often` equal numbers
 abbrev pub same : ℕ → (often : ℕ) → Summary
 same x often = summary (pos x) (pos x) (pos (x * often)) (pos x) (pos x)
 
--- one packet in the buffer at each of 40; all may come 444 ns later
+-- one packet in the buffer just after each of 40 packets; all may be 444 ns later
 abbrev pub one_held : Buffer
 one_held = record { occupancy = same 1 40; margins = record { slack = pos 444; late = 0 } }
 
@@ -58,6 +58,7 @@ plain_gaps = record {
   classes = zeros 20 ++ (38 ∷ 1 ∷ []);
 }
 
+-- the measurements of the two frames
 abbrev pub plain_numbers : ToldNumbers
 plain_numbers = record {
   bucket = same 1 40;
@@ -75,28 +76,31 @@ plain_numbers = record {
   gap = Some plain_gaps;
 }
 
--- the run, from record 1 on, packet number 0
+-- the run, from packet record 1 and packet number 0
 abbrev pub plain_run : ToldRun
 plain_run = record { run = 1; rec = 1; number = 0; judged = narrow; numbers = plain_numbers }
 
--- the flow of the first media of a session, with a source
+-- the flow of the first media of a session, with an SSRC
 abbrev pub flow_of : (packets : ℕ) → Verdict → List ToldRun → ToldFlow
 flow_of packets verdict runs = record { media = 0; packets = packets; ssrc = Some 1; verdict = verdict; runs = runs }
 
+-- the flow with the two frames
 abbrev pub plain_flow : ToldFlow
 plain_flow = flow_of 41 (Judged narrow) (plain_run ∷ [])
 
+-- a session with one media
 abbrev pub plain_session : List Media
 plain_session = plain_media ∷ []
 
--- a flow whose last frame lacks a packet, and one without packets
+-- a flow with one packet missing in its last frame
 abbrev pub refused_flow : ToldFlow
 refused_flow = flow_of 40 (Unjudged (Refused 40 (FrameSize 20 19))) []
 
+-- a flow without packets
 abbrev pub absent_flow : ToldFlow
 absent_flow = record { media = 0; packets = 0; ssrc = None; verdict = Unjudged Absent; runs = [] }
 
--- a type that fails, at a packet that stands there
+-- type N with a burst that breaks the limit of the bucket at packet 24
 abbrev pub burst_kind : ToldKind
 burst_kind = record (kept (bins_within 4 1 []) (bins_within 8 1 (0 ∷ 36 ∷ 1 ∷ 1 ∷ 1 ∷ 1 ∷ zeros 3))) {
   groups_broken = 1;
@@ -105,10 +109,11 @@ burst_kind = record (kept (bins_within 4 1 []) (bins_within 8 1 (0 ∷ 36 ∷ 1 
   named = Some (record { rec = 26; stamp = 1600000000020764000 });
 }
 
+-- the violation of the bucket by that burst
 abbrev pub burst_fail : KindVerdict
 burst_fail = fail Bucket 20 24 5 4
 
--- packets 1,000,000 ns apart: all but the first of each frame come after their reads
+-- type N with packets 1,000,000 ns apart: all packets of each frame except the first arrive after their gapped reads
 abbrev pub linear_kind : ToldKind
 linear_kind = record (kept (ones_to 4) (bins_within 8 1 (38 ∷ 2 ∷ zeros 7))) {
   groups_broken = 2;
@@ -116,10 +121,11 @@ linear_kind = record (kept (ones_to 4) (bins_within 8 1 (38 ∷ 2 ∷ zeros 7)))
   named = Some (record { rec = 3; stamp = 1600000000001764000 });
 }
 
+-- the violation at packet 1, the first late packet
 abbrev pub linear_fail : KindVerdict
 linear_fail = fail Empty 1 1 1 2
 
--- the first packet of the plain flow
+-- the row of the first packet of the plain flow
 abbrev pub plain_packet : PacketRow
 plain_packet = record {
   run = 1;
@@ -133,7 +139,7 @@ plain_packet = record {
   linear = pos 1;
 }
 
--- a group of it
+-- a row of a frame of the plain flow
 abbrev pub plain_group : (group rec stamp timestamp : ℕ) → Option ℕ → GroupRow
 plain_group group rec stamp timestamp step = record {
   run = 1;

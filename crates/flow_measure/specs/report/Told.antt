@@ -1,5 +1,5 @@
--- What is told of a measured flow: its numbers, with bins and classes as lists of their counts. Units and meanings are
--- those of the fields of `MeasuredFlow`, `MeasuredRun`, `RunNumbers`, `KindNumbers` and `Bins`, which have these names.
+-- The values of a measured flow that a report has, with bins and classes as lists of their counts. Units and meanings
+-- are those of the fields of the same names in `MeasuredFlow`, `MeasuredRun`, `RunNumbers`, `KindNumbers` and `Bins`.
 use Rattle.std.specs.Prelude.{ℕ, List, map, Option, option_map}
 use Rattle.timing_base.specs.Verdicts.{Judged}
 use Rattle.timing_base.specs.declared.row.Verdict.{Verdict}
@@ -14,7 +14,7 @@ use Rattle.flow_measure.specs.declared.numbers.Place.{Place}
 use Rattle.flow_measure.specs.declared.numbers.RunNumbers.{RunNumbers}
 use Rattle.flow_measure.specs.declared.summary.Summary.{Summary}
 
--- how often numbers come, up to a limit
+-- a histogram up to a limit
 pub record ToldBins : Type 0 where
   pub limit : ℕ
   pub width : ℕ
@@ -22,12 +22,12 @@ pub record ToldBins : Type 0 where
   pub above : ℕ
   pub below : ℕ
 
--- where in a capture a packet stands
+-- the place of a packet in the capture
 pub record ToldPlace : Type 0 where
   pub rec : ℕ
   pub stamp : ℕ
 
--- how near a run comes to the limits of a type, and how often it breaks them
+-- the measurements of a run against the limits of a type
 pub record ToldKind : Type 0 where
   pub groups_broken : ℕ
   pub bucket : ToldBins
@@ -42,12 +42,12 @@ pub record ToldGaps : Type 0 where
   pub summary : Summary
   pub classes : List ℕ
 
--- the numbers of a run
+-- the measurements of a run
 pub record ToldNumbers : Type 0 where
   pub bucket : Summary
   pub gapped : Buffer
   pub linear : Buffer
-  -- of the types N, NL and W
+  -- for the types N, NL and W
   pub kinds : List ToldKind
   pub first : Summary
   pub last : Summary
@@ -65,7 +65,7 @@ pub record ToldRun : Type 0 where
   pub judged : Judged
   pub numbers : ToldNumbers
 
--- a flow, and its judged runs
+-- a flow and its judged runs
 pub record ToldFlow : Type 0 where
   pub media : ℕ
   pub packets : ℕ
@@ -73,12 +73,15 @@ pub record ToldFlow : Type 0 where
   pub verdict : Verdict
   pub runs : List ToldRun
 
+-- bins as a report has them
 abbrev pub bins_told : Bins → ToldBins
 bins_told b = record { limit = b.limit; width = b.width; counts = bin_counts b; above = b.above; below = b.below }
 
+-- a place as a report has it
 abbrev pub place_told : Place → ToldPlace
 place_told p = record { rec = p.«record»; stamp = p.stamp }
 
+-- the measurements against a type as a report has them
 abbrev pub kind_told : KindNumbers → ToldKind
 kind_told k = record {
   groups_broken = k.groups_broken;
@@ -90,9 +93,11 @@ kind_told k = record {
   named = option_map place_told k.named;
 }
 
+-- the times between packets as a report has them
 abbrev pub gaps_told : Gaps → ToldGaps
 gaps_told g = record { summary = g.summary; classes = class_counts g.classes }
 
+-- the measurements of a run as a report has them
 abbrev pub numbers_told : RunNumbers → ToldNumbers
 numbers_told n = record {
   bucket = n.bucket;
@@ -108,6 +113,7 @@ numbers_told n = record {
   gap = option_map gaps_told n.gap;
 }
 
+-- a judged run as a report has it
 abbrev pub run_told : MeasuredRun → ToldRun
 run_told r = record {
   run = r.run;
@@ -117,6 +123,7 @@ run_told r = record {
   numbers = numbers_told r.numbers;
 }
 
+-- a flow as a report has it
 abbrev pub flow_told : MeasuredFlow → ToldFlow
 flow_told f = record {
   media = f.media;

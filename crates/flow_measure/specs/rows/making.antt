@@ -1,3 +1,3 @@
-pub mod Levels
 pub mod Stands
 pub mod Groups
+pub mod Meters

@@ -48,7 +48,7 @@ fn add_unjudged(
     add_value(text, alloc, &value)
 }
 
-/// A flow that isn't judged, as a value.
+/// Returns a flow that isn't judged as a JSON value.
 fn unjudged_value(
     alloc: Global,
     media: &Media,
@@ -64,7 +64,7 @@ fn unjudged_value(
     Ok(object.into_value())
 }
 
-/// Which flow it is, and its packets.
+/// Adds the members that name a flow, and its count of packets.
 fn put_flow(
     object: &mut Object,
     alloc: Global,
@@ -82,7 +82,7 @@ fn put_flow(
     put_ssrc(object, alloc, flow.ssrc)
 }
 
-/// The source, where there is one.
+/// Adds the SSRC, if there is one.
 fn put_ssrc(object: &mut Object, alloc: Global, ssrc: Option<u32>) -> Result<(), OutOfMemory>
     ensures { IfOk result (λ _. Puts (ssrc_members ssrc) object.old object.new) }
 {
@@ -96,7 +96,7 @@ fn put_ssrc(object: &mut Object, alloc: Global, ssrc: Option<u32>) -> Result<(),
     }
 }
 
-/// Adds a flow of this media that is judged; the word is its verdict.
+/// Adds a judged flow of this media. `word` is its verdict.
 fn add_judged(
     text: &mut String,
     alloc: Global,
@@ -117,7 +117,7 @@ fn add_judged(
     )
 }
 
-/// Adds a flow up to its runs.
+/// Adds the members of a flow before its runs.
 fn add_flow_front(text: &mut String, flow: &MeasuredFlow) -> Result<(), OutOfMemory>
     ensures { IfOk result (λ _. string_bytes text.new
         ≡ string_bytes text.old ++ flow_front (flow_told flow.now)) }
@@ -126,7 +126,7 @@ fn add_flow_front(text: &mut String, flow: &MeasuredFlow) -> Result<(), OutOfMem
     write!(text, "{{\"media\":{number},\"packets\":{},", flow.packets)
 }
 
-/// The source of a flow, where there is one.
+/// The SSRC of a flow as a member, empty if there is none.
 #[derive(Clone, Copy)]
 struct Source {
     ssrc: Option<u32>,
@@ -149,7 +149,7 @@ impl fmt::Display for Source {
     }
 }
 
-/// Adds the judged runs of a flow, with a comma between two, where there is one.
+/// Adds the judged runs of a flow, separated by commas, if there is one.
 fn add_runs_member(
     text: &mut String,
     alloc: Global,

@@ -1,4 +1,4 @@
-//! The numbers of the flows of a capture as JSON.
+//! The measurements of the flows of a capture as JSON.
 
 ghost use Rattle.std.specs.Prelude.{◌≡◌, ◌++◌, IfOk, codes, false, map, string_bytes};
 ghost use Rattle.timing_report.specs.Words.{note_text};
@@ -13,12 +13,13 @@ use timing_base::{FileNote, FlowKey, Session};
 use timing_report::json_report::comma_if;
 use timing_report::{NoteText, media_of};
 
-/// The numbers of the flows of a capture of this name, as one JSON value and a line end. `note` says how the capture
-/// ends, and each flow is of a media of the session. `Err` is want of memory.
+/// Returns the measurements of the flows of a capture as one JSON value and a line end. `name` is the name of the
+/// capture, `note` how it ends, and each flow belongs to a media of the session. Returns `Err` if memory runs out.
 ///
-/// The members of each object stand in the byte order of their keys. Missing are, of a flow, `ssrc` where no packet is
-/// read and `runs` where none is judged; of a run `step` where it has one group and `gap` where it has one packet; of a
-/// type `proof` where it passes, and `first_bucket`, `first_over` and `first_empty` where no packet breaks the model.
+/// The members of each object stand in the byte order of their keys. Some members may be missing. A flow has no `ssrc`
+/// if no packet is read, and no `runs` if no run is judged. A run has no `step` if it has one frame or field, and no
+/// `gap` if it has one packet. A type has no `proof` if it passes, and no `first_bucket`, `first_over` or `first_empty`
+/// if no packet breaks that limit.
 pub fn json_of(
     alloc: Global,
     name: &str,
@@ -38,7 +39,7 @@ pub fn json_of(
     Ok(text)
 }
 
-/// Adds what stands before the flows: how the capture ends.
+/// Adds the text before the flows: how the capture ends.
 fn add_end(text: &mut String, alloc: Global, note: FileNote) -> Result<(), OutOfMemory>
     ensures { IfOk result (λ _. string_bytes text.new ≡ string_bytes text.old
         ++ (codes "{\"end\":" ++ (quoted_text (note_text note) ++ codes ",\"flows\":["))) }
@@ -49,7 +50,7 @@ fn add_end(text: &mut String, alloc: Global, note: FileNote) -> Result<(), OutOf
     write!(text, "{{\"end\":{note},\"flows\":[")
 }
 
-/// Adds the flows, with a comma between two.
+/// Adds the flows, separated by commas.
 fn add_flows(
     text: &mut String,
     alloc: Global,

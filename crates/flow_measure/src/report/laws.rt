@@ -1,4 +1,4 @@
-//! The texts tried by hand. Each function is a theorem: it does nothing, and its clauses are proved.
+//! Report texts worked by hand. Each function does nothing: its clauses are what is proved.
 
 ghost use Rattle.std.specs.Prelude.{◌≡◌, ◌^◌, ◌++◌, ◌∷◌, [], List, None, Some, codes, neg_ℤ, pos};
 ghost use Rattle.timing_base.specs.Examples.{plain_media};
@@ -11,7 +11,7 @@ ghost use Rattle.flow_measure.specs.report.Json.{flow_text, kind_text, level_tex
 ghost use Rattle.flow_measure.specs.report.Rows.{group_row_text, packet_row_text};
 ghost use Rattle.flow_measure.specs.report.Told.{ToldRun};
 
-/// The whole JSON of a capture with one flow, which is judged.
+/// The JSON of a capture with one flow, which is judged.
 #[tactic(auto, unfolding(crate::proofs::lemmas::report::Numerals::measure_texts))]
 pub fn plain_json_by_hand()
     ensures { measure_json (codes "a.pcap") note.End plain_session (plain_flow ∷ [])
@@ -48,7 +48,7 @@ pub fn plain_json_by_hand()
         ++ codes "\"name\":\"a.pcap\"}\n"))))))))))))))))))))))))))))) }
 {}
 
-/// The type N of a flow with five packets at once in the second frame: the last of them breaks the bucket.
+/// Type N of a flow with five packets at once in the second frame. The last of them breaks the limit of the bucket.
 #[tactic(auto, unfolding(crate::proofs::lemmas::report::Numerals::measure_texts))]
 pub fn burst_by_hand()
     ensures { kind_text kind.N burst_fail burst_kind
@@ -59,7 +59,7 @@ pub fn burst_by_hand()
         ++ codes "\"stamp\":1600000000020764000,\"to\":24},\"type\":\"N\"}"))) }
 {}
 
-/// The type N of a flow that a linear sender paces: packet 1 of each frame comes after its read.
+/// Type N of a flow with linear pacing. All packets of each frame except the first arrive after their reads.
 #[tactic(auto, unfolding(crate::proofs::lemmas::report::Numerals::measure_texts))]
 pub fn linear_by_hand()
     ensures { kind_text kind.N linear_fail linear_kind
@@ -70,7 +70,7 @@ pub fn linear_by_hand()
         ++ codes "\"stamp\":1600000000001764000,\"to\":1},\"type\":\"N\"}"))) }
 {}
 
-/// A flow that isn't judged has the keys of its verdict, and no runs.
+/// A flow that isn't judged has the members of its verdict, and no `runs`.
 #[tactic(auto, unfolding(crate::proofs::lemmas::report::Numerals::measure_texts))]
 pub fn unjudged_by_hand()
     ensures refused { flow_text plain_session refused_flow
@@ -80,7 +80,7 @@ pub fn unjudged_by_hand()
         ≡ codes "{\"media\":1,\"packets\":0,\"target\":\"239.0.0.1:50000\",\"verdict\":\"absent\"}" }
 {}
 
-/// A flow with a gap has those of its runs that are judged, and no key for them where none is.
+/// A flow with gaps lists its judged runs, and has no `runs` if none is judged.
 #[tactic(auto, unfolding(crate::proofs::lemmas::report::Numerals::measure_texts))]
 pub fn runs_by_hand()
     ensures one { (r : ToldRun) → flow_text plain_session (flow_of 40 (two_runs narrow 32) (r ∷ []))
@@ -91,7 +91,7 @@ pub fn runs_by_hand()
         ++ codes "\"verdict\":\"runs\"}" }
 {}
 
-/// Numbers of more than 64 bits are written in digits.
+/// Numbers of more than 64 bits are written in full.
 #[tactic(auto, unfolding(crate::proofs::lemmas::report::Numerals::measure_texts))]
 pub fn wide_numbers_by_hand()
     ensures { level_text (summary (neg_ℤ (pos (2 ^ 64))) (pos (2 ^ 64)) (pos (2 ^ 100)) (pos 0) (pos 0))
@@ -99,7 +99,7 @@ pub fn wide_numbers_by_hand()
         ++ codes "\"sum\":1267650600228229401496703205376}" }
 {}
 
-/// The rows of the first packet and of two groups.
+/// The rows of the first packet and of two frames.
 #[tactic(auto, unfolding(crate::proofs::lemmas::report::Numerals::measure_texts))]
 pub fn rows_by_hand()
     ensures packet { packet_row_text plain_packet ≡ codes "1,0,2,1600000000000764000,0,0,1,1,1\n" }

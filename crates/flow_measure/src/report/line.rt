@@ -1,19 +1,19 @@
-//! A line that is written from its end to its front.
+//! A line that is written from its end to its start.
 
 ghost use Rattle.std.specs.Prelude.{◌≡◌, ◌≤◌, ◌+◌, ◌++◌, ◌∷◌, [], length};
 ghost use Rattle.std.specs.Fmt.{decimal, signed_decimal};
 
 use itoa::{Buffer, write_digits};
 
-/// The bytes that a line may have.
+/// The size of a line, in bytes.
 const ROOM: usize = 512;
 
-/// A line of at most 512 bytes. It is written from its end to its front, since the length of a number is known only
-/// when its digits are.
+/// A line of at most 512 bytes. It is written from its end to its start, since the length of a number is known only
+/// after its digits.
 #[derive(Clone, Copy)]
 pub(crate) struct Line {
     bytes: [u8; ROOM],
-    /// Where the bytes that were put in begin.
+    /// The index of the first byte that is written.
     start: usize,
     ghost within: { start ≤ 512 },
 }
@@ -21,7 +21,7 @@ pub(crate) struct Line {
 impl Line {
     ghost use Rattle.flow_measure.specs.report.Line.{written};
 
-    /// A line of no bytes.
+    /// Returns an empty line.
     pub(crate) fn new() -> Line
         ensures written { written result ≡ [] }
         ensures room { result.start ≡ 512 }
@@ -32,7 +32,7 @@ impl Line {
         }
     }
 
-    /// Forgets what was put in.
+    /// Empties the line.
     #[inline(always)]
     pub(crate) fn clear(&mut self)
         ensures written { written self.new ≡ [] }
@@ -41,7 +41,7 @@ impl Line {
         self.start = ROOM;
     }
 
-    /// What was put in.
+    /// Returns the bytes written.
     #[inline(always)]
     pub(crate) fn as_bytes(&self) -> &[u8]
         ensures { result.now ≡ written self.now }
@@ -49,7 +49,7 @@ impl Line {
         &self.bytes[self.start..]
     }
 
-    /// Puts a byte before what stands.
+    /// Puts a byte in front of the line.
     #[inline(always)]
     pub(crate) fn put_byte(&mut self, byte: u8)
         requires { 1 ≤ self.old.start }
@@ -61,7 +61,7 @@ impl Line {
         self.start = start;
     }
 
-    /// Puts a number before what stands.
+    /// Puts a number in front of the line.
     #[inline(always)]
     pub(crate) fn put_number(&mut self, number: u64)
         requires { 20 ≤ self.old.start }
@@ -71,7 +71,7 @@ impl Line {
         self.start = write_digits(number, &mut self.bytes, self.start);
     }
 
-    /// Puts a number with its sign before what stands.
+    /// Puts a signed number in front of the line.
     #[inline(always)]
     pub(crate) fn put_signed(&mut self, number: i128)
         requires { 40 ≤ self.old.start }
@@ -85,7 +85,7 @@ impl Line {
         }
     }
 
-    /// The same of any number.
+    /// Puts a signed number of any size in front of the line.
     #[inline(never)]
     fn put_wide(&mut self, number: i128)
         requires { 40 ≤ self.old.start }
@@ -96,7 +96,7 @@ impl Line {
         self.put_bytes(buffer.format(number).as_bytes());
     }
 
-    /// Puts bytes before what stands.
+    /// Puts bytes in front of the line.
     fn put_bytes(&mut self, bytes: &[u8])
         requires { length bytes.now ≤ self.old.start }
         ensures written { written self.new ≡ bytes.now ++ written self.old }

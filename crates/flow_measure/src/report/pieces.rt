@@ -1,4 +1,4 @@
-//! Pieces of the JSON of a run: summaries, members that may be missing, fails, texts and lists of counts.
+//! Pieces of the JSON of a run: summaries, optional members, violations, strings and lists of counts.
 
 ghost use Rattle.std.specs.Prelude.{◌≡◌, ◌++◌, IfOk, false, string_bytes};
 ghost use Rattle.std.specs.Fmt.{decimal};
@@ -12,7 +12,7 @@ use timing_base::{FailProof, KindVerdict};
 use timing_report::json_report::comma_if;
 use timing_report::model_name;
 
-/// A text in quotes, with escapes.
+/// Returns a JSON string, in quotes and with escapes.
 pub(crate) fn quoted(alloc: Global, text: &str) -> Result<String, OutOfMemory>
     ensures { IfOk result (λ s. string_bytes s ≡ quoted_text text.now) }
 {
@@ -20,14 +20,14 @@ pub(crate) fn quoted(alloc: Global, text: &str) -> Result<String, OutOfMemory>
     value.to_string(alloc)
 }
 
-/// True or false.
+/// Returns `true` or `false` as text.
 pub(crate) fn flag_name(flag: bool) -> &'static str
     ensures { result.now ≡ flag_text flag }
 {
     if flag { "true" } else { "false" }
 }
 
-/// A list of counts.
+/// Returns a list of counts.
 pub(crate) fn counts_of(alloc: Global, counts: &[u64]) -> Result<String, OutOfMemory>
     ensures { IfOk result (λ s. string_bytes s ≡ list_text decimal counts.now) }
 {
@@ -37,7 +37,7 @@ pub(crate) fn counts_of(alloc: Global, counts: &[u64]) -> Result<String, OutOfMe
     Ok(text)
 }
 
-/// Adds counts, with a comma between two.
+/// Adds counts, separated by commas.
 fn add_counts(text: &mut String, counts: &[u64]) -> Result<(), OutOfMemory>
     ensures { IfOk result (λ _. string_bytes text.new
         ≡ string_bytes text.old ++ items_text decimal false counts.now) }
@@ -70,7 +70,7 @@ impl fmt::Display for Level {
     }
 }
 
-/// What the buffer holds, and how packets come to their reads.
+/// The occupancy of the buffer, the count of late packets and the slack.
 #[derive(Clone, Copy)]
 pub(crate) struct Held {
     pub(crate) buffer: Buffer,
@@ -93,7 +93,7 @@ impl fmt::Display for Held {
     }
 }
 
-/// The end of a summary: what its numbers are held against, where there is something.
+/// The end of a summary, with the value to compare with if there is one.
 #[derive(Clone, Copy)]
 struct TargetEnd {
     target: Option<u64>,
@@ -113,7 +113,7 @@ impl fmt::Display for TargetEnd {
     }
 }
 
-/// All of a summary, and what its numbers are held against, where there is something.
+/// A whole summary, with the value to compare with if there is one.
 #[derive(Clone, Copy)]
 pub(crate) struct Whole {
     pub(crate) summary: Summary,
@@ -144,7 +144,7 @@ impl fmt::Display for Whole {
     }
 }
 
-/// The steps of the timestamp, where there are two groups.
+/// The steps of the RTP timestamp as a member, empty if there is only one frame or field.
 #[derive(Clone, Copy)]
 pub(crate) struct Steps {
     pub(crate) step: Option<Summary>,
@@ -168,7 +168,7 @@ impl fmt::Display for Steps {
     }
 }
 
-/// A number that may be missing, with its key and the comma after it.
+/// A member that may be missing: a number with its key, and the comma after it.
 #[derive(Clone, Copy)]
 pub(crate) struct NumberIf {
     pub(crate) key: &'static str,
@@ -189,7 +189,7 @@ impl fmt::Display for NumberIf {
     }
 }
 
-/// Where packet `to` of a fail stands.
+/// The place of packet `to` of a violation as members, empty if it is unknown.
 #[derive(Clone, Copy)]
 struct Named {
     place: Option<Place>,
@@ -210,7 +210,7 @@ impl fmt::Display for Named {
     }
 }
 
-/// A fail.
+/// A violation.
 #[derive(Clone, Copy)]
 struct Proof {
     proof: FailProof,
@@ -236,7 +236,7 @@ impl fmt::Display for Proof {
     }
 }
 
-/// Whether a type passes, and what shows that it fails.
+/// Whether a type passes, and its violation if it fails.
 #[derive(Clone, Copy)]
 pub(crate) struct Outcome {
     pub(crate) verdict: KindVerdict,

@@ -1,4 +1,4 @@
-//! The rows of a flow, packet by packet and group by group.
+//! The rows of a flow, one per packet or one per frame or field.
 
 ghost use Rattle.std.specs.Prelude.{◌≡◌, ◌≤◌, ◌+◌, ◌++◌};
 ghost use Rattle.flow_measure.specs.report.Line.{written};
@@ -6,79 +6,79 @@ ghost use Rattle.flow_measure.specs.report.Rows.{field, field_if, group_clock, g
 
 use crate::report::line::Line;
 
-/// A judged packet and what it finds.
+/// The row of a judged packet.
 #[derive(Clone, Copy)]
 pub struct PacketRow {
-    /// Which of the flow's runs it belongs to, judged or not, counted from 1.
-    pub run: u32,
-    /// The judged packet of the run, counted from 0.
+    /// The number of its run among all runs of the flow, judged or not, from 1.
+    pub run: u64,
+    /// Its number among the judged packets of the run, from 0.
     pub packet: u64,
-    /// Its record, counted from 1.
+    /// Its packet record, from 1.
     pub rec: u64,
-    /// Its stamp in nanoseconds, with the seconds that are added.
+    /// Its capture timestamp in nanoseconds, including the seconds that are added to get TAI.
     pub stamp: u64,
-    /// Its group, counted from 0.
+    /// The number of its frame or field in the run, from 0.
     pub group: u64,
-    /// Its place in the group, counted from 0.
+    /// Its place in the frame or field, from 0.
     pub place: u64,
-    /// What the bucket holds just after it, in packets.
+    /// The count of the bucket just after it, in packets.
     pub bucket: u64,
-    /// What the buffer holds just after it by gapped reads, in packets; below 0 where the reads are ahead.
-    pub gapped: i128,
-    /// The same by linear reads.
-    pub linear: i128,
+    /// The occupancy of the buffer just after it by gapped reads, in packets; below 0 if the reads are ahead.
+    pub gapped: i64,
+    /// The occupancy of the buffer just after it by linear reads, in packets; below 0 if the reads are ahead.
+    pub linear: i64,
 }
 
-/// A judged group.
+/// The row of a judged frame or field.
 #[derive(Clone, Copy)]
 pub struct GroupRow {
-    /// Which of the flow's runs it belongs to, judged or not, counted from 1.
-    pub run: u32,
-    /// The judged group of the run, counted from 0.
+    /// The number of its run among all runs of the flow, judged or not, from 1.
+    pub run: u64,
+    /// Its number among the judged frames or fields of the run, from 0.
     pub group: u64,
-    /// The record of its first packet, counted from 1.
+    /// The packet record of its first packet, from 1.
     pub rec: u64,
-    /// The stamp of that packet in nanoseconds, with the seconds that are added.
+    /// The capture timestamp of its first packet in nanoseconds, including the seconds that are added to get TAI.
     pub stamp: u64,
-    /// By how many nanoseconds that packet comes after the instant with which the group begins.
+    /// Nanoseconds from the instant at which it begins to its first packet.
     pub first: i128,
-    /// The same of its last packet.
+    /// Nanoseconds from the instant at which it begins to its last packet.
     pub last: i128,
-    /// Its RTP timestamp, in ticks.
+    /// Its RTP timestamp, in ticks of 90 kHz.
     pub timestamp: u32,
-    /// From the timestamp of the group before, in ticks; none for the first group.
+    /// Ticks from the RTP timestamp before; `None` for the first frame or field.
     pub step: Option<u32>,
-    /// By how many ticks its timestamp is after that of the instant with which it begins.
+    /// Ticks by which its RTP timestamp exceeds the media clock at the instant at which it begins.
     pub offset: i128,
-    /// From its timestamp to its first packet, in ticks.
+    /// Ticks from its RTP timestamp to its first packet.
     pub latency: i128,
-    /// The most that the bucket holds just after one of its packets, in packets.
+    /// The greatest count of the bucket just after one of its packets, in packets.
     pub bucket: u64,
-    /// The least that the buffer holds just after one of its packets by gapped reads, in packets.
-    pub gapped_least: i128,
-    /// The most.
-    pub gapped: i128,
-    /// The least by linear reads.
-    pub linear_least: i128,
-    /// The most.
-    pub linear: i128,
+    /// The least occupancy of the buffer just after one of its packets by gapped reads, in packets.
+    pub gapped_least: i64,
+    /// The greatest occupancy by gapped reads, in packets.
+    pub gapped: i64,
+    /// The least occupancy by linear reads, in packets.
+    pub linear_least: i64,
+    /// The greatest occupancy by linear reads, in packets.
+    pub linear: i64,
 }
 
-/// The line above the rows of packets, with its end.
+/// Returns the header line of packet rows, with its line end.
 pub(crate) fn packet_header() -> &'static str
     ensures { result.now ≡ packet_header_text }
 {
     "run,packet,record,stamp,group,place,bucket,gapped,linear\n"
 }
 
-/// The line above the rows of groups, with its end.
+/// Returns the header line of frame rows, with its line end.
 pub(crate) fn group_header() -> &'static str
     ensures { result.now ≡ group_header_text }
 {
     "run,group,record,stamp,first,last,timestamp,step,offset,latency,bucket,gapped_least,gapped,linear_least,linear\n"
 }
 
-/// Writes rows as lines, each in the memory of the one before.
+/// A writer of rows as lines, each in the memory of the one before.
 #[derive(Clone, Copy)]
 pub struct RowText {
     line: Line,
@@ -87,12 +87,12 @@ pub struct RowText {
 impl RowText {
     ghost use Rattle.flow_measure.specs.report.Rows.{group_row_text, packet_row_text};
 
-    /// A writer that hasn't written a row.
+    /// Returns a writer before its first row.
     pub fn new() -> RowText {
         RowText { line: Line::new() }
     }
 
-    /// The line of a packet, with its end. It stands until the next row is written.
+    /// Returns the line of a packet, with its line end. The line is valid until the next row is written.
     pub fn of_packet(&mut self, row: &PacketRow) -> &[u8]
         ensures { result.now ≡ packet_row_text row.now }
     {
@@ -101,7 +101,7 @@ impl RowText {
         self.line.as_bytes()
     }
 
-    /// The line of a group, with its end. It stands until the next row is written.
+    /// Returns the line of a frame or field, with its line end. The line is valid until the next row is written.
     pub fn of_group(&mut self, row: &GroupRow) -> &[u8]
         ensures { result.now ≡ group_row_text row.now }
     {
@@ -112,7 +112,7 @@ impl RowText {
     }
 }
 
-/// Puts a field and its comma before what stands.
+/// Puts a field and its comma in front of the line.
 #[inline(always)]
 fn put_field(line: &mut Line, number: u64)
     requires { 21 ≤ line.old.start }
@@ -123,7 +123,7 @@ fn put_field(line: &mut Line, number: u64)
     line.put_number(number);
 }
 
-/// Puts a field with a sign and its comma before what stands.
+/// Puts a signed field and its comma in front of the line.
 #[inline(always)]
 fn put_signed_field(line: &mut Line, number: i128)
     requires { 41 ≤ line.old.start }
@@ -134,7 +134,7 @@ fn put_signed_field(line: &mut Line, number: i128)
     line.put_signed(number);
 }
 
-/// Puts a field that may be empty and its comma before what stands.
+/// Puts a field that may be empty, and its comma, in front of the line.
 fn put_field_if(line: &mut Line, number: Option<u32>)
     requires { 21 ≤ line.old.start }
     ensures written { written line.new ≡ field_if number ++ written line.old }
@@ -146,7 +146,7 @@ fn put_field_if(line: &mut Line, number: Option<u32>)
     }
 }
 
-/// Begins the line of a packet, at its end.
+/// Begins the line of a packet from its end: the levels and the line end.
 #[inline(always)]
 fn begin_packet(line: &mut Line, row: &PacketRow)
     ensures written { written line.new ≡ packet_finds row.now }
@@ -154,12 +154,12 @@ fn begin_packet(line: &mut Line, row: &PacketRow)
 {
     line.clear();
     line.put_byte(b'\n');
-    line.put_signed(row.linear);
-    put_signed_field(line, row.gapped);
+    line.put_signed(i128::from(row.linear));
+    put_signed_field(line, i128::from(row.gapped));
     put_field(line, row.bucket);
 }
 
-/// Puts where a packet stands before what it finds.
+/// Puts the fields that locate a packet in front of the levels.
 #[inline(always)]
 fn put_packet_place(line: &mut Line, row: &PacketRow)
     requires { 126 ≤ line.old.start }
@@ -170,24 +170,24 @@ fn put_packet_place(line: &mut Line, row: &PacketRow)
     put_field(line, row.stamp);
     put_field(line, row.rec);
     put_field(line, row.packet);
-    put_field(line, u64::from(row.run));
+    put_field(line, row.run);
 }
 
-/// Begins the line of a group, at its end.
+/// Begins the line of a frame or field from its end: the levels and the line end.
 fn begin_group(line: &mut Line, row: &GroupRow)
     ensures written { written line.new ≡ group_finds row.now }
     ensures room { 327 ≤ line.new.start }
 {
     line.clear();
     line.put_byte(b'\n');
-    line.put_signed(row.linear);
-    put_signed_field(line, row.linear_least);
-    put_signed_field(line, row.gapped);
-    put_signed_field(line, row.gapped_least);
+    line.put_signed(i128::from(row.linear));
+    put_signed_field(line, i128::from(row.linear_least));
+    put_signed_field(line, i128::from(row.gapped));
+    put_signed_field(line, i128::from(row.gapped_least));
     put_field(line, row.bucket);
 }
 
-/// Puts a group's frame and clock before what its packets find.
+/// Puts the times and the RTP timestamp of a frame or field in front of the levels.
 fn put_group_clock(line: &mut Line, row: &GroupRow)
     requires { 206 ≤ line.old.start }
     ensures written { written line.new ≡ group_clock row.now (written line.old) }
@@ -201,7 +201,7 @@ fn put_group_clock(line: &mut Line, row: &GroupRow)
     put_signed_field(line, row.first);
 }
 
-/// Puts where a group stands before the rest of its line.
+/// Puts the fields that locate a frame or field in front of the line.
 fn put_group_place(line: &mut Line, row: &GroupRow)
     requires { 84 ≤ line.old.start }
     ensures { written line.new ≡ group_place row.now (written line.old) }
@@ -209,5 +209,5 @@ fn put_group_place(line: &mut Line, row: &GroupRow)
     put_field(line, row.stamp);
     put_field(line, row.rec);
     put_field(line, row.group);
-    put_field(line, u64::from(row.run));
+    put_field(line, row.run);
 }

@@ -1,4 +1,4 @@
-//! A judged run and its numbers as JSON.
+//! A judged run and its measurements as JSON.
 
 ghost use Rattle.std.specs.Prelude.{◌≡◌, ◌++◌, IfOk, map, option_map, string_bytes};
 ghost use Rattle.timing_report.specs.Outcomes.{verdict_on};
@@ -12,7 +12,7 @@ use timing_base::{Judged, Kind, Media};
 use timing_report::json_report::comma_if;
 use timing_report::{kind_name, verdict_on};
 
-/// Bins, and how many numbers are below 0, where that is told.
+/// Returns bins as JSON. The count of numbers below 0 is included if it is given.
 fn bins_of(alloc: Global, bins: &Bins, below: Option<u64>) -> Result<String, OutOfMemory>
     ensures { IfOk result (λ s. string_bytes s ≡ bins_text (bins_told bins.now) below) }
 {
@@ -27,7 +27,7 @@ fn bins_of(alloc: Global, bins: &Bins, below: Option<u64>) -> Result<String, Out
     )
 }
 
-/// The times between packets, where there are two.
+/// Returns the times between packets as a member, empty if there is only one packet.
 fn gap_member(alloc: Global, gap: Option<Gaps>) -> Result<String, OutOfMemory>
     ensures { IfOk result (λ s. string_bytes s ≡ gap_member (option_map gaps_told gap)) }
 {
@@ -43,7 +43,7 @@ fn gap_member(alloc: Global, gap: Option<Gaps>) -> Result<String, OutOfMemory>
     }
 }
 
-/// The packets that break a model first, and the groups that break.
+/// Returns the members for the first packet that breaks each limit, and for the count of broken frames or fields.
 fn breaks_of(alloc: Global, numbers: &KindNumbers) -> Result<String, OutOfMemory>
     ensures { IfOk result (λ s. string_bytes s ≡ breaks_text (kind_told numbers.now)) }
 {
@@ -65,7 +65,7 @@ fn breaks_of(alloc: Global, numbers: &KindNumbers) -> Result<String, OutOfMemory
     )
 }
 
-/// A type of a judged run.
+/// Returns a sender type of a judged run as JSON.
 fn kind_of(
     alloc: Global,
     judged: &Judged,
@@ -88,7 +88,7 @@ fn kind_of(
     )
 }
 
-/// The type at this place of N, NL and W.
+/// Returns the sender type at this place of N, NL and W, from 0.
 fn kind_at(place: usize) -> Kind
     ensures { result ≡ kind_at place }
 {
@@ -99,7 +99,7 @@ fn kind_at(place: usize) -> Kind
     }
 }
 
-/// Adds a type of a judged run.
+/// Adds a sender type of a judged run.
 fn add_kind(
     text: &mut String,
     alloc: Global,
@@ -114,7 +114,7 @@ fn add_kind(
     text.push_str(piece.as_str())
 }
 
-/// Adds the types, with a comma between two.
+/// Adds the sender types, separated by commas.
 fn add_kinds(
     text: &mut String,
     alloc: Global,
@@ -131,7 +131,7 @@ fn add_kinds(
     Ok(())
 }
 
-/// The types N, NL and W.
+/// Returns the types N, NL and W as a list.
 fn kinds_of(alloc: Global, judged: &Judged, kinds: &[KindNumbers]) -> Result<String, OutOfMemory>
     ensures { IfOk result (λ s. string_bytes s ≡ kinds_text judged.now (map kind_told kinds.now)) }
 {
@@ -182,7 +182,7 @@ fn add_front(
     )
 }
 
-/// Adds the members from `gapped` to `latency`.
+/// Adds the members of a run from `gapped` to `latency`.
 fn add_middle(
     text: &mut String,
     media: &Media,
@@ -211,7 +211,7 @@ fn add_middle(
     )
 }
 
-/// Adds the members from `linear` to `packets`.
+/// Adds the members of a run from `linear` to `packets`.
 fn add_rest(text: &mut String, judged: &Judged, run: &MeasuredRun) -> Result<(), OutOfMemory>
     ensures { IfOk result (λ _. string_bytes text.new
         ≡ string_bytes text.old ++ run_rest judged.now (run_told run.now)) }
@@ -230,7 +230,7 @@ fn add_rest(text: &mut String, judged: &Judged, run: &MeasuredRun) -> Result<(),
     )
 }
 
-/// Adds the members from `record` to `types`.
+/// Adds the members of a run from `record` to `types`.
 fn add_end(
     text: &mut String,
     alloc: Global,

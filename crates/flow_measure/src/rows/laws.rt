@@ -1,4 +1,4 @@
-//! What holds of the definitions themselves. Each function is a theorem: it does nothing, and its clauses are proved.
+//! Theorems about the definitions of rows. Each function does nothing: its clauses are what is proved.
 
 ghost use Rattle.std.specs.Prelude.{◌≡◌, ◌+◌, ◌*◌, [], true, false, None, Some};
 ghost use Rattle.timing_base.specs.Examples.{sent};
@@ -6,14 +6,15 @@ ghost use Rattle.sender_params.specs.Worked.{hd_50};
 ghost use Rattle.flow_measure.specs.report.Examples.{plain_packet};
 ghost use Rattle.flow_measure.specs.rows.Rows.{IsPacketRow, ends_group, step_before, step_from};
 
-/// 1080p at 50 with 20 packets per frame, of which the first comes 764,000 ns after a frame's instant: the bucket holds 1
-/// packet, and no read is due, gapped or linear, so the buffer holds 1.
+/// A row of 1080p at 50 frames per second with 20 packets per frame. The first packet arrives 764,000 ns after the
+/// frame begins. The bucket then holds 1 packet. No read is due yet, gapped or linear, so the buffer holds 1 packet.
 pub fn first_of_a_run()
     ensures row { IsPacketRow hd_50 0 1 20 [] (sent 2 1600000000000764000 1 1800 false) plain_packet }
 {}
 
-/// Of 20 packets in a group the one behind 19 ends it, and the one behind 18 doesn't. Timestamps that go on by 1800 from 1800
-/// on have no step at the first group, and 1800 at the next one, also where they turn over.
+/// The last packet of a frame and the steps of RTP timestamps. Of 20 packets per frame, the packet after 19 ends the
+/// frame, and the packet after 18 doesn't. RTP timestamps from 1800 on that advance by 1800 give no step for the first
+/// frame, and 1800 for the next one, also across the wrap at 2^32.
 pub fn groups_by_hand()
     ensures goes { ends_group 20 18 ≡ false }
     ensures ends { ends_group 20 19 ≡ true }

@@ -1,4 +1,6 @@
 pub mod Feeding
+pub mod Keeping
 pub mod Around
 pub mod Finishing
+pub mod Longest
 pub mod ByHand

@@ -1,5 +1,5 @@
--- Whole pictures: their axes reach over all numbers and limits, and their left margins have room for the longest
--- number. Sizes are tenths of a unit of the picture; a digit takes 7.8 units at most. This project's own.
+-- Whole pictures: their axes include all numbers and limits, and their left margins have room for the longest number.
+-- Sizes are tenths of an SVG unit. A digit takes at most 7.8 units. This project's own format.
 use Rattle.std.specs.Prelude.{◌≤ℤ◌, ℕ, ℤ, pos, neg_ℤ, ◌+◌, ◌-◌, ◌*◌, ◌^◌, min, max, Bool, true, false}
 use Rattle.std.specs.Prelude.{List, [], ◌∷◌, ◌++◌, length}
 use Rattle.std.specs.Fmt.{signed_decimal}
@@ -28,40 +28,42 @@ use Rattle.flow_page.specs.declared.chart.plot.Plot.{Plot}
 abbrev pub wider : Extremes → Extremes → Extremes
 wider a b = record { least = int_min a.least b.least; greatest = int_max a.greatest b.greatest }
 
--- of a pair and columns
+-- the least and the greatest of a pair and columns
 abbrev pub over_columns : Extremes → List Extremes → Extremes
 over_columns e [] = e
 over_columns e (x ∷ xs) = over_columns (wider e x) xs
 
--- of a pair and the numbers of lines
+-- the least and the greatest of a pair and the numbers of lines
 abbrev pub over_lines : Extremes → List Limit → Extremes
 over_lines e [] = e
 over_lines e (l ∷ ls) = over_lines (wider e (record { least = l.at; greatest = l.at })) ls
 
--- an axis goes up to 2^61, and down to it below 0
+-- a number, limited to what an axis can show: -2^61 to 2^61
 abbrev pub bounded : ℤ → ℤ
 bounded z = int_max (int_min z (pos (2 ^ 61))) (neg_ℤ (pos (2 ^ 61)))
 
--- the axis from the one to the other
+-- the axis from the least to the greatest number
 abbrev pub axis_over : Extremes → Axis
 axis_over e = axis_of (bounded e.least) (int_max (bounded e.greatest) (bounded e.least))
 
--- a number is on an axis, as far as an axis goes
+-- a number is on an axis, up to what an axis can show
 abbrev pub IsOn : Axis → ℤ → Type 0
 IsOn a x = (a.low ≤ℤ bounded x) × (bounded x ≤ℤ high a)
 
--- how wide the numbers of an axis are, and what stands between them and its line
+-- the width of a number
 abbrev pub number_room : ℤ → ℕ
 number_room z = 78 * min 40 (length (signed_decimal z))
 
+-- the width of the numbers of an axis, with their distance to its line
 abbrev pub room_of : Unit → Axis → ℕ
 room_of unit a = 160 + max (number_room (shown unit a 0)) (number_room (shown unit a a.steps))
 
--- the panel to the right of them; the names of lines have 100 units at its right
+-- the panel to the right of a margin; at its right the names of lines have 100 units
 abbrev pub panel_of : (wide : Bool) → (room : ℕ) → Panel
 panel_of true room = record { left = room; width = 12000 - room; top = 200; height = 1600 }
 panel_of false room = record { left = room; width = 5400 - room; top = 200; height = 1600 }
 
+-- the plot of a scene over an axis
 abbrev pub plot_of : Scene → Axis → Plot
 plot_of s a = record { panel = panel_of s.wide (room_of s.unit a); axis = a; across = s.across }
 
@@ -81,11 +83,12 @@ curve_figure title detail s lines columns =
     figure_start s.wide title detail
     ++ (curve_text (plot_of s (curve_axis lines columns)) s lines columns ++ figure_end)
 
--- the most that a bar counts
+-- the greatest count of a bar
 abbrev pub most_of : (so_far : ℕ) → List Bar → ℕ
 most_of so_far [] = so_far
 most_of so_far (bar ∷ bars) = most_of (max so_far bar.count) bars
 
+-- the axis of the counts of bars
 abbrev pub bars_axis : List Bar → Axis
 bars_axis bars = axis_over (record { least = pos 0; greatest = pos (most_of 0 bars) })
 
@@ -93,7 +96,7 @@ bars_axis bars = axis_over (record { least = pos 0; greatest = pos (most_of 0 ba
 abbrev pub bars_panel : Axis → Panel
 bars_panel a = panel_of false (room_of Packets a)
 
--- the picture of bars, which count so many in all
+-- the picture of bars, which count `total` numbers
 abbrev pub bars_figure : (title detail : List ℕ) → UnitAcross → (total : ℕ) → List Bar → List ℕ
 bars_figure title detail along total bars =
     figure_start false title detail

@@ -1,4 +1,4 @@
--- Texts that are made of a piece for each number from 0 on.
+-- Texts of one piece for each number from 0 on.
 use Rattle.std.specs.Prelude.{ℕ, zero, suc, List, [], ◌++◌}
 
 -- the pieces 0 to n - 1

@@ -1,4 +1,4 @@
--- Some places of a picture that are shaded, with their first and last number beside them. This project's own.
+-- Shaded places of a picture, with the numbers of the first and the last of them. This project's own format.
 use Rattle.std.specs.Prelude.{ℕ, ◌+◌, ◌-◌, ◌*◌, max, nat_lt, if◌then◌else◌, List, [], ◌++◌, codes, length}
 use Rattle.std.specs.Prelude.{Option, Some, None}
 use Rattle.std.specs.Fmt.{decimal}
@@ -8,33 +8,34 @@ use Rattle.flow_page.specs.declared.chart.grid.Unit.{Unit}
 use Rattle.flow_page.specs.declared.chart.plot.Plot.{Plot}
 use Rattle.flow_page.specs.declared.chart.shade.Shade.{Shade}
 
--- from the left end of the first place to the right end of the last one
+-- the shaded area, from the left end of the first place to the right end of the last one
 unfoldable pub shade_piece : (left top bottom right : ℕ) → List ℕ
 shade_piece left top bottom right =
     codes "<path class=\"hit\" d=\"M" ++ (tenths_text left ++ (codes " " ++ (tenths_text top ++ (codes "V"
     ++ (tenths_text bottom ++ (codes "H" ++ (tenths_text right ++ (codes "V" ++ (tenths_text top
     ++ codes "Z\"/>")))))))))
 
--- which places they are
+-- the numbers of the first and the last shaded place
 unfoldable pub shade_name : (x base : ℕ) → (anchor : List ℕ) → (first last : ℕ) → List ℕ
 shade_name x base anchor first last =
     codes "<text class=\"lim\" x=\"" ++ (tenths_text x ++ (codes "\" y=\"" ++ (tenths_text base
     ++ (codes "\" text-anchor=\"" ++ (anchor ++ (codes "\">from " ++ (decimal first ++ (codes " to " ++ (decimal last
     ++ codes "</text>")))))))))
 
--- where the places begin and end
+-- the x at which the shaded places begin
 unfoldable pub shade_left : Plot → Shade → ℕ
 shade_left p s = x_of p s.from
 
+-- the x at which the shaded places end
 unfoldable pub shade_right : Plot → Shade → ℕ
 shade_right p s = x_of p (s.to + 1)
 
--- where there is room behind the unit of the axis, whose characters take 7.8 units at most
+-- the x after the unit of the axis, with at most 7.8 units per character
 unfoldable pub behind_unit : Plot → Unit → ℕ
 behind_unit p unit = 78 * length (unit_name unit p.axis.step) + 60
 
--- the name stands above the panel and what is shaded: in the left half it begins where that begins, or behind the unit
--- of the axis, and in the right half it ends where that ends
+-- the numbers of the shaded places, above the panel. In the left half they begin with the shaded places, or after the
+-- unit of the axis, and in the right half they end with the shaded places
 unfoldable pub shade_named : Plot → Unit → Shade → List ℕ
 shade_named p unit s =
     if nat_lt (shade_left p s - p.panel.left) (right_of p.panel - shade_left p s)
@@ -43,7 +44,7 @@ shade_named p unit s =
     else shade_name (shade_right p s) (p.panel.top - 40) (codes "end") (p.across.start + s.from)
     (p.across.start + s.to)
 
--- where there are any
+-- the shaded places, if there are any
 abbrev pub shade_text : Plot → Unit → Option Shade → List ℕ
 shade_text p unit None = []
 shade_text p unit (Some s) =

@@ -1,30 +1,19 @@
--- What a `RunDrawing` says of the judged packets of a run that it was fed: their stamps, in nanoseconds of TAI, and
--- their RTP timestamps, in ticks of 90 kHz. Packets count from 0.
-use Rattle.std.specs.Prelude.{◌≡◌, ◌≤◌, ◌<◌, ◌-◌, ◌*◌, ◌^◌, ℕ, List, length, slice_index}
-use Rattle.std.specs.List.{slice_index_or}
+-- The state of a `DrawingMeter` after the packets of a run that it was fed, and after those that were committed.
+use Rattle.std.specs.Prelude.{◌≡◌, ℕ, List, ◌++◌}
 use Rattle.timing_base.specs.Media.{Media}
-use Rattle.timing_base.specs.Verdicts.{Judged}
-use Rattle.timing_base.specs.declared.media.Kind.TheVariants.{N, NL, W}
-use Rattle.timing_base.specs.declared.row.KindVerdict.TheVariants.{Pass}
-use Rattle.flow_measure.specs.rows.making.Levels.{StandsFor as LevelsStandFor}
-use Rattle.flow_page.specs.drawing.drawing.Columns.{DrawsGroups, DrawsPackets}
-use Rattle.flow_page.specs.drawing.drawing.Regions.{DrawsKind}
-use Rattle.flow_page.specs.declared.drawing.drawing.RunDrawing.{RunDrawing}
+use Rattle.timing_base.specs.declared.packet.FlowPacket.{FlowPacket}
+use Rattle.run_meter.specs.Runs.{RunOf, stamps_of}
+use Rattle.flow_measure.specs.Packets.{timestamps_of}
+use Rattle.flow_page.specs.drawing.drawing.Columns.{Draws}
+use Rattle.flow_page.specs.drawing.drawing.Regions.{DrawsRegions}
+use Rattle.flow_page.specs.declared.drawing.meter.DrawingMeter.{DrawingMeter}
 
--- a run of which this is judged can be drawn: it has groups, and no more packets than a run can have
-pub record IsDrawable (judged : Judged) : Type 0 where
-  pub some : 1 ≤ judged.frames
-  pub few : judged.n * judged.frames < 2 ^ 41
-
--- the packets with these stamps and timestamps were fed, and no others, of a run of which this is judged
-pub record Draws (m : Media) (judged : Judged) (x : RunDrawing) (stamps timestamps : List ℕ) : Type 0 where
-  pub levels_stand : LevelsStandFor m judged.n x.levels stamps
-  pub packets_draw : DrawsPackets m judged.n (judged.n * judged.frames) x.packets stamps
-  pub groups_draw : DrawsGroups m judged.n judged.frames x.groups stamps timestamps
-  pub narrow_draws : DrawsKind m judged.n (judged.n * judged.frames) N (slice_index_or judged.kinds 0 Pass) x.narrow
-      stamps
-  pub narrow_linear_draws : DrawsKind m judged.n (judged.n * judged.frames) NL (slice_index_or judged.kinds 1 Pass)
-      x.narrow_linear stamps
-  pub wide_draws : DrawsKind m judged.n (judged.n * judged.frames) W (slice_index_or judged.kinds 2 Pass) x.wide stamps
-  pub first_is : 0 < length stamps → x.first_at ≡ slice_index stamps 0
-  pub last_is : 0 < length stamps → x.last_at ≡ slice_index stamps (length stamps - 1)
+-- for this run of the video, the meter was fed exactly the packets `fed`, of which `committed` were committed
+pub record StandsFor (x : DrawingMeter) (m : Media) (tai : ℕ) (r : RunOf) (fed committed : List FlowPacket)
+    : Type 0 where
+  pub run_is : x.run ≡ r.number
+  pub rest : List FlowPacket
+  pub whole : fed ≡ committed ++ rest
+  pub all_are : Draws m r.n x.all (stamps_of tai fed) (timestamps_of fed)
+  pub committed_are : Draws m r.n x.committed (stamps_of tai committed) (timestamps_of committed)
+  pub regions_are : DrawsRegions m r.n x.regions (stamps_of tai fed)

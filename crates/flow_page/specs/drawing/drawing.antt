@@ -1,3 +1,5 @@
 pub mod Held
 pub mod Columns
+pub mod Taken
 pub mod Regions
+pub mod Longest

@@ -4,19 +4,18 @@ ghost use Rattle.std.specs.Prelude.{◌≡◌, ◌<◌, ◌≤◌, ◌+◌, ◌*
 ghost use Rattle.flow_page.specs.chart.Axes.{axis_of, low_at, round_up, step_of, steps_at, tick};
 ghost use Rattle.flow_page.specs.chart.Marks.{high};
 
-/// An axis: its low end, how far it is from one tick to the next, and how many steps there are up to its high end. All
-/// have the unit of the numbers.
+/// An axis with ticks at regular steps, in the unit of the numbers.
 #[derive(Clone, Copy)]
 pub struct Axis {
     /// The number at the low end.
     pub low: i64,
-    /// From one tick to the next: 1, 2 or 5 times a power of ten.
+    /// The distance of two ticks: 1, 2 or 5 times a power of ten.
     pub step: u64,
-    /// The steps from the low end to the high end.
+    /// The count of steps from the low end to the high end.
     pub steps: u32,
 }
 
-/// The least of 1, 2 and 5 times a power of ten that isn't below the number.
+/// Returns the least of 1, 2 and 5 times a power of ten that isn't below `wanted`.
 pub(crate) fn round_up(wanted: u64) -> u64
     requires { wanted ≤ 2 ^ 60 }
     ensures value { result ≡ round_up wanted }
@@ -40,7 +39,7 @@ pub(crate) fn round_up(wanted: u64) -> u64
     power
 }
 
-/// The greatest multiple of the step that isn't above the least number.
+/// Returns the greatest multiple of the step that isn't above the least number.
 #[tactic(auto, unfolding(crate::specs::chart::Axes::low_at))]
 fn low_at(least: i64, step: u64) -> i64
     requires low { neg_ℤ (pos (2 ^ 61)) ≤ℤ least }
@@ -54,7 +53,7 @@ fn low_at(least: i64, step: u64) -> i64
     least - least.rem_euclid(step as i64)
 }
 
-/// The steps from the low end up to the greatest number, three at least and eight at most.
+/// Returns the count of steps from the low end up to the greatest number, at least three and at most eight.
 #[tactic(auto, unfolding(crate::specs::chart::Axes::steps_at))]
 fn steps_at(low: i64, greatest: i64, step: u64) -> u32
     requires { 1 ≤ step }
@@ -65,7 +64,7 @@ fn steps_at(low: i64, greatest: i64, step: u64) -> u32
 }
 
 impl Axis {
-    /// From one tick to the next, for numbers from the least to the greatest.
+    /// Returns the distance of two ticks for numbers from the least to the greatest.
     #[tactic(auto, unfolding(crate::specs::chart::Axes::step_of))]
     fn step_of(least: i64, greatest: i64) -> u64
         requires low { neg_ℤ (pos (2 ^ 61)) ≤ℤ least }
@@ -79,8 +78,8 @@ impl Axis {
         round_up(greatest.abs_diff(least).div_ceil(6))
     }
 
-    /// The axis of numbers from the least to the greatest, with a tick at each multiple of its step. It reaches from the
-    /// one to the other.
+    /// Returns the axis for numbers from the least to the greatest, with a tick at each multiple of its step. Both
+    /// numbers are on the axis.
     pub fn of(least: i64, greatest: i64) -> Axis
         requires low { neg_ℤ (pos (2 ^ 61)) ≤ℤ least }
         requires ordered { least ≤ℤ greatest }
@@ -95,7 +94,7 @@ impl Axis {
         Axis { low, step, steps }
     }
 
-    /// A tick, counted from 0 at the low end.
+    /// Returns the number at a tick. Ticks count from 0 at the low end.
     pub fn tick(self, number: u32) -> i128
         ensures { result ≡ tick self number }
     {

@@ -1,7 +1,9 @@
 //! Bars of bins and classes.
 
 ghost use Rattle.std.specs.Prelude.{◌≡◌, ◌≤◌, ◌+◌, ◌-◌, ◌++◌, IfOk, length, string_bytes};
-ghost use Rattle.flow_page.specs.chart.Bars.{bar_label, bar_name, bar_piece, bar_shape, bar_style, bar_text, bar_x, bars_picture, bars_text, has_name, label_step, limit_before, limit_line, limit_number, plot_of_bars, share_of, some_label, some_share, told_text};
+ghost use Rattle.flow_page.specs.chart.Bars.{bar_label, bar_name, bar_piece, bar_shape, bar_style, bar_text, bar_x};
+ghost use Rattle.flow_page.specs.chart.Bars.{bars_picture, bars_text, has_name, label_step, limit_before, limit_line};
+ghost use Rattle.flow_page.specs.chart.Bars.{limit_number, plot_of_bars, share_of, some_label, some_share, told_text};
 ghost use Rattle.flow_page.specs.chart.Marks.{tenths};
 
 use crate::chart::axis::Axis;
@@ -10,22 +12,23 @@ use crate::chart::plot::{Across, Panel, Plot, Tenths};
 use std::alloc::AllocError as OutOfMemory;
 use std::fmt;
 
-/// Which numbers a bar counts.
+/// The numbers that a bar counts.
 #[derive(Clone, Copy)]
 pub enum BarName {
-    /// Those below 0, which are beyond a limit.
+    /// Numbers below 0, which are beyond a limit.
     Below,
-    /// Those from this one on, up to the next bar's.
+    /// Numbers from this one up to that of the next bar.
     From(u128),
-    /// Those above this limit.
+    /// Numbers above this limit.
     Above(u64),
 }
 
 /// A bar.
 #[derive(Clone, Copy)]
 pub struct Bar {
+    /// The numbers that it counts.
     pub name: BarName,
-    /// How many numbers it counts.
+    /// How many of them there are.
     pub count: u64,
 }
 
@@ -44,11 +47,12 @@ impl fmt::Display for BarName {
     }
 }
 
-/// What is told at a bar.
+/// A label of a bar.
 #[derive(Clone, Copy)]
 enum BarTold {
+    /// The name of the bar.
     Name(BarName),
-    /// Tenths of a percent.
+    /// The share of all numbers, in tenths of a percent.
     Share(u128),
 }
 
@@ -73,7 +77,7 @@ impl fmt::Display for BarTold {
     }
 }
 
-/// The class of a bar's style.
+/// Returns the CSS class of a bar.
 fn bar_style(name: BarName) -> &'static str
     ensures { result.now ≡ bar_style name }
 {
@@ -83,7 +87,7 @@ fn bar_style(name: BarName) -> &'static str
     }
 }
 
-/// The x that is so many tenths of a bar's place from its left end; bars count from 0.
+/// Returns the x at `tenth` tenths of a bar's place from the left end of the place. Bars count from 0.
 #[tactic(auto, unfolding(crate::specs::chart::Bars::bar_x))]
 fn bar_x(plot: Plot, bar: usize, tenth: u32) -> Tenths
     ensures { result ≡ tenths (bar_x plot bar tenth) }
@@ -94,7 +98,7 @@ fn bar_x(plot: Plot, bar: usize, tenth: u32) -> Tenths
     Tenths { tenths }
 }
 
-/// Writes a bar from the bottom up to its count, with both in words.
+/// Writes a bar from the bottom up to its count, with name and count in words.
 #[tactic(auto, unfolding(crate::specs::chart::Bars::bar_piece))]
 fn write_bar(
     text: &mut String,
@@ -115,7 +119,7 @@ fn write_bar(
     )
 }
 
-/// Adds a bar where it counts any.
+/// Adds a bar, if it counts any number.
 fn add_shape(text: &mut String, plot: Plot, k: usize, bar: Bar) -> Result<(), OutOfMemory>
     ensures { IfOk result (λ _. string_bytes text.new ≡ string_bytes text.old ++ bar_shape plot k bar) }
 {
@@ -127,7 +131,7 @@ fn add_shape(text: &mut String, plot: Plot, k: usize, bar: Bar) -> Result<(), Ou
     write_bar(text, left, bottom, y, right, bar)
 }
 
-/// So many bars take sixty units, as eight digits do.
+/// Returns how many bars take sixty SVG units, the width of eight digits, rounded up.
 #[tactic(auto, unfolding(crate::specs::chart::Bars::label_step))]
 fn label_step(plot: Plot) -> u128
     ensures value { result ≡ label_step plot }
@@ -137,7 +141,7 @@ fn label_step(plot: Plot) -> u128
     wanted.div_ceil(u128::from(plot.panel.width.max(1))).max(1)
 }
 
-/// Writes what is told in the middle of a bar.
+/// Writes a label centred at a bar.
 #[tactic(auto, unfolding(crate::specs::chart::Bars::bar_label))]
 fn write_label(
     text: &mut String,
@@ -154,8 +158,8 @@ fn write_label(
     )
 }
 
-/// Whether a bar has its name below it: the first and the last one do, and each of so many that isn't nearer than
-/// that to the last one.
+/// Returns whether a bar has its name below it: the first bar, the last bar, and each bar at a multiple of `label_step`
+/// that is at least that far from the last one.
 #[tactic(auto, unfolding(crate::specs::chart::Bars::has_name))]
 fn has_name(plot: Plot, k: usize) -> bool
     ensures { result ≡ has_name plot k }
@@ -165,7 +169,7 @@ fn has_name(plot: Plot, k: usize) -> bool
     k == 0 || behind == 0 || k % step == 0 && step <= behind
 }
 
-/// Adds a bar's name below it, where it has one.
+/// Adds a bar's name below it, if it has one.
 fn add_some_label(text: &mut String, plot: Plot, k: usize, bar: Bar) -> Result<(), OutOfMemory>
     ensures { IfOk result (λ _. string_bytes text.new ≡ string_bytes text.old ++ some_label plot k bar) }
 {
@@ -177,7 +181,7 @@ fn add_some_label(text: &mut String, plot: Plot, k: usize, bar: Bar) -> Result<(
     }
 }
 
-/// How many tenths of a percent of all a bar counts, rounded down.
+/// Returns the share of `count` in `total`, in tenths of a percent, rounded down.
 #[tactic(auto, unfolding(crate::specs::chart::Bars::share_of))]
 fn share_of(total: u64, count: u64) -> u128
     ensures { result ≡ share_of total count }
@@ -185,7 +189,7 @@ fn share_of(total: u64, count: u64) -> u128
     u128::from(count) * 1000 / u128::from(total.max(1))
 }
 
-/// Adds the share of a bar above it, where each bar has a name.
+/// Adds the share of a bar above it, if each bar has a name.
 fn add_some_share(
     text: &mut String,
     plot: Plot,
@@ -242,7 +246,7 @@ fn write_limit_number(
     )
 }
 
-/// The x four units to the left.
+/// Returns the x four units to the left.
 fn before(x: Tenths) -> Tenths
     ensures { result ≡ tenths (x.tenths - 40) }
 {
@@ -250,7 +254,7 @@ fn before(x: Tenths) -> Tenths
     Tenths { tenths }
 }
 
-/// The y ten units below the top of a panel.
+/// Returns the y ten units below the top of a panel.
 fn under_top(panel: Panel) -> Tenths
     ensures { result ≡ tenths (panel.top + 100) }
 {
@@ -258,7 +262,7 @@ fn under_top(panel: Panel) -> Tenths
     Tenths { tenths }
 }
 
-/// Adds the line of the limit before the bar of what is above it.
+/// Adds the line of the limit to the left of the bar of the numbers above it.
 fn add_limit_before(
     text: &mut String,
     plot: Plot,
@@ -277,7 +281,7 @@ fn add_limit_before(
     }
 }
 
-/// Adds a bar of so many in all, with its share, its name and its limit, counted from 0.
+/// Adds bar `k`, from 0, with its share of `total`, its name and its limit.
 fn add_bar(text: &mut String, plot: Plot, total: u64, k: usize, bar: Bar) -> Result<(), OutOfMemory>
     ensures { IfOk result (λ _. string_bytes text.new ≡ string_bytes text.old ++ bar_text plot total k bar) }
 {
@@ -297,10 +301,11 @@ fn add_each_bar(text: &mut String, plot: Plot, total: u64, bars: &[Bar]) -> Resu
     Ok(())
 }
 
-/// Adds bars side by side over the grid of an axis of counts, with the units; `total` is what they count in all. A bar
-/// that counts nothing isn't drawn; one that counts any has its line at least. What is below 0 or above a limit has the
-/// colour of limits, and the limit stands before the bar of what is above it. Names stand below the first and the last
-/// bar and those between where there is room, and shares above bars where each has a name.
+/// Adds bars side by side over the grid of an axis of counts, with the units. `total` is the count of all numbers. A
+/// bar with the count 0 isn't drawn, and any other bar has at least its outline. Bars of numbers below 0 or above a
+/// limit have the colour of limits, and the line of the limit is to the left of the bar of the numbers above it. Names
+/// are below the first and the last bar, and below those between if there is room. Shares are above the bars if each
+/// bar has a name.
 pub fn add_bars(
     text: &mut String,
     panel: Panel,

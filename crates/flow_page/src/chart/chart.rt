@@ -4,7 +4,9 @@ ghost use Rattle.std.specs.Prelude.{◌≡◌, ◌≤◌, ◌++◌, ◌*◌, ◌
 ghost use Rattle.std.specs.Fmt.{signed_decimal};
 ghost use Rattle.flow_measure.specs.Columns.{column_at};
 ghost use Rattle.flow_page.specs.chart.Bars.{bars_picture, plot_of_bars};
-ghost use Rattle.flow_page.specs.chart.Charts.{axis_over, bars_axis, bars_figure, bars_panel, bounded, curve_axis, curve_figure, curve_text, most_of, number_room, over_columns, over_lines, panel_of, plot_of, room_of, wider};
+ghost use Rattle.flow_page.specs.chart.Charts.{axis_over, bars_axis, bars_figure, bars_panel, bounded, curve_axis};
+ghost use Rattle.flow_page.specs.chart.Charts.{curve_figure, curve_text, most_of, number_room, over_columns};
+ghost use Rattle.flow_page.specs.chart.Charts.{over_lines, panel_of, plot_of, room_of, wider};
 
 use crate::chart::axis::Axis;
 use crate::chart::bars::{Bar, add_bars};
@@ -19,26 +21,27 @@ use crate::chart::shade::{Shade, add_shade};
 use flow_measure::Extremes;
 use std::alloc::{AllocError as OutOfMemory, Global};
 
-/// The greatest number of an axis; its least is as far below 0.
+/// The greatest absolute number on an axis.
 const FAR: i128 = 1 << 61;
 
-/// What stands up and side by side in a curve's picture.
+/// The two directions of a curve's picture.
 #[derive(Clone, Copy)]
 pub struct Scene {
-    /// Whether the picture is as wide as the page; of others two stand side by side.
+    /// Whether the picture is as wide as the page. Other pictures stand in pairs, side by side.
     pub wide: bool,
-    /// What its numbers count.
+    /// The unit of its numbers.
     pub unit: Unit,
-    /// What stands side by side.
+    /// The unit of its places, from left to right.
     pub along: UnitAcross,
+    /// The places from left to right.
     pub across: Across,
-    /// So many places are a frame; 0 where frames aren't marked.
+    /// The places per frame or field; 0 if their ends aren't marked.
     pub every: u64,
-    /// Places that are shaded, counted from the first in the picture.
+    /// The shaded places, counted from the first in the picture.
     pub shade: Option<Shade>,
 }
 
-/// The least and the greatest of two pairs.
+/// Returns the least and the greatest of two pairs.
 fn wider(a: Extremes, b: Extremes) -> Extremes
     ensures { result ≡ wider a b }
 {
@@ -48,7 +51,7 @@ fn wider(a: Extremes, b: Extremes) -> Extremes
     }
 }
 
-/// The first column; 0 where there is none.
+/// Returns the first column, or 0 to 0 if there is none.
 fn first_of(columns: &[Extremes]) -> Extremes
     ensures { result ≡ column_at columns.now 0 }
 {
@@ -62,7 +65,7 @@ fn first_of(columns: &[Extremes]) -> Extremes
     }
 }
 
-/// The least and the greatest number of columns.
+/// Returns the least and the greatest number of columns.
 fn over_columns(columns: &[Extremes]) -> Extremes
     ensures { result ≡ over_columns (column_at columns.now 0) columns.now }
 {
@@ -73,7 +76,7 @@ fn over_columns(columns: &[Extremes]) -> Extremes
     reach
 }
 
-/// The same of a pair and the numbers of lines.
+/// Returns the least and the greatest of a pair and of the numbers of lines.
 fn over_lines(reached: Extremes, lines: &[Limit]) -> Extremes
     ensures { result ≡ over_lines reached lines.now }
 {
@@ -88,7 +91,7 @@ fn over_lines(reached: Extremes, lines: &[Limit]) -> Extremes
     reach
 }
 
-/// A number, as far as an axis goes.
+/// Returns a number, limited to what an axis can show.
 fn bounded(number: i128) -> i64
     ensures value { result ≡ bounded number }
     ensures low { neg_ℤ (pos (2 ^ 61)) ≤ℤ result }
@@ -97,7 +100,7 @@ fn bounded(number: i128) -> i64
     number.min(FAR).max(-FAR) as i64
 }
 
-/// The axis from the least to the greatest number.
+/// Returns the axis from the least to the greatest number.
 fn axis_over(reach: Extremes) -> Axis
     ensures { result ≡ axis_over reach }
 {
@@ -106,14 +109,14 @@ fn axis_over(reach: Extremes) -> Axis
     Axis::of(least, greatest)
 }
 
-/// A number in digits.
+/// Returns a number in decimal.
 fn number_text(alloc: Global, number: i128) -> Result<String, OutOfMemory>
     ensures { IfOk result (λ s. string_bytes s ≡ signed_decimal number) }
 {
     format!(in alloc; "{number}")
 }
 
-/// How wide a number is, in tenths of a unit.
+/// Returns the width of a number, in tenths of an SVG unit.
 fn number_room(alloc: Global, number: i128) -> Result<u32, OutOfMemory>
     ensures value { IfOk result (λ room. room ≡ number_room number) }
     ensures bound { IfOk result (λ room. room ≤ 3120) }
@@ -123,7 +126,7 @@ fn number_room(alloc: Global, number: i128) -> Result<u32, OutOfMemory>
     Ok(78 * digits)
 }
 
-/// How wide the numbers of an axis are, and what stands between them and its line.
+/// Returns the width of the numbers of an axis with their distance to its line, in tenths of an SVG unit.
 fn room_of(alloc: Global, unit: Unit, axis: Axis) -> Result<u32, OutOfMemory>
     ensures value { IfOk result (λ room. room ≡ room_of unit axis) }
     ensures bound { IfOk result (λ room. room ≤ 3280) }
@@ -133,7 +136,7 @@ fn room_of(alloc: Global, unit: Unit, axis: Axis) -> Result<u32, OutOfMemory>
     Ok(160 + low.max(high))
 }
 
-/// The panel to the right of so much room.
+/// Returns the panel to the right of a margin of `room` tenths of an SVG unit.
 fn panel_of(wide: bool, room: u32) -> Panel
     requires { room ≤ 3280 }
     ensures { result ≡ panel_of wide room }
@@ -148,7 +151,7 @@ fn panel_of(wide: bool, room: u32) -> Panel
     }
 }
 
-/// The plot of a scene over an axis.
+/// Returns the plot of a scene over an axis.
 fn plot_of(alloc: Global, scene: Scene, axis: Axis) -> Result<Plot, OutOfMemory>
     ensures { IfOk result (λ plot. plot ≡ plot_of scene axis) }
 {
@@ -181,14 +184,14 @@ fn add_curve(
     add_lines(text, plot, lines)
 }
 
-/// The axis of columns and lines.
+/// Returns the axis of columns and lines.
 fn curve_axis(lines: &[Limit], columns: &[Extremes]) -> Axis
     ensures { result ≡ curve_axis lines.now columns.now }
 {
     axis_over(over_lines(over_columns(columns), lines))
 }
 
-/// Adds the picture of columns with its title, what is told beside it, and the lines of limits. Its axis reaches over all
+/// Adds the picture of columns with its title, the text beside it, and the lines of limits. Its axis includes all
 /// columns and lines.
 pub fn add_curve_figure(
     text: &mut String,
@@ -209,7 +212,7 @@ pub fn add_curve_figure(
     add_figure_end(text)
 }
 
-/// The most that a bar counts.
+/// Returns the greatest count of a bar.
 fn most_of(bars: &[Bar]) -> u64
     ensures { result ≡ most_of 0 bars.now }
 {
@@ -220,7 +223,7 @@ fn most_of(bars: &[Bar]) -> u64
     most
 }
 
-/// The axis of what bars count.
+/// Returns the axis of the counts of bars.
 fn bars_axis(bars: &[Bar]) -> Axis
     ensures { result ≡ bars_axis bars.now }
 {
@@ -230,7 +233,7 @@ fn bars_axis(bars: &[Bar]) -> Axis
     })
 }
 
-/// The panel of bars over an axis.
+/// Returns the panel of bars over an axis.
 fn bars_panel(alloc: Global, axis: Axis) -> Result<Panel, OutOfMemory>
     ensures { IfOk result (λ panel. panel ≡ bars_panel axis) }
 {
@@ -238,7 +241,7 @@ fn bars_panel(alloc: Global, axis: Axis) -> Result<Panel, OutOfMemory>
     Ok(panel_of(false, room))
 }
 
-/// Adds the picture of bars with its title and what is told beside it; `total` is what the bars count in all.
+/// Adds the picture of bars with its title and the text beside it. `total` is the count of all numbers.
 pub fn add_bars_figure(
     text: &mut String,
     alloc: Global,

@@ -9,21 +9,21 @@ use crate::chart::plot::{Plot, Tenths};
 use flow_measure::Extremes;
 use std::alloc::AllocError as OutOfMemory;
 
-/// The y of the greatest number of a column.
+/// Returns the y of the greatest number of a column.
 fn top_of(plot: Plot, column: Extremes) -> Tenths
     ensures { result.tenths ≡ y_of plot column.greatest }
 {
     plot.y(column.greatest)
 }
 
-/// The y of its least number.
+/// Returns the y of the least number of a column.
 fn bottom_of(plot: Plot, column: Extremes) -> Tenths
     ensures { result.tenths ≡ y_of plot column.least }
 {
     plot.y(column.least)
 }
 
-/// Adds where the band begins.
+/// Adds the start of the band.
 fn add_start(text: &mut String, plot: Plot, first: Extremes) -> Result<(), OutOfMemory>
     ensures { IfOk result (λ _. string_bytes text.new ≡ string_bytes text.old ++ band_start plot first) }
 {
@@ -31,7 +31,7 @@ fn add_start(text: &mut String, plot: Plot, first: Extremes) -> Result<(), OutOf
     write!(text, "<path class=\"band\" d=\"M{x} {y}")
 }
 
-/// Adds the way to the left end of a column, and from there up or down, where the line doesn't stay where it was.
+/// Adds the path to an end of a column, and from there up or down, if the height changes.
 fn add_turn(
     text: &mut String,
     plot: Plot,
@@ -49,7 +49,7 @@ fn add_turn(
     write!(text, "H{x}V{y}")
 }
 
-/// Adds the way along the greatest numbers, to the right end.
+/// Adds the path along the greatest numbers, to the right end.
 fn add_over(text: &mut String, plot: Plot, columns: &[Extremes]) -> Result<(), OutOfMemory>
     requires { 0 < length columns.now }
     ensures { IfOk result (λ _. string_bytes text.new ≡ string_bytes text.old
@@ -65,7 +65,7 @@ fn add_over(text: &mut String, plot: Plot, columns: &[Extremes]) -> Result<(), O
     write!(text, "H{x}")
 }
 
-/// Adds the way along the least numbers, back to the first column.
+/// Adds the path along the least numbers, back to the first column.
 fn add_under(text: &mut String, plot: Plot, columns: &[Extremes]) -> Result<(), OutOfMemory>
     requires { 0 < length columns.now }
     ensures { IfOk result (λ _. string_bytes text.new
@@ -81,7 +81,7 @@ fn add_under(text: &mut String, plot: Plot, columns: &[Extremes]) -> Result<(), 
     Ok(())
 }
 
-/// Adds where the band ends, from where it is closed.
+/// Adds the end of the band, where its path is closed.
 fn add_end(text: &mut String, plot: Plot) -> Result<(), OutOfMemory>
     ensures { IfOk result (λ _. string_bytes text.new ≡ string_bytes text.old ++ band_end plot) }
 {
@@ -89,7 +89,8 @@ fn add_end(text: &mut String, plot: Plot) -> Result<(), OutOfMemory>
     write!(text, "H{x}Z\"/>")
 }
 
-/// Adds the band of columns, from the least to the greatest number of each, in steps; nothing where there is no column.
+/// Adds the band of columns in steps, from the least to the greatest number of each. Adds nothing if there is no
+/// column.
 pub fn add_band(text: &mut String, plot: Plot, columns: &[Extremes]) -> Result<(), OutOfMemory>
     ensures { IfOk result (λ _. string_bytes text.new ≡ string_bytes text.old ++ band_text plot columns.now) }
 {

@@ -1,11 +1,11 @@
-//! Text in HTML and SVG.
+//! Escaped text for HTML and SVG.
 
 ghost use Rattle.std.specs.Prelude.{◌≡◌, ◌++◌, IfOk, string_bytes, encode_utf8_all};
 ghost use Rattle.flow_page.specs.chart.Escapes.{escaped, written};
 
 use std::alloc::AllocError as OutOfMemory;
 
-/// Adds one character.
+/// Adds one character, escaped if needed.
 fn add_char(text: &mut String, c: char) -> Result<(), OutOfMemory>
     ensures { IfOk result (λ _. string_bytes text.new ≡ string_bytes text.old ++ encode_utf8_all (written c)) }
 {
@@ -19,8 +19,8 @@ fn add_char(text: &mut String, c: char) -> Result<(), OutOfMemory>
     }
 }
 
-/// Adds what a text is in HTML and SVG: `&`, `<`, `>` and both quotes as references, so that nothing in it is read as
-/// markup.
+/// Adds a string as text of HTML or SVG. `&`, `<`, `>` and both quotes are written as references, so that no part of
+/// the string is read as markup.
 pub fn add_escaped(text: &mut String, plain: &str) -> Result<(), OutOfMemory>
     ensures { IfOk result (λ _. string_bytes text.new ≡ string_bytes text.old ++ escaped plain.now) }
 {

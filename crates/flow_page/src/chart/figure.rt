@@ -1,4 +1,4 @@
-//! The frame of a picture.
+//! The start and the end of a picture.
 
 ghost use Rattle.std.specs.Prelude.{◌≡◌, ◌++◌, IfOk, string_bytes};
 ghost use Rattle.flow_page.specs.chart.Figures.{figure_end, figure_open, figure_start, svg_open, told};
@@ -6,7 +6,7 @@ ghost use Rattle.flow_page.specs.chart.Figures.{figure_end, figure_open, figure_
 use crate::chart::escape::add_escaped;
 use std::alloc::AllocError as OutOfMemory;
 
-/// Adds some markup, and then a text in it.
+/// Adds markup, and then a string as escaped text.
 pub fn add_told(text: &mut String, markup: &str, plain: &str) -> Result<(), OutOfMemory>
     ensures { IfOk result (λ _. string_bytes text.new ≡ string_bytes text.old ++ told markup.now plain.now) }
 {
@@ -14,7 +14,7 @@ pub fn add_told(text: &mut String, markup: &str, plain: &str) -> Result<(), OutO
     add_escaped(text, plain)
 }
 
-/// The begin of a picture.
+/// Returns the start of a picture.
 fn figure_open(wide: bool) -> &'static str
     ensures { result.now ≡ figure_open wide }
 {
@@ -25,7 +25,7 @@ fn figure_open(wide: bool) -> &'static str
     }
 }
 
-/// The size of a picture, in its units.
+/// Returns the start of the SVG, with its size in SVG units.
 #[tactic(auto, unfolding(crate::specs::chart::Figures::svg_open))]
 fn svg_open(wide: bool) -> &'static str
     ensures { result.now ≡ svg_open wide }
@@ -37,14 +37,14 @@ fn svg_open(wide: bool) -> &'static str
     }
 }
 
-/// Adds some markup.
+/// Adds markup as it is.
 fn add_markup(text: &mut String, markup: &str) -> Result<(), OutOfMemory>
     ensures { IfOk result (λ _. string_bytes text.new ≡ string_bytes text.old ++ markup.now) }
 {
     text.push_str(markup)
 }
 
-/// Adds the start of a picture: its title, and what is told beside it and to those who can't see it.
+/// Adds the start of a picture: its title, and the text beside it, both also in the SVG for screen readers.
 pub(crate) fn add_figure_start(
     text: &mut String,
     wide: bool,

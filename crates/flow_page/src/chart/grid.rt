@@ -1,40 +1,44 @@
-//! The lines behind the numbers.
+//! The lines behind the numbers, with ticks and units.
 
 ghost use Rattle.std.specs.Prelude.{◌≡◌, ◌≤◌, ◌+◌, ◌++◌, ◌^◌, IfOk, pos, string_bytes};
-ghost use Rattle.flow_page.specs.chart.Grid.{across_name, frame_rule, frame_rules, grid_line, grid_text, mark_across, mark_piece, marks_across, number_piece, rule_piece, scale_of, scale_of_ns, shown, some_mark_across, step_across, tick_across, unit_name, units_piece, units_text};
+ghost use Rattle.flow_page.specs.chart.Grid.{across_name, frame_rule, frame_rules, grid_line, grid_text, mark_across};
+ghost use Rattle.flow_page.specs.chart.Grid.{mark_piece, marks_across, number_piece, rule_piece, scale_of, scale_of_ns};
+ghost use Rattle.flow_page.specs.chart.Grid.{shown, some_mark_across, step_across, tick_across, unit_name, units_piece};
+ghost use Rattle.flow_page.specs.chart.Grid.{units_text};
 
 use crate::chart::axis::{Axis, round_up};
 use crate::chart::plot::{Across, Plot, Tenths};
 use std::alloc::AllocError as OutOfMemory;
 
-/// What the numbers of an axis count.
+/// The unit of the numbers of an axis.
 #[derive(Clone, Copy)]
 pub enum Unit {
+    /// Packets.
     Packets,
-    /// Told as milliseconds or microseconds where each tick of the axis is a whole one.
+    /// Nanoseconds. They are printed as milliseconds or microseconds if each tick is a whole number of these.
     Nanoseconds,
-    /// Of 90 kHz.
+    /// Ticks of 90 kHz.
     Ticks,
 }
 
-/// What stands side by side.
+/// The unit of the places from left to right.
 #[derive(Clone, Copy)]
 pub enum UnitAcross {
     /// Judged packets, from 0.
     Packet,
-    /// The packets of one frame, from 0.
+    /// The packets of one frame or field, from 0.
     Place,
-    /// Frames, from 0.
+    /// Frames or fields, from 0.
     Frame,
-    /// What a bucket holds.
+    /// The packets in a bucket.
     Bucket,
-    /// What a buffer holds.
+    /// The packets in a buffer.
     Buffer,
     /// Nanoseconds from a packet to the next.
     Gap,
 }
 
-/// The nanoseconds of the unit in which nanoseconds are told.
+/// Returns the unit in which times are printed, in nanoseconds, for ticks `step` nanoseconds apart.
 fn scale_of_ns(step: u64) -> u32
     ensures value { result ≡ scale_of_ns step }
     ensures some { 1 ≤ result }
@@ -49,7 +53,7 @@ fn scale_of_ns(step: u64) -> u32
 }
 
 impl Unit {
-    /// So many of the numbers are one of the unit in which they are told, where ticks are so far apart.
+    /// Returns how many of the numbers make one of the printed unit, for ticks `step` apart.
     fn scale(self, step: u64) -> u32
         ensures value { result ≡ scale_of self step }
         ensures some { 1 ≤ result }
@@ -61,7 +65,7 @@ impl Unit {
         }
     }
 
-    /// The unit as it is told, in HTML.
+    /// Returns the printed unit, in HTML, for ticks `step` apart.
     pub(crate) fn name(self, step: u64) -> &'static str
         ensures { result.now ≡ unit_name self step }
     {
@@ -82,7 +86,7 @@ impl Unit {
 }
 
 impl UnitAcross {
-    /// The unit as it is told.
+    /// Returns the printed unit.
     fn name(self) -> &'static str
         ensures { result.now ≡ across_name self }
     {
@@ -97,7 +101,7 @@ impl UnitAcross {
     }
 }
 
-/// The number of a tick as it is told.
+/// Returns the printed number of a tick.
 #[tactic(auto, unfolding(crate::specs::chart::Grid::shown))]
 pub(crate) fn shown(unit: Unit, axis: Axis, k: u32) -> i128
     ensures { result ≡ shown unit axis k }
@@ -153,7 +157,7 @@ pub fn add_grid(text: &mut String, plot: Plot, unit: Unit) -> Result<(), OutOfMe
 }
 
 impl Across {
-    /// From one tick to the next.
+    /// Returns the distance of two ticks, in places.
     #[tactic(auto, unfolding(crate::specs::chart::Grid::step_across))]
     fn step(self) -> u64
         requires { self.count ≤ 2 ^ 60 }
@@ -163,7 +167,7 @@ impl Across {
         round_up(self.count.div_ceil(7))
     }
 
-    /// How far a tick is from the left end; ticks count from 0 at the first multiple of the step.
+    /// Returns the place of a tick, counted from the left end. Ticks count from 0 at the first multiple of the step.
     #[tactic(auto, unfolding(crate::specs::chart::Grid::tick_across))]
     fn tick(self, k: u32) -> u128
         requires { self.count ≤ 2 ^ 60 }
@@ -202,7 +206,7 @@ fn add_mark_across(text: &mut String, plot: Plot, at: u128) -> Result<(), OutOfM
     write_mark(text, x, bottom, base, u128::from(plot.across.start) + at)
 }
 
-/// Adds the mark of a tick, where it stands here.
+/// Adds the mark of a tick, if it is within the picture.
 fn add_some_mark_across(text: &mut String, plot: Plot, k: u32) -> Result<(), OutOfMemory>
     requires { plot.across.count ≤ 2 ^ 60 }
     ensures { IfOk result (λ _. string_bytes text.new ≡ string_bytes text.old ++ some_mark_across plot k) }
@@ -215,7 +219,7 @@ fn add_some_mark_across(text: &mut String, plot: Plot, k: u32) -> Result<(), Out
     }
 }
 
-/// Adds the marks of all ticks across.
+/// Adds the marks of all ticks from left to right.
 pub fn add_marks_across(text: &mut String, plot: Plot) -> Result<(), OutOfMemory>
     requires { plot.across.count ≤ 2 ^ 60 }
     ensures { IfOk result (λ _. string_bytes text.new ≡ string_bytes text.old ++ marks_across plot) }
@@ -257,7 +261,7 @@ pub fn add_units(
     write_units(text, unit.name(plot.axis.step), right, base, across.name())
 }
 
-/// Adds the line at the end of a frame.
+/// Adds the line at the end of a frame or field.
 fn add_frame_rule(text: &mut String, plot: Plot, every: u64, k: u64) -> Result<(), OutOfMemory>
     ensures { IfOk result (λ _. string_bytes text.new ≡ string_bytes text.old ++ frame_rule plot every k) }
 {
@@ -266,7 +270,7 @@ fn add_frame_rule(text: &mut String, plot: Plot, every: u64, k: u64) -> Result<(
     write!(text, "<path class=\"fr\" d=\"M{x} {top}V{bottom}\"/>")
 }
 
-/// Adds the lines at the ends of frames with so many packets, where frames are four units wide at least.
+/// Adds the lines at the ends of frames or fields of `every` packets, if these are at least four SVG units wide.
 pub fn add_frame_rules(text: &mut String, plot: Plot, every: u64) -> Result<(), OutOfMemory>
     ensures { IfOk result (λ _. string_bytes text.new ≡ string_bytes text.old ++ frame_rules plot every) }
 {

@@ -1,6 +1,8 @@
-//! The pictures tried by hand. Each function is a theorem: it does nothing, and its clauses are proved.
+//! Pictures worked by hand, and theorems about all pictures. Each function does nothing: its clauses are what is
+//! proved.
 
-ghost use Rattle.std.specs.Prelude.{◌≡◌, ◌<◌, ◌≤◌, ◌≤ℤ◌, ◌<ℤ◌, ◌++◌, ◌∷◌, ℕ, ℤ, false, List, [], codes, length, neg_ℤ, pos};
+ghost use Rattle.std.specs.Prelude.{◌≡◌, ◌<◌, ◌≤◌, ◌≤ℤ◌, ◌<ℤ◌, ◌++◌, ◌∷◌, ℕ, ℤ, false, List, [], codes, length, neg_ℤ};
+ghost use Rattle.std.specs.Prelude.{pos};
 ghost use Rattle.std.specs.Prelude.{Some, None, true};
 ghost use Rattle.std.specs.List.{list_any};
 ghost use Rattle.flow_measure.specs.Columns.{AreColumns, column_at, greatest_at, least_at, places_in};
@@ -18,9 +20,10 @@ ghost use Rattle.flow_page.specs.declared.chart.axis.Axis.{Axis};
 ghost use Rattle.flow_page.specs.declared.chart.bars.BarName.TheVariants.{From};
 ghost use Rattle.flow_page.specs.declared.chart.grid.Unit.TheVariants.{Packets};
 ghost use Rattle.flow_page.specs.declared.chart.plot.Plot.{Plot};
-ghost use Rattle.flow_page.specs.chart.Worked.{bar, bars_plot, burst_bars, burst_columns, burst_plot, eight_plot, limit_of_4, nothing, wide_plot};
+ghost use Rattle.flow_page.specs.chart.Worked.{bar, bars_plot, burst_bars, burst_columns, burst_plot, eight_plot};
+ghost use Rattle.flow_page.specs.chart.Worked.{limit_of_4, nothing, wide_plot};
 
-/// Axes: with a tick at each number, below 0 in fives, of one number alone, and far from 0.
+/// Axes with a tick at each number, below 0 in steps of 5, of a single number, and far from 0.
 #[tactic(auto, unfolding(crate::proofs::lemmas::chart::Numerals::numerals, crate::proofs::lemmas::chart::Numerals::places))]
 pub fn axes_by_hand()
     ensures burst { axis_of (pos 1) (pos 5) ≡ record { low = pos 1; step = 1; steps = 4 } }
@@ -29,7 +32,7 @@ pub fn axes_by_hand()
     ensures far { axis_of (pos 758731) (pos 766209) ≡ record { low = pos 758000; step = 2000; steps = 5 } }
 {}
 
-/// Tenths in digits.
+/// Tenths in decimal.
 #[tactic(auto, unfolding(crate::proofs::lemmas::chart::Numerals::numerals, crate::proofs::lemmas::chart::Numerals::places))]
 pub fn tenths_by_hand()
     ensures whole { tenths_text 1740 ≡ codes "174" }
@@ -37,8 +40,8 @@ pub fn tenths_by_hand()
     ensures small { tenths_text 3 ≡ codes "0.3" }
 {}
 
-/// Marks: the ends of the axis are the ends of the picture, places are rounded down, and what is above or below the
-/// axis stands at its end.
+/// Places of numbers. The ends of the axis are the ends of the picture, places are rounded down, and numbers above or
+/// below the axis are drawn at its end.
 #[tactic(auto, unfolding(crate::proofs::lemmas::chart::Numerals::numerals, crate::proofs::lemmas::chart::Numerals::places))]
 pub fn marks_by_hand()
     ensures low { y_of burst_plot (pos 0) ≡ 1200 }
@@ -51,9 +54,9 @@ pub fn marks_by_hand()
     ensures third { place 100 3 1 ≡ 33 }
 {}
 
-/// Marks rise with numbers: of two numbers the greater one is no less far above the low end of an axis, and never stands
-/// below the other, nor below its line. On the axis, what is above a limit is further from the low end than the limit.
-/// The ends of the axis stand at the ends of the picture.
+/// Greater numbers are never drawn lower. Of two numbers, the greater one is at least as far above the low end of an
+/// axis, and is never drawn below the other one or below its line. On the axis, a number above a limit is further from
+/// the low end than the limit. The ends of the axis are at the ends of the picture.
 pub fn marks_rise()
     ensures rises { (a : Axis) (x y : ℤ) → x ≤ℤ y → rise a x ≤ rise a y }
     ensures above { (a : Axis) (limit x : ℤ) → a.low ≤ℤ limit → limit <ℤ x → x ≤ℤ high a
@@ -64,8 +67,9 @@ pub fn marks_rise()
     ensures within { (height : ℕ) (a : Axis) (x : ℤ) → mark height a x ≤ height }
 {}
 
-/// No peak is hidden: the axis of a curve reaches over all numbers of its columns, as far as an axis goes; the band of each
-/// column reaches over the places of all its numbers, and its ends are the places of two of them.
+/// No peak is hidden. The axis of a curve includes all numbers of its columns, up to the greatest number that an axis
+/// can have. The band of each column includes the places of all its numbers, and its ends are the places of two of
+/// them.
 pub fn no_peak_is_hidden()
     ensures on { (lines : List Limit) (columns : List Extremes) (c : ℕ) (x : ℤ) → c < length columns
         → least_at columns c ≤ℤ x → x ≤ℤ greatest_at columns c → IsOn (curve_axis lines columns) x }
@@ -77,14 +81,14 @@ pub fn no_peak_is_hidden()
         → EndsAtNumbers p numbers (places_in column_of count c) (column_at columns c) }
 {}
 
-/// The band of a burst: along the greatest numbers to the last column's end, and along the least ones back.
+/// The band of a burst: along the greatest numbers to the end of the last column, and back along the least ones.
 #[tactic(auto, unfolding(crate::proofs::lemmas::chart::Numerals::numerals, crate::proofs::lemmas::chart::Numerals::places))]
 pub fn band_by_hand()
     ensures { band_text burst_plot burst_columns
         ≡ codes "<path class=\"band\" d=\"M30 100H66V40H78V20H90V100H110H30Z\"/>" }
 {}
 
-/// The lines of its limits, each with its name beside it.
+/// The lines of the limits of that burst, each with its name beside it.
 #[tactic(auto, unfolding(crate::proofs::lemmas::chart::Numerals::numerals, crate::proofs::lemmas::chart::Numerals::places))]
 pub fn lines_by_hand()
     ensures { lines_text burst_plot (limit_of_4 ∷ nothing ∷ [])
@@ -92,9 +96,8 @@ pub fn lines_by_hand()
         ++ codes "<path class=\"lim\" d=\"M30 120H110\"/><text class=\"lim\" x=\"116\" y=\"124\">empty</text>" }
 {}
 
-/// Names of lines 13.9 units apart or nearer stand 14 units apart, the later one above; others
-/// stand at their lines. A third one that would touch the first, of which the second stands clear,
-/// stands above both.
+/// The places of names beside lines. A name less than 14 SVG units from another one is placed 14 units above that one.
+/// Other names stand at their lines. A third name that would touch the first, but not the second, is placed above both.
 #[tactic(auto, unfolding(crate::proofs::lemmas::chart::Numerals::places))]
 pub fn names_by_hand()
     ensures near_above { free_of 440 (with_name 579 None) ≡ 439 }
@@ -105,8 +108,8 @@ pub fn names_by_hand()
     ensures third_below { free_of 719 (with_name 439 (Some (with_name 579 None))) ≡ 719 }
 {}
 
-/// The bars of how often its bucket holds each number: nothing is drawn of 0, the limit stands before what is above it,
-/// and the first and the last bar have their names, with no room between for a third one's.
+/// The histogram of the burst's bucket. A count of 0 isn't drawn, the limit stands before the bar of the numbers above
+/// it, and the first and the last bar have names. There is no room for a name between them.
 #[tactic(auto, unfolding(crate::proofs::lemmas::chart::Numerals::numerals, crate::proofs::lemmas::chart::Numerals::places, crate::proofs::lemmas::chart::Numerals::names))]
 pub fn bars_by_hand()
     ensures { bars_text bars_plot 40 0 burst_bars
@@ -121,8 +124,8 @@ pub fn bars_by_hand()
         ++ codes "<text class=\"lim\" x=\"126\" y=\"30\" text-anchor=\"end\">limit 4</text>"))))))) }
 {}
 
-/// Of eight bars twenty units apart the first and the last one have their names, and each third one that isn't
-/// nearer than sixty units to the last.
+/// Names of eight bars that are twenty SVG units apart. The first and the last bar have names, and so does every third
+/// bar that is at least sixty units from the last.
 #[tactic(auto, unfolding(crate::proofs::lemmas::chart::Numerals::numerals, crate::proofs::lemmas::chart::Numerals::places, crate::proofs::lemmas::chart::Numerals::names))]
 pub fn bar_names_by_hand()
     ensures first { has_name eight_plot 0 ≡ true }
@@ -132,8 +135,8 @@ pub fn bar_names_by_hand()
     ensures last { has_name eight_plot 7 ≡ true }
 {}
 
-/// The name of what is shaded: at the left end it begins behind the unit of the axis, in the left half where that
-/// begins, and in the right half it ends where that ends.
+/// The name of shaded places. At the left end it begins after the unit of the axis. In the left half it begins with the
+/// shaded places, and in the right half it ends with them.
 #[tactic(auto, unfolding(crate::proofs::lemmas::chart::Numerals::numerals, crate::proofs::lemmas::chart::Numerals::places, crate::proofs::lemmas::chart::Numerals::names))]
 pub fn shade_names_by_hand()
     ensures left { shade_named burst_plot Packets (record { from = 0; to = 0 })
@@ -144,8 +147,8 @@ pub fn shade_names_by_hand()
         ≡ codes "<text class=\"lim\" x=\"80\" y=\"16\" text-anchor=\"end\">from 20 to 24</text>" }
 {}
 
-/// Where bars are sixty units apart, each has its name and its share: 36 of 40, and 1 of 2,000, which is less than a
-/// tenth of a percent.
+/// Shares of bars. If bars are sixty SVG units apart, each has its name and its share: 36 of 40, and 1 of 2,000, which
+/// is less than a tenth of a percent.
 #[tactic(auto, unfolding(crate::proofs::lemmas::chart::Numerals::numerals, crate::proofs::lemmas::chart::Numerals::places))]
 pub fn shares_by_hand()
     ensures most { some_share wide_plot 40 1 (bar (From 1) 36)
@@ -155,14 +158,14 @@ pub fn shares_by_hand()
     ensures narrow { some_share bars_plot 40 1 (bar (From 1) 36) ≡ [] }
 {}
 
-/// Of what HTML or SVG reads as markup nothing stands in what is written of a text but references, and it is read back as
-/// the text that it was.
+/// Escaped text contains no character that HTML or SVG reads as markup, except in references. It is read back as the
+/// original text.
 pub fn escaped_reads_back()
     ensures none { (cs : List ℕ) → list_any is_markup (all_written cs) ≡ false }
     ensures back { (cs : List ℕ) → unescaped (all_written cs) ≡ cs }
 {}
 
-/// A name that HTML would read as markup, and how it is read.
+/// A name with markup, as written and as read back.
 #[tactic(auto, unfolding(crate::proofs::lemmas::chart::Numerals::numerals, crate::proofs::lemmas::chart::Numerals::places))]
 pub fn escapes_by_hand()
     ensures read { unescaped (codes "&lt;b&gt;&amp;lt;&#39;&quot;&") ≡ codes "<b>&lt;'\"&" }

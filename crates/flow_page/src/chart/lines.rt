@@ -9,29 +9,31 @@ use crate::chart::plot::{Plot, Tenths};
 use std::alloc::AllocError as OutOfMemory;
 use std::fmt;
 
-/// What a line is the limit of.
+/// The limit that a line shows.
 #[derive(Clone, Copy)]
 pub enum LineName {
-    /// Of a narrow sender.
+    /// The limit of a narrow sender (N).
     Narrow,
-    /// Of a narrow linear sender.
+    /// The limit of a narrow linear sender (NL).
     NarrowLinear,
-    /// Of both, where it is the same.
+    /// The limit of N and NL, if it is the same.
     BothNarrow,
-    /// Of a wide sender.
+    /// The limit of a wide sender (W).
     Wide,
-    /// A buffer that holds nothing.
+    /// An empty buffer.
     Empty,
     /// TR_OFFSET, in nanoseconds.
     Offset,
-    /// The instant at which a frame or field ends, in nanoseconds from where it begins.
+    /// The end of a frame or field, in nanoseconds from its start.
     Period,
 }
 
 /// A line at a number.
 #[derive(Clone, Copy)]
 pub struct Limit {
+    /// The limit that it shows.
     pub name: LineName,
+    /// The number, in the unit of the axis.
     pub at: i128,
 }
 
@@ -55,7 +57,7 @@ impl fmt::Display for Limit {
     }
 }
 
-/// The class of a line's style.
+/// Returns the CSS class of a line.
 fn style_of(name: LineName) -> &'static str
     ensures { result.now ≡ style_of name }
 {
@@ -98,7 +100,7 @@ fn write_name(
     )
 }
 
-/// Adds a line with its name, which stands at this height.
+/// Adds a line, and its name with the baseline at `base`.
 fn add_line(text: &mut String, plot: Plot, base: Tenths, line: Limit) -> Result<(), OutOfMemory>
     ensures { IfOk result (λ _. string_bytes text.new ≡ string_bytes text.old ++ line_text plot base.tenths line) }
 {
@@ -108,26 +110,25 @@ fn add_line(text: &mut String, plot: Plot, base: Tenths, line: Limit) -> Result<
     write_name(text, style_of(line.name), x, base, line)
 }
 
-/// The baseline of a line.
+/// Returns the baseline of a name at the height of its line.
 fn base_of(plot: Plot, line: Limit) -> Tenths
     ensures { result.tenths ≡ base_of plot line.at }
 {
     plot.base(line.at)
 }
 
-/// The heights of the names that stand beside lines, in tenths of a unit: of the topmost and of the
-/// lowest.
+/// The baselines of the topmost and the lowest name beside lines, as y in tenths of an SVG unit.
 #[derive(Clone, Copy)]
 pub(crate) struct Names {
     top: u128,
     lowest: u128,
 }
 
-/// The least distance of two names, in tenths of a unit.
+/// The least distance of two names, in tenths of an SVG unit.
 const APART: u128 = 140;
 
-/// The height of a name: that of its line where this is far enough above all these names, or below
-/// all of them; else above all.
+/// Returns the baseline of a name: that of its line if it is far enough above all these names or below all of them,
+/// else one above all of them.
 #[tactic(auto, unfolding(crate::specs::chart::Lines::free_of))]
 fn free_of(own: Tenths, names: Names) -> Tenths
     ensures { result.tenths ≡ free_of own.tenths names }
@@ -141,7 +142,7 @@ fn free_of(own: Tenths, names: Names) -> Tenths
     Tenths { tenths }
 }
 
-/// The height of a name, where these names stand already.
+/// Returns the baseline of a name, with the names that are already placed.
 fn placed(own: Tenths, names: Option<Names>) -> Tenths
     ensures { result.tenths ≡ placed own.tenths names }
 {
@@ -151,7 +152,7 @@ fn placed(own: Tenths, names: Option<Names>) -> Tenths
     }
 }
 
-/// The names with one more, at this height.
+/// Returns the names with one more at this baseline.
 fn with_name(base: Tenths, names: Option<Names>) -> Names
     ensures { result ≡ with_name base.tenths names }
 {
@@ -167,8 +168,8 @@ fn with_name(base: Tenths, names: Option<Names>) -> Names
     }
 }
 
-/// Adds the lines of limits, each with its name beside it; a name that isn't clear of those before
-/// it stands above all of them.
+/// Adds the lines of limits, each with its name beside it. A name that would touch those before it is placed above all
+/// of them.
 pub fn add_lines(text: &mut String, plot: Plot, lines: &[Limit]) -> Result<(), OutOfMemory>
     ensures { IfOk result (λ _. string_bytes text.new ≡ string_bytes text.old ++ lines_text plot lines.now) }
 {

@@ -1,14 +1,16 @@
-//! Where numbers stand in a picture.
+//! The places of numbers in a picture.
 
 ghost use Rattle.std.specs.Prelude.{◌≡◌, ◌+◌};
-ghost use Rattle.flow_page.specs.chart.Marks.{above, base_of, below, beside, bottom_of, edge, mark, name_x, place, right_of, rise, span, tenths, x_of, y_of};
+ghost use Rattle.flow_page.specs.chart.Marks.{above, base_of, below, beside, bottom_of, edge, mark, name_x, place};
+ghost use Rattle.flow_page.specs.chart.Marks.{right_of, rise, span, tenths, x_of, y_of};
 
 use crate::chart::axis::Axis;
 use std::fmt;
 
-/// Tenths of a unit of the picture, as `12` or `12.3`.
+/// A length in tenths of an SVG unit, printed as `12` or `12.3`.
 #[derive(Clone, Copy)]
 pub struct Tenths {
+    /// The tenths of an SVG unit.
     pub tenths: u128,
 }
 
@@ -29,41 +31,51 @@ impl fmt::Display for Tenths {
     }
 }
 
-/// The part of a picture where numbers stand, in tenths of a unit.
+/// The part of a picture that has the numbers, in tenths of an SVG unit.
 #[derive(Clone, Copy)]
 pub struct Panel {
+    /// The x of the left end.
     pub left: u32,
+    /// The distance from the left to the right end.
     pub width: u32,
+    /// The y of the top.
     pub top: u32,
+    /// The distance from the top to the bottom.
     pub height: u32,
 }
 
-/// What stands side by side: so many places, counted from `start`, of which each column takes `each`, the last one maybe
-/// fewer.
+/// The places from left to right, in columns.
 #[derive(Clone, Copy)]
 pub struct Across {
+    /// The number of the first place.
     pub start: u64,
+    /// The count of places.
     pub count: u64,
+    /// The places per column; the last column may have fewer.
     pub each: u64,
 }
 
-/// A panel with what stands side by side in it, and the axis of the numbers that stand up in it.
+/// A panel with its two directions.
 #[derive(Clone, Copy)]
 pub struct Plot {
+    /// The panel.
     pub panel: Panel,
+    /// The axis of the numbers, from bottom to top.
     pub axis: Axis,
+    /// The places from left to right.
     pub across: Across,
 }
 
 impl Axis {
-    /// From the low end to the high end.
+    /// Returns the distance from the low end to the high end, in the unit of the numbers.
     pub fn span(self) -> u128
         ensures { result ≡ span self }
     {
         u128::from(self.step) * u128::from(self.steps)
     }
 
-    /// How far a number is above the low end: nothing for one below it, and the span for one above the high end.
+    /// Returns the distance of a number from the low end: 0 if it is below the low end, and the span if it is above the
+    /// high end.
     fn rise(self, number: i128) -> u128
         ensures { result ≡ rise self number }
     {
@@ -74,7 +86,8 @@ impl Axis {
         }
     }
 
-    /// The y of a number in a picture of this height, from the high end down, in tenths of a unit, rounded down.
+    /// Returns the y of a number in a picture of this height, from the high end down, in tenths of an SVG unit, rounded
+    /// down.
     #[tactic(auto, unfolding(crate::specs::chart::Marks::mark))]
     pub fn mark(self, height: u32, number: i128) -> u128
         ensures { result ≡ mark height self number }
@@ -85,7 +98,7 @@ impl Axis {
 }
 
 impl Panel {
-    /// The x of the left end.
+    /// Returns the x of the left end.
     pub fn left(self) -> Tenths
         ensures { result ≡ tenths self.left }
     {
@@ -93,7 +106,7 @@ impl Panel {
         Tenths { tenths }
     }
 
-    /// The y of the top.
+    /// Returns the y of the top.
     pub fn top(self) -> Tenths
         ensures { result ≡ tenths self.top }
     {
@@ -101,7 +114,7 @@ impl Panel {
         Tenths { tenths }
     }
 
-    /// The x of the right end.
+    /// Returns the x of the right end.
     #[tactic(auto, unfolding(crate::specs::chart::Marks::right_of))]
     pub fn right(self) -> Tenths
         ensures { result ≡ tenths (right_of self) }
@@ -110,7 +123,7 @@ impl Panel {
         Tenths { tenths }
     }
 
-    /// The y of the bottom.
+    /// Returns the y of the bottom.
     #[tactic(auto, unfolding(crate::specs::chart::Marks::bottom_of))]
     pub fn bottom(self) -> Tenths
         ensures { result ≡ tenths (bottom_of self) }
@@ -119,7 +132,7 @@ impl Panel {
         Tenths { tenths }
     }
 
-    /// The y that is so far below the bottom.
+    /// Returns the y at `by` tenths of an SVG unit below the bottom.
     #[tactic(auto, unfolding(crate::specs::chart::Marks::below))]
     pub fn below(self, by: u32) -> Tenths
         ensures { result ≡ tenths (below self by) }
@@ -128,7 +141,7 @@ impl Panel {
         Tenths { tenths }
     }
 
-    /// The x where the numbers of the axis end.
+    /// Returns the x at which the numbers of the axis end.
     #[tactic(auto, unfolding(crate::specs::chart::Marks::beside))]
     pub fn beside(self) -> Tenths
         ensures { result ≡ tenths (beside self) }
@@ -137,7 +150,7 @@ impl Panel {
         Tenths { tenths }
     }
 
-    /// The x where the name of a line begins, to the right of it.
+    /// Returns the x at which the name of a line begins, to the right of the line.
     #[tactic(auto, unfolding(crate::specs::chart::Marks::name_x))]
     pub fn name_x(self) -> Tenths
         ensures { result ≡ tenths (name_x self) }
@@ -147,7 +160,7 @@ impl Panel {
     }
 }
 
-/// The x of a place, of so many side by side, in a picture of this width, in tenths of a unit, rounded down.
+/// Returns the x of place `at` of `count` places in a picture of this width, in tenths of an SVG unit, rounded down.
 #[tactic(auto, unfolding(crate::specs::chart::Marks::place))]
 fn place(width: u32, count: u64, at: u128) -> u128
     ensures { result ≡ place width count at }
@@ -157,7 +170,7 @@ fn place(width: u32, count: u64, at: u128) -> u128
 }
 
 impl Plot {
-    /// The y of a number.
+    /// Returns the y of a number.
     #[tactic(auto, unfolding(crate::specs::chart::Marks::y_of, crate::specs::chart::Marks::mark))]
     pub fn y(self, number: i128) -> Tenths
         ensures { result ≡ tenths (y_of self number) }
@@ -166,7 +179,7 @@ impl Plot {
         Tenths { tenths }
     }
 
-    /// The baseline of a number beside its line.
+    /// Returns the baseline of a number beside its line.
     #[tactic(auto, unfolding(crate::specs::chart::Marks::base_of, crate::specs::chart::Marks::mark))]
     pub fn base(self, number: i128) -> Tenths
         ensures { result ≡ tenths (base_of self number) }
@@ -175,7 +188,7 @@ impl Plot {
         Tenths { tenths }
     }
 
-    /// The baseline of what is told of a number, above it.
+    /// Returns the baseline of a label above a number.
     #[tactic(auto, unfolding(crate::specs::chart::Marks::above, crate::specs::chart::Marks::mark))]
     pub fn above(self, number: i128) -> Tenths
         ensures { result ≡ tenths (above self number) }
@@ -185,7 +198,7 @@ impl Plot {
         Tenths { tenths }
     }
 
-    /// The x of a place, counted from the first that stands here.
+    /// Returns the x of a place, counted from the first one in the picture.
     #[tactic(auto, unfolding(crate::specs::chart::Marks::x_of, crate::specs::chart::Marks::place))]
     pub fn x(self, at: u128) -> Tenths
         ensures { result ≡ tenths (x_of self at) }
@@ -194,7 +207,7 @@ impl Plot {
         Tenths { tenths }
     }
 
-    /// The x of the left end of a column, which is the right end of the column before.
+    /// Returns the x of the left end of a column, which is the right end of the column before it.
     #[tactic(auto, unfolding(crate::specs::chart::Marks::edge))]
     pub fn edge(self, column: usize) -> Tenths
         ensures { result ≡ tenths (edge self column) }

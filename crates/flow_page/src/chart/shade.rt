@@ -1,23 +1,25 @@
-//! Places that are shaded.
+//! Shaded places.
 
 ghost use Rattle.std.specs.Prelude.{◌≡◌, ◌-◌, ◌++◌, IfOk, max, string_bytes};
 ghost use Rattle.flow_page.specs.chart.Marks.{tenths};
-ghost use Rattle.flow_page.specs.chart.Shades.{behind_unit, shade_left, shade_name, shade_named, shade_piece, shade_right, shade_text};
+ghost use Rattle.flow_page.specs.chart.Shades.{behind_unit, shade_left, shade_name, shade_named, shade_piece};
+ghost use Rattle.flow_page.specs.chart.Shades.{shade_right, shade_text};
 
 use crate::chart::grid::Unit;
 use crate::chart::plot::{Panel, Plot, Tenths};
 use std::alloc::AllocError as OutOfMemory;
 
-/// Places that are shaded, counted from the first that stands in the picture.
+/// A range of shaded places, counted from the first one in the picture.
 #[derive(Clone, Copy)]
 pub struct Shade {
+    /// The first of them.
     pub from: u64,
     /// The last of them.
     pub to: u64,
 }
 
 impl Shade {
-    /// The x where it begins.
+    /// Returns the x at which it begins.
     #[tactic(auto, unfolding(crate::specs::chart::Shades::shade_left))]
     fn left(self, plot: Plot) -> Tenths
         ensures { result ≡ tenths (shade_left plot self) }
@@ -25,7 +27,7 @@ impl Shade {
         plot.x(u128::from(self.from))
     }
 
-    /// The x where it ends.
+    /// Returns the x at which it ends.
     #[tactic(auto, unfolding(crate::specs::chart::Shades::shade_right))]
     fn right(self, plot: Plot) -> Tenths
         ensures { result ≡ tenths (shade_right plot self) }
@@ -34,7 +36,7 @@ impl Shade {
     }
 }
 
-/// Writes what is shaded.
+/// Writes the shaded area.
 #[tactic(auto, unfolding(crate::specs::chart::Shades::shade_piece))]
 fn write_shade(
     text: &mut String,
@@ -52,7 +54,7 @@ fn write_shade(
     )
 }
 
-/// Writes which places they are.
+/// Writes the numbers of the first and the last shaded place.
 #[tactic(auto, unfolding(crate::specs::chart::Shades::shade_name))]
 fn write_shade_name(
     text: &mut String,
@@ -71,7 +73,7 @@ fn write_shade_name(
     )
 }
 
-/// The y four units above a panel.
+/// Returns the y four units above a panel.
 fn above_top(panel: Panel) -> Tenths
     ensures { result ≡ tenths (panel.top - 40) }
 {
@@ -79,7 +81,7 @@ fn above_top(panel: Panel) -> Tenths
     Tenths { tenths }
 }
 
-/// Where there is room behind the unit of the axis.
+/// Returns the x after the unit of the axis.
 #[tactic(auto, unfolding(crate::specs::chart::Shades::behind_unit))]
 fn behind_unit(plot: Plot, unit: Unit) -> u128
     ensures { result ≡ behind_unit plot unit }
@@ -87,7 +89,7 @@ fn behind_unit(plot: Plot, unit: Unit) -> u128
     78 * unit.name(plot.axis.step).len() as u128 + 60
 }
 
-/// Where a name begins that is to begin here: no farther left than behind the unit of the axis.
+/// Returns the x at which a name begins that should begin at `x`, moved to the right of the unit of the axis if needed.
 fn clear_of_unit(plot: Plot, unit: Unit, x: Tenths) -> Tenths
     ensures { result ≡ tenths (max (behind_unit plot unit) x.tenths) }
 {
@@ -95,7 +97,7 @@ fn clear_of_unit(plot: Plot, unit: Unit, x: Tenths) -> Tenths
     Tenths { tenths }
 }
 
-/// Adds which places they are, above them and clear of the unit of the axis.
+/// Adds the numbers of the shaded places above them, clear of the unit of the axis.
 #[tactic(auto, unfolding(crate::specs::chart::Shades::shade_named))]
 fn add_shade_name(
     text: &mut String,
@@ -118,7 +120,7 @@ fn add_shade_name(
     }
 }
 
-/// Adds places that are shaded, where there are any.
+/// Adds shaded places, if there are any.
 pub(crate) fn add_shade(
     text: &mut String,
     plot: Plot,

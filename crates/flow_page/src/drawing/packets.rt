@@ -1,147 +1,173 @@
-//! The columns of what is held at the judged packets of a run.
+//! The columns of the levels at the packets of a run.
 
-ghost use Rattle.std.specs.Prelude.{◌≡◌, ◌≤◌, ◌<◌, ◌+◌, ◌^◌, ◌++◌, ◌∷◌, [], max, ℕ, ℤ, IfOk, List};
+ghost use Rattle.std.specs.Prelude.{◌≡◌, ◌≤◌, ◌<◌, ◌+◌, ◌^◌, ◌++◌, ◌∷◌, [], ℕ, ℤ, IfOk, List};
 ghost use Rattle.std.specs.Prelude.{length};
 ghost use Rattle.timing_base.specs.Media.{Media};
 ghost use Rattle.flow_measure.specs.Columns.{AreCurve, AreEye};
-ghost use Rattle.flow_measure.specs.Stands.{Draws};
 
-use flow_measure::rows::Level;
-use flow_measure::{Columns, Extremes};
+use flow_measure::{Curve, Extremes, Eye};
+use run_meter::Level;
 use std::alloc::{AllocError as OutOfMemory, Global};
 use timing_base::Items;
 
-/// The most columns over all packets, or over all groups.
+/// The greatest number of columns over all packets, or over all frames or fields.
 pub const CURVE: u32 = 1000;
 
-/// The most columns of groups that are laid over each other.
+/// The greatest number of columns with all frames or fields overlaid.
 const EYE: u32 = 500;
 
-/// The columns so far, as a list. Where all numbers came, and they are one group, or none, these
-/// are the columns of their curve. `Err` is want of memory.
-pub fn listed(alloc: Global, columns: &Columns) -> Result<Items<Extremes>, OutOfMemory>
-    ensures eye { IfOk result (λ list. (numbers : ℕ → ℤ) → Draws columns.now numbers
-        → AreEye columns.now.group columns.now.most numbers columns.now.seen list) }
-    ensures curve { IfOk result (λ list. (most count : ℕ) (numbers : ℕ → ℤ)
-        → Draws columns.now numbers
-        → columns.now.group ≡ max 1 count → columns.now.most ≡ most → columns.now.seen ≡ count
-        → AreCurve most numbers count list) }
-{
-    let mut list = Vec::new(alloc);
-    list.extend_from_slice(columns.finish())?;
-    Ok(Items::from_vec(list))
-}
-
-/// The columns of what is held after each packet: over all packets, and of all groups laid over
-/// each other.
+/// The columns of one level just after each packet: over all packets, and with all frames or fields overlaid.
 #[derive(Drop)]
 pub struct LevelColumns {
-    /// The packets fed.
+    /// The packets per frame or field.
+    pub n: u64,
+    /// The count of packets fed.
     pub seen: u64,
-    curve: Columns,
-    eye: Columns,
+    curve: Curve<i128>,
+    eye: Eye<i128>,
     ghost curve_is: { curve.seen ≡ seen },
+    ghost curve_most: { curve.most ≡ 1000 },
     ghost eye_is: { eye.seen ≡ seen },
+    ghost eye_group: { eye.group ≡ n },
+    ghost eye_most: { eye.most ≡ 500 },
 }
 
 impl LevelColumns {
     ghost use Rattle.flow_page.specs.drawing.drawing.Columns.{DrawsLevel};
 
-    /// Before the first of so many packets, which come in groups of n. `Err` is want of memory.
-    fn new(alloc: Global, n: u64, packets: u64) -> Result<LevelColumns, OutOfMemory>
-        requires n_some { 1 ≤ n }
-        requires n_few { n < 2 ^ 41 }
-        requires some { 1 ≤ packets }
-        requires few { packets < 2 ^ 41 }
+    /// Returns the columns before the first packet, for frames or fields of `n` packets. Returns `Err` if memory runs
+    /// out.
+    fn new(alloc: Global, n: u64) -> Result<LevelColumns, OutOfMemory>
+        requires some { 1 ≤ n }
+        requires few { n < 2 ^ 41 }
+        ensures n { IfOk result (λ c. c.n ≡ n) }
         ensures seen { IfOk result (λ c. c.seen ≡ 0) }
-        ensures draws { IfOk result (λ c. (level : ℕ → ℤ) → DrawsLevel n packets c level) }
+        ensures draws { IfOk result (λ c. (level : ℕ → ℤ) → DrawsLevel c level) }
     {
         Ok(LevelColumns {
+            n,
             seen: 0,
-            curve: Columns::new(alloc, packets, CURVE)?,
-            eye: Columns::new(alloc, n, EYE)?,
+            curve: Curve::new(alloc, CURVE)?,
+            eye: Eye::new(alloc, n, EYE)?,
         })
     }
 
-    /// Takes in what is held after the next packet.
+    /// Takes the level just after the next packet.
     #[inline(always)]
     fn feed(&mut self, number: i128)
         requires few { self.old.seen < 2 ^ 41 }
+        ensures n { self.new.n ≡ self.old.n }
         ensures seen { self.new.seen ≡ self.old.seen + 1 }
-        ensures draws { (n packets : ℕ) (level : ℕ → ℤ) → DrawsLevel n packets self.old level
-            → level self.old.seen ≡ number → DrawsLevel n packets self.new level }
+        ensures draws { (level : ℕ → ℤ) → DrawsLevel self.old level
+            → level self.old.seen ≡ number → DrawsLevel self.new level }
     {
         self.curve.feed(number);
         self.eye.feed(number);
         self.seen += 1;
     }
 
-    /// The columns over all packets, where all came. `Err` is want of memory.
-    pub fn curve(&self, alloc: Global) -> Result<Items<Extremes>, OutOfMemory>
-        ensures { IfOk result (λ list. (n packets : ℕ) (level : ℕ → ℤ)
-            → DrawsLevel n packets self.now level
-            → self.now.seen ≡ packets → AreCurve 1000 level packets list) }
+    /// Copies the state of other columns, which were fed the same packets and then possibly more. It allocates no
+    /// memory.
+    fn keep(&mut self, other: &LevelColumns)
+        requires { self.old.n ≡ other.now.n }
+        ensures n { self.new.n ≡ self.old.n }
+        ensures seen { self.new.seen ≡ other.now.seen }
+        ensures draws { (level : ℕ → ℤ) → self.old.seen ≤ other.now.seen → DrawsLevel self.old level
+            → DrawsLevel other.now level → DrawsLevel self.new level }
     {
-        listed(alloc, &self.curve)
+        self.curve.keep(&other.curve);
+        self.eye.keep(&other.eye);
+        self.seen = other.seen;
     }
 
-    /// Those of the groups, laid over each other. `Err` is want of memory.
-    pub fn eye(&self, alloc: Global) -> Result<Items<Extremes>, OutOfMemory>
-        ensures { IfOk result (λ list. (n packets : ℕ) (level : ℕ → ℤ)
-            → DrawsLevel n packets self.now level
-            → AreEye n 500 level self.now.seen list) }
+    /// Returns the columns over all packets. Returns `Err` if memory runs out.
+    pub fn curve(&self, alloc: Global) -> Result<Items<Extremes>, OutOfMemory>
+        ensures { IfOk result (λ list. (level : ℕ → ℤ) → DrawsLevel self.now level
+            → AreCurve 1000 level self.now.seen list) }
     {
-        listed(alloc, &self.eye)
+        self.curve.finish(alloc)
+    }
+
+    /// Returns the columns with all frames or fields overlaid. Returns `Err` if memory runs out.
+    pub fn eye(&self, alloc: Global) -> Result<Items<Extremes>, OutOfMemory>
+        ensures { IfOk result (λ list. (level : ℕ → ℤ) → DrawsLevel self.now level
+            → AreEye self.now.n 500 level self.now.seen list) }
+    {
+        self.eye.finish(alloc)
     }
 }
 
-/// The columns of what bucket and buffer hold at the judged packets of a run.
+/// The columns of the levels of bucket and buffer just after each packet of a run.
 #[derive(Drop)]
 pub struct PacketColumns {
-    /// The packets fed.
+    /// The packets per frame or field.
+    pub n: u64,
+    /// The count of packets fed.
     pub seen: u64,
+    /// The count of the bucket, in packets.
     pub bucket: LevelColumns,
+    /// The occupancy of the buffer by gapped reads, in packets.
     pub gapped: LevelColumns,
+    /// The occupancy of the buffer by linear reads, in packets.
     pub linear: LevelColumns,
+    ghost bucket_n: { bucket.n ≡ n },
     ghost bucket_is: { bucket.seen ≡ seen },
+    ghost gapped_n: { gapped.n ≡ n },
     ghost gapped_is: { gapped.seen ≡ seen },
+    ghost linear_n: { linear.n ≡ n },
     ghost linear_is: { linear.seen ≡ seen },
 }
 
 impl PacketColumns {
+    ghost use Rattle.run_meter.specs.Levels.{IsLevel};
     ghost use Rattle.flow_page.specs.drawing.drawing.Columns.{DrawsPackets};
-    ghost use Rattle.flow_page.specs.drawing.drawing.Held.{Holds};
 
-    /// Before the first of so many packets, which come in groups of n. `Err` is want of memory.
-    pub fn new(alloc: Global, n: u64, packets: u64) -> Result<PacketColumns, OutOfMemory>
-        requires n_some { 1 ≤ n }
-        requires n_few { n < 2 ^ 41 }
-        requires some { 1 ≤ packets }
-        requires few { packets < 2 ^ 41 }
+    /// Returns the columns before the first packet, for frames or fields of `n` packets. Returns `Err` if memory runs
+    /// out.
+    pub fn new(alloc: Global, n: u64) -> Result<PacketColumns, OutOfMemory>
+        requires some { 1 ≤ n }
+        requires few { n < 2 ^ 41 }
+        ensures n { IfOk result (λ c. c.n ≡ n) }
         ensures seen { IfOk result (λ c. c.seen ≡ 0) }
-        ensures draws { IfOk result (λ c. (m : Media) → DrawsPackets m n packets c []) }
+        ensures draws { IfOk result (λ c. (m : Media) → DrawsPackets m n c []) }
     {
         Ok(PacketColumns {
+            n,
             seen: 0,
-            bucket: LevelColumns::new(alloc, n, packets)?,
-            gapped: LevelColumns::new(alloc, n, packets)?,
-            linear: LevelColumns::new(alloc, n, packets)?,
+            bucket: LevelColumns::new(alloc, n)?,
+            gapped: LevelColumns::new(alloc, n)?,
+            linear: LevelColumns::new(alloc, n)?,
         })
     }
 
-    /// Takes in what is held after the next packet.
+    /// Takes the levels just after the next packet.
     #[inline(always)]
     pub fn feed(&mut self, level: Level)
         requires few { self.old.seen < 2 ^ 41 }
+        ensures n { self.new.n ≡ self.old.n }
         ensures seen { self.new.seen ≡ self.old.seen + 1 }
-        ensures draws { (m : Media) (n packets : ℕ) (stamps : List ℕ) (at : ℕ)
-            → DrawsPackets m n packets self.old stamps
-            → Holds m n (stamps ++ at ∷ []) (length stamps) level
-            → DrawsPackets m n packets self.new (stamps ++ at ∷ []) }
+        ensures draws { (m : Media) (n : ℕ) (stamps : List ℕ) (at : ℕ) → DrawsPackets m n self.old stamps
+            → IsLevel m n (stamps ++ at ∷ []) (length stamps) level
+            → DrawsPackets m n self.new (stamps ++ at ∷ []) }
     {
         self.bucket.feed(i128::from(level.bucket));
-        self.gapped.feed(level.gapped);
-        self.linear.feed(level.linear);
+        self.gapped.feed(i128::from(level.gapped.occupancy));
+        self.linear.feed(i128::from(level.linear.occupancy));
         self.seen += 1;
+    }
+
+    /// Copies the state of other columns, which were fed the same packets and then possibly more. It allocates no
+    /// memory.
+    pub fn keep(&mut self, other: &PacketColumns)
+        requires { self.old.n ≡ other.now.n }
+        ensures n { self.new.n ≡ self.old.n }
+        ensures seen { self.new.seen ≡ other.now.seen }
+        ensures draws { (m : Media) (n : ℕ) (stamps more : List ℕ) → DrawsPackets m n self.old stamps
+            → DrawsPackets m n other.now (stamps ++ more) → DrawsPackets m n self.new (stamps ++ more) }
+    {
+        self.bucket.keep(&other.bucket);
+        self.gapped.keep(&other.gapped);
+        self.linear.keep(&other.linear);
+        self.seen = other.seen;
     }
 }

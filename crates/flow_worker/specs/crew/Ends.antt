@@ -1,4 +1,4 @@
--- What workers left.
+-- The results of workers.
 use Rattle.std.specs.Prelude.{List, Option}
 use Rattle.std.specs.Option.{option_map}
 use Rattle.std.specs.declared.alloc.Global.{Global}

@@ -1,4 +1,4 @@
--- What intakes and workers begin with. Files and workers count from 0; there is a lane for each worker.
+-- The jobs of intakes and workers. Files and workers count from 0; there is a lane for each worker.
 use Rattle.std.specs.Prelude.{◌≡◌, ◌<◌, ℕ, zero, suc, List, [], ◌∷◌, ◌++◌, length, map, slice_index_or}
 use Rattle.ruled_intake.specs.Lanes.{LaneId, Sender, Taker}
 use Rattle.flow_worker.specs.Intakes.{HaveSentNothing}
@@ -10,11 +10,11 @@ abbrev pub numbers : ℕ → List ℕ
 numbers zero = []
 numbers (suc n) = numbers n ++ n ∷ []
 
--- the lane's taker, which has so many senders and took nothing
+-- the pass of a lane's taker, for `files` senders, before anything was taken
 abbrev pub new_pass : (files : ℕ) → LaneId → Taker
 new_pass files lane = record { lane = lane; senders = files; taken = [] }
 
--- there are so many lanes; each worker has the pass of its lane, and each file a pass of each lane
+-- there are `workers` lanes; each worker has the pass of its lane, and each file a pass of each lane
 pub record AreMade (files workers : ℕ) (lanes : List LaneId) (jobs : List WorkJob)
     (columns : List (List Sender)) : Type 0 where
   pub lane_count : length lanes ≡ workers

@@ -1,4 +1,4 @@
--- The limits of a run, and what its intakes begin with and leave. Files and workers count from 0; there is a lane for
+-- The limits of a run, and the jobs and results of its intakes. Files and workers count from 0; there is a lane for
 -- each worker.
 use Rattle.std.specs.Prelude.{◌≡◌, ◌≤◌, ◌<◌, ◌^◌, ℕ, List, length, slice_index_or, Option, Some}
 use Rattle.timing_base.specs.Captures.{Record}
@@ -24,12 +24,12 @@ pub record IsRun (run : RunSetting) : Type 0 where
   pub few_workers : length run.lanes.now ≤ 16
   pub tai : run.tai ≤ 1000
 
--- the intake has the file's passes of these lanes, and sent nothing
+-- the intake has the file's passes of these lanes, and has sent nothing
 pub record IsIntakeJob {S : Type 0} (lanes : List LaneId) (job : IntakeJob S) : Type 0 where
   pub file : job.file < 16
   pub passes : HaveSentNothing job.file lanes job.passes.items
 
--- what an intake leaves of its job
+-- the result of an intake for its job
 pub record HasRead {S : Type 0} (name : S → List ℕ) (left : S → Option (List ℕ)) (faults : S → ℕ) (s : Setting)
     (lanes : List LaneId) (job : IntakeJob S) (done : IntakeDone S) : Type 0 where
   pub passes : AreOfFile job.file lanes done.passes.items
@@ -40,7 +40,7 @@ pub record HasRead {S : Type 0} (name : S → List ℕ) (left : S → Option (Li
   pub later : faults job.source ≤ faults done.source
   pub failed : done.note ≡ Some (Refused ReadFault) → Rose (faults job.source) (faults done.source)
 
--- the same of all intakes
+-- the results of all intakes for their jobs
 pub record AreRead {S : Type 0} (name : S → List ℕ) (left : S → Option (List ℕ)) (faults : S → ℕ) (s : Setting)
     (lanes : List LaneId) (jobs : List (IntakeJob S)) (dones : List (IntakeDone S)) : Type 0 where
   pub count : length dones ≡ length jobs

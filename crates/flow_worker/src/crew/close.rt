@@ -6,8 +6,8 @@ ghost use Rattle.flow_worker.specs.crew.Closing.{AreClosed, CanClose};
 use ruled_intake::{Lane, SendPass, TakePass};
 use std::sync::Wait;
 
-/// Ends the lanes, with the passes of their senders and their takers. Of each sender, what was taken
-/// begins what it has sent. The call may wait, though no thread has a lane any more.
+/// Ends the lanes, with the passes of their senders and their takers. For each sender, what was taken is a prefix of
+/// what it sent. The call may wait, though no thread has a lane any more.
 pub fn close_all<R: Wait>(
     rt: &R,
     lanes: Vec<Lane>,

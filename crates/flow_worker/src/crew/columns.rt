@@ -1,4 +1,4 @@
-//! Passes that are dealt out: rows come in, columns go out.
+//! The distribution of passes: rows come in, columns go out.
 
 ghost use Rattle.std.specs.Prelude.{◌≡◌, ◌≤◌, [], All, IfOk, length, map, replicate};
 ghost use Rattle.flow_worker.specs.crew.Columns.{dealt, dealt_all};
@@ -6,7 +6,7 @@ ghost use Rattle.flow_worker.specs.crew.Columns.{dealt, dealt_all};
 use ruled_intake::SendPass;
 use std::alloc::{AllocError as OutOfMemory, Global};
 
-/// So many lists without passes.
+/// Returns `count` empty lists. Returns `Err` if memory runs out.
 pub fn no_columns(alloc: Global, count: usize) -> Result<Vec<Vec<SendPass>>, OutOfMemory>
     ensures { IfOk result (λ columns. map (λ c. c.items) columns.items ≡ replicate count []) }
 {
@@ -17,7 +17,7 @@ pub fn no_columns(alloc: Global, count: usize) -> Result<Vec<Vec<SendPass>>, Out
     Ok(columns)
 }
 
-/// Puts one pass more at the end of each list, in order.
+/// Appends one pass of the row to each list, in order. Returns `Err` if memory runs out.
 pub fn deal(columns: &mut Vec<Vec<SendPass>>, row: Vec<SendPass>) -> Result<(), OutOfMemory>
     requires { length row.items ≤ length columns.old.items }
     ensures { IfOk result (λ _. map (λ c. c.items) columns.new.items
@@ -31,7 +31,7 @@ pub fn deal(columns: &mut Vec<Vec<SendPass>>, row: Vec<SendPass>) -> Result<(), 
     Ok(())
 }
 
-/// Deals rows of so many passes out, one after the other. `Err` is want of memory.
+/// Deals rows of `count` passes each out to as many lists, one row after the other. Returns `Err` if memory runs out.
 pub fn deal_all(
     alloc: Global,
     count: usize,

@@ -1,4 +1,4 @@
-//! What the workers of a run left, in order.
+//! The results of the workers of a run, in order.
 
 ghost use Rattle.std.specs.Prelude.{◌≡◌, Some, IfOk, map};
 ghost use Rattle.std.specs.Vec.Iter.{into_iter_items};
@@ -10,14 +10,16 @@ use std::alloc::{AllocError as OutOfMemory, Global};
 use std::vec::IntoIter;
 use verdict_book::Receipt;
 
-/// What the workers left, in order.
+/// Results of the workers, in order.
 #[derive(Drop)]
 pub struct Worked {
+    /// Passes of the workers' lanes.
     pub takers: Vec<TakePass>,
+    /// Receipts of each worker; `None` if memory ran out.
     pub posted: Vec<Option<Vec<Receipt>>>,
 }
 
-/// Takes apart what the workers left. `Err` is want of memory.
+/// Takes the results of the workers apart. Returns `Err` if memory runs out.
 pub fn take_worked(alloc: Global, dones: Vec<WorkDone>) -> Result<Worked, OutOfMemory>
     ensures takers { IfOk result (λ worked. worked.takers.items ≡ map (λ d. d.pass) dones.items) }
     ensures posted { IfOk result (λ worked. worked.posted.items ≡ map (λ d. d.receipts) dones.items) }
@@ -33,7 +35,7 @@ pub fn take_worked(alloc: Global, dones: Vec<WorkDone>) -> Result<Worked, OutOfM
     Ok(worked)
 }
 
-/// The receipts of all workers. `Err` is want of memory: also where a worker has none.
+/// Returns the receipts of all workers. Returns `Err` if memory runs out, or if a worker has none.
 pub fn take_posted(
     alloc: Global,
     posted: Vec<Option<Vec<Receipt>>>,

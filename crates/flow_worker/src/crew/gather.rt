@@ -1,4 +1,4 @@
-//! The rows of a run, from the receipts of its workers.
+//! The results of a run, from the receipts of its workers.
 
 ghost use Rattle.std.specs.Prelude.{◌≡◌, ◌≤◌, ◌<◌, ◌++◌, IfOk, length, map, slice_index_or};
 ghost use Rattle.std.specs.Vec.Iter.{into_iter_items};
@@ -12,7 +12,7 @@ use std::vec::IntoIter;
 use timing_base::{FlowKey, Row, route};
 use verdict_book::{Book, Receipt};
 
-/// Puts the keys of the media of a file at the end, rising.
+/// Appends the keys of the media of a file, in order. Returns `Err` if memory runs out.
 fn push_keys(keys: &mut Vec<FlowKey>, file: u32, media: u32) -> Result<(), OutOfMemory>
     ensures { IfOk result (λ _. keys.new.items ≡ keys.old.items ++ keys_of_file file 0 media) }
 {
@@ -25,7 +25,7 @@ fn push_keys(keys: &mut Vec<FlowKey>, file: u32, media: u32) -> Result<(), OutOf
     Ok(())
 }
 
-/// The keys of so many files, by rising file and then media. `Err` is want of memory.
+/// Returns the keys of `files` files, by file and then by media. Returns `Err` if memory runs out.
 pub fn list_keys(alloc: Global, files: u32, media: u32) -> Result<Vec<FlowKey>, OutOfMemory>
     ensures { IfOk result (λ keys. keys.items ≡ keys_of_files 0 files media) }
 {
@@ -36,8 +36,8 @@ pub fn list_keys(alloc: Global, files: u32, media: u32) -> Result<Vec<FlowKey>, 
     Ok(keys)
 }
 
-/// Copies the rows of these keys out of the book, in their order. Each worker's receipts are those of
-/// the keys that are dealt to it, in their order. `Err` is want of memory.
+/// Copies the results of these keys out of the book, in their order. Each worker's receipts must be those of the keys
+/// that are dealt to it, in their order. Returns `Err` if memory runs out.
 pub fn gather(
     alloc: Global,
     book: &Book,

@@ -1,4 +1,4 @@
-//! The lanes of a run, and what its workers and intakes begin with.
+//! The lanes of a run, and the jobs of its workers and intakes.
 
 ghost use Rattle.std.specs.Prelude.{◌≡◌, ◌≤◌, ◌<◌, ◌+◌, [], IfOk, length, map};
 ghost use Rattle.flow_worker.specs.crew.Jobs.{AreIntakes, AreMade};
@@ -8,32 +8,38 @@ use ruled_intake::{Lane, SendPass, TakePass, Turn};
 use std::alloc::{AllocError as OutOfMemory, Global};
 use timing_outside::Source;
 
-/// What the worker of a lane begins with.
+/// Job of the worker of a lane.
 #[derive(Drop)]
 pub struct WorkJob {
+    /// Number of the worker, counted from 0.
     pub worker: u32,
+    /// Pass of its lane.
     pub pass: TakePass,
 }
 
-/// What the intake of a file begins with.
+/// Job of the intake of a file.
 #[derive(Drop)]
 pub struct IntakeJob<S: Source> {
+    /// File, counted from 0.
     pub file: u32,
+    /// Source of the file.
     pub source: S,
-    /// Its passes of all lanes, in order.
+    /// Passes of all lanes, in order.
     pub passes: Vec<SendPass>,
 }
 
-/// The lanes of a run, one for each worker.
+/// Lanes of a run, one for each worker.
 #[derive(Drop)]
 pub struct Made {
+    /// Lanes, in the order of the workers.
     pub lanes: Vec<Lane>,
+    /// Jobs of the workers.
     pub workers: Vec<WorkJob>,
-    /// For each file its passes of the lanes so far.
+    /// Passes of each file for the lanes so far.
     pub columns: Vec<Vec<SendPass>>,
 }
 
-/// Makes the lane of one worker more, and deals its passes out to the files.
+/// Makes the lane of one more worker, and deals its passes out to the files. Returns `Err` if memory runs out.
 fn add_lane(alloc: Global, files: u32, worker: u32, made: &mut Made) -> Result<(), OutOfMemory>
     requires some_files { 1 ≤ files }
     requires few_files { files ≤ 16 }
@@ -48,7 +54,7 @@ fn add_lane(alloc: Global, files: u32, worker: u32, made: &mut Made) -> Result<(
     deal(&mut made.columns, passes)
 }
 
-/// Makes a lane for each worker, with a pass of each file. `Err` is want of memory.
+/// Makes a lane for each worker, with a pass for each file. Returns `Err` if memory runs out.
 pub fn make_lanes(alloc: Global, files: u32, workers: u32) -> Result<Made, OutOfMemory>
     requires some_files { 1 ≤ files }
     requires few_files { files ≤ 16 }
@@ -66,7 +72,7 @@ pub fn make_lanes(alloc: Global, files: u32, workers: u32) -> Result<Made, OutOf
     Ok(made)
 }
 
-/// Gives the source of each file its passes. `Err` is want of memory.
+/// Makes the job of each file's intake, with its source and its passes. Returns `Err` if memory runs out.
 pub fn make_intakes<S: Source>(
     alloc: Global,
     sources: Vec<S>,
@@ -93,7 +99,7 @@ pub fn make_intakes<S: Source>(
     Ok(jobs)
 }
 
-/// The turns of so many files, of which none is read yet. `Err` is want of memory.
+/// Returns the turns of `files` files that aren't read yet. Returns `Err` if memory runs out.
 pub fn make_turns(alloc: Global, files: u32) -> Result<Vec<Turn>, OutOfMemory>
     ensures { IfOk result (λ turns. length turns.items ≡ files) }
 {

@@ -1,4 +1,4 @@
-//! All files of a job, by intakes and workers.
+//! All files of a run, read by intakes and judged by workers.
 
 ghost use Rattle.std.specs.Prelude.{◌≡◌, ◌≤◌, if◌then◌else◌, ℕ, List, Some, IfOk, IfSome, All, length, map};
 ghost use Rattle.timing_base.specs.Keys.{keys_of};
@@ -28,30 +28,30 @@ use timing_base::{FileNote, Media, PcapFault, Row};
 use timing_outside::{Gate, Source};
 use verdict_book::{Book, Receipt};
 
-/// What is found in files that are whole.
+/// Results of files that are whole.
 #[derive(Drop)]
 pub struct FoundWhole {
     /// How each file ends.
     pub notes: Vec<FileNote>,
-    /// By rising file and then media.
+    /// Results, by file and then by media.
     pub rows: Vec<Row>,
 }
 
-/// What a run leaves.
+/// Result of a run.
 #[derive(Drop)]
 pub struct Judged<S: Source> {
-    /// In the order in which they came.
+    /// Sources, in the order in which they were given.
     pub sources: Vec<S>,
-    /// How each file ends; nothing where memory ran out in its intake.
+    /// How each file ends; `None` if memory ran out in its intake.
     pub notes: Vec<Option<FileNote>>,
-    /// What was found; nothing where a read failed or memory ran out.
+    /// Results; `None` if a read failed or memory ran out.
     pub found: Option<FoundWhole>,
 }
 
 impl<S: Source> Judged<S> {
     ghost use Rattle.std.specs.Prelude.{None};
 
-    /// Memory ran out after the intakes.
+    /// Returns the result if memory ran out after the intakes.
     fn unfound(sources: Vec<S>, notes: Vec<Option<FileNote>>) -> Judged<S>
         ensures sources { result.sources.items ≡ sources.items }
         ensures notes { result.notes.items ≡ notes.items }
@@ -65,7 +65,7 @@ impl<S: Source> Judged<S> {
     }
 }
 
-/// Whether a file was read to its end, or to where it is refused.
+/// Returns whether a file was read to its end, or to where it is truncated or malformed.
 fn is_whole(note: FileNote) -> bool
     ensures { result ≡ is_whole note }
 {
@@ -75,9 +75,9 @@ fn is_whole(note: FileNote) -> bool
     }
 }
 
-/// The intakes and the workers, beside each other. `Err` is want of memory.
+/// Runs the intakes and the workers in parallel. Returns `Err` if memory runs out.
 ///
-/// Where no thread can be made, the intakes run first: `join` then runs its second closure first.
+/// If no thread can be created, the intakes run first: `join` then runs its second closure first.
 fn run_threads<R: Threads + Wait + Sync, S: Source, G: Gate>(
     rt: &R,
     alloc: Global,
@@ -97,8 +97,8 @@ fn run_threads<R: Threads + Wait + Sync, S: Source, G: Gate>(
 {
     let halt = Halt::new();
     let stop = &halt;
-    // The first closure makes the setting again from its parts: from a closure that captures a reference to a
-    // struct of references the proof doesn't learn what the closure ensures.
+    // The first closure makes the setting again from its parts: from a closure that captures a reference to a struct of
+    // references the proof doesn't learn what the closure ensures.
     let RunSetting {
         media,
         lanes,
@@ -138,14 +138,14 @@ fn run_threads<R: Threads + Wait + Sync, S: Source, G: Gate>(
     Ok((worked?, read?))
 }
 
-/// How many files the keys of a run are of: files that are joined are one.
+/// Returns the number of files of the keys of a run: joined files are one.
 fn file_count(run: &RunSetting<'_>) -> u32
     ensures { result ≡ (if run.now.joined then 1 else run.now.files) }
 {
     if run.joined { 1 } else { run.files }
 }
 
-/// The rows of what the workers posted. `Err` is want of memory: also where a worker has no receipts.
+/// Returns the results that the workers posted. Returns `Err` if memory runs out, or if a worker has no receipts.
 fn rows_on(
     alloc: Global,
     run: &RunSetting<'_>,
@@ -161,8 +161,7 @@ fn rows_on(
     gather(alloc, book, &keys, media, run.lanes.len() as u32, queues)
 }
 
-/// How the files end. `Err` is want of memory: also where a file wasn't read to its end, or to where it is
-/// refused.
+/// Returns how the files end. Returns `Err` if memory runs out, or if a file isn't whole.
 fn whole_notes(alloc: Global, ended: &[Option<FileNote>]) -> Result<Vec<FileNote>, OutOfMemory>
     ensures notes { IfOk result (λ notes. map Some notes.items ≡ ended.now) }
     ensures whole { IfOk result (λ notes. All IsWhole notes.items) }
@@ -177,7 +176,8 @@ fn whole_notes(alloc: Global, ended: &[Option<FileNote>]) -> Result<Vec<FileNote
     Ok(notes)
 }
 
-/// What is found in the files. `Err` is want of memory, as of the notes and of the rows.
+/// Returns the results of the files. Returns `Err` if memory runs out, if a file isn't whole, or if a worker has no
+/// receipts.
 fn find_whole(
     alloc: Global,
     run: &RunSetting<'_>,
@@ -195,8 +195,7 @@ fn find_whole(
     Ok(FoundWhole { notes, rows })
 }
 
-/// What is found in files of which each was read to its end, or to where it is refused. `None` is also
-/// want of memory.
+/// Returns the results of the files, or `None` if one of them isn't whole or memory runs out.
 fn found_whole(
     alloc: Global,
     run: &RunSetting<'_>,
@@ -212,13 +211,13 @@ fn found_whole(
     find_whole(alloc, run, book, ended, posted).ok()
 }
 
-/// Judges the media in files, each by itself, or in all of them as in one where they are `joined`. The
-/// files are read by an intake each, and the flows are dealt out to so many workers, all beside each
-/// other. `tai` seconds are added to the stamps.
+/// Judges the media in files, each file by itself, or all as one if they are `joined`. Each file is read by an intake,
+/// and the flows are dealt out to `workers` workers, all in parallel. `tai` seconds are added to the capture
+/// timestamps.
 ///
-/// After a read that failed the other files are read to their ends. Where memory runs out in an intake, or
-/// after the intakes, the sources come back, and nothing is found. `Err` is want of memory before; then the
-/// sources are gone. The call may wait, and promises if it returns.
+/// After a failed read the other files are read to their ends. If memory runs out in an intake, or after the intakes,
+/// the sources come back without results. Returns `Err` if memory runs out before; the sources are then gone. The call
+/// may wait; its contract holds if it returns.
 pub fn judge_files<R: Threads + Wait + Sync, S: Source, G: Gate>(
     rt: &R,
     alloc: Global,

@@ -1,4 +1,4 @@
-//! The intakes of a run, beside each other.
+//! The intakes of a run, in parallel.
 
 ghost use Rattle.std.specs.Prelude.{◌≡◌, IfErr, IfOk};
 ghost use Rattle.flow_worker.specs.Settings.{setting_of};
@@ -36,9 +36,8 @@ fn read_one<R: Wait, S: Source, G: Gate>(
     done
 }
 
-/// Runs the intakes, each on a thread of its own where one can be made. `Err` is want of memory; the
-/// halt is then raised, since an intake that didn't run sends no end, and the workers of all lanes were
-/// woken for it.
+/// Runs the intakes, each on a thread of its own if one can be created. Returns `Err` if memory runs out. The halt is
+/// then raised, since an intake that didn't run sends no end, and the workers of all lanes were woken for it.
 pub fn run_intakes<'h, R: Threads + Wait + Sync, S: Source, G: Gate>(
     rt: &R,
     alloc: Global,

@@ -1,4 +1,4 @@
-//! What the intakes of a run left, in order.
+//! The results of the intakes of a run, in order.
 
 ghost use Rattle.std.specs.Prelude.{◌≡◌, IfOk, map};
 
@@ -8,17 +8,18 @@ use std::alloc::{AllocError as OutOfMemory, Global};
 use timing_base::FileNote;
 use timing_outside::Source;
 
-/// What the intakes left.
+/// Results of the intakes.
 #[derive(Drop)]
 pub struct Read<S: Source> {
+    /// Sources of the files.
     pub sources: Vec<S>,
-    /// How each file ends; nothing where memory ran out in its intake.
+    /// How each file ends; `None` if memory ran out in its intake.
     pub notes: Vec<Option<FileNote>>,
-    /// The passes of each file.
+    /// Passes of each file.
     pub rows: Vec<Vec<SendPass>>,
 }
 
-/// Takes apart what the intakes left. `Err` is want of memory.
+/// Takes the results of the intakes apart. Returns `Err` if memory runs out.
 pub fn take_read<S: Source>(
     alloc: Global,
     dones: Vec<IntakeDone<S>>,

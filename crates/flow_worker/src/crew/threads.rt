@@ -1,4 +1,4 @@
-//! The workers of a run, beside each other.
+//! The workers of a run, in parallel.
 
 ghost use Rattle.std.specs.Prelude.{IfOk};
 ghost use Rattle.flow_worker.specs.Settings.{setting_of};
@@ -14,7 +14,7 @@ use std::thread::{self, Threads};
 use timing_outside::Gate;
 use verdict_book::Book;
 
-/// Runs the workers, each on a thread of its own where one can be made. `Err` is want of memory.
+/// Runs the workers, each on a thread of its own if one can be created. Returns `Err` if memory runs out.
 pub fn run_workers<R: Threads + Wait + Sync, G: Gate>(
     rt: &R,
     alloc: Global,

@@ -12,8 +12,8 @@ use timing_base::worked::undeclared_to;
 use timing_base::{FileNote, FlowKey, PacketFault, PcapFault, Row, Unjudged, Verdict};
 use timing_outside::{MemorySource, OpenFault};
 
-// A frame to port 50000 and so many more, with the packet of this number: the last of its frame, or
-// not, of this frame of video.
+// A frame to port 50000 + `more`, with this packet number, with or without the marker. Each `group` has an RTP
+// timestamp of its own.
 pub fn frame(more: u8, number: u8, marker: bool, group: u8) -> [u8; 56] {
     let mut bytes = FRAME;
     bytes[37] = more.saturating_add(0x50);
@@ -23,7 +23,7 @@ pub fn frame(more: u8, number: u8, marker: bool, group: u8) -> [u8; 56] {
     bytes
 }
 
-// A record of the first bytes of a frame, all of them or fewer.
+// Appends a packet record with the first `captured` bytes of a frame.
 pub fn put(
     text: &mut Vec<u8>,
     nanos: u32,
@@ -37,8 +37,8 @@ pub fn put(
     text.extend_from_slice(&frame[..usize::from(captured)])
 }
 
-// Seven records: three packets to port 50000, of which the second ends its frame; to port 50001 one
-// that is too short, and one more; one to port 50009; and a frame that was cut within its ports.
+// Seven packet records: three packets to port 50000, the second with the marker; two to port 50001, the first of them
+// too short; one to port 50009; and a frame that was cut within its ports.
 fn capture(alloc: Global) -> Result<Vec<u8>, AllocError> {
     let mut text = Vec::from_slice(alloc, &HEAD)?;
     put(&mut text, 1000, &frame(0, 0, false, 0), 56)?;
@@ -51,7 +51,7 @@ fn capture(alloc: Global) -> Result<Vec<u8>, AllocError> {
     Ok(text)
 }
 
-// A reader of this text, which comes in pieces of 100 bytes. The reads of these numbers fail.
+// A reader of these bytes, which a source gives in pieces of 100 bytes; the reads with these numbers fail.
 pub fn open(
     alloc: Global,
     text: &[u8],
@@ -68,8 +68,7 @@ pub fn open(
     }
 }
 
-// What a bank of the media at ports 50000 to 50002, in the third file, takes of this text behind 100
-// records.
+// The result of a bank for the media at ports 50000 to 50002, in file 2, after 100 packet records and these bytes.
 fn taken(alloc: Global, text: &[u8], fails: &[u32]) -> Result<(Taken, Vec<Row>), OpenFault> {
     let all = [
         undeclared_to(50_000),
@@ -84,7 +83,7 @@ fn taken(alloc: Global, text: &[u8], fails: &[u32]) -> Result<(Taken, Vec<Row>),
     Ok((taken, rows))
 }
 
-// There are three rows, one for each media of the third file.
+// There are three results, one for each media of file 2.
 fn has_keys(rt: &impl Abort, rows: &[Row]) {
     assert!(rt; rows.len() == 3);
     for (number, row) in rows.iter().enumerate() {
@@ -96,7 +95,7 @@ fn has_keys(rt: &impl Abort, rows: &[Row]) {
     }
 }
 
-// The first bytes of the capture come to this note and count of records, and to a row for each media.
+// These bytes have this note and number of packet records, and a result for each media.
 fn comes_to(rt: &impl Abort, alloc: Global, text: &[u8], want: Taken) -> Result<(), Fail> {
     let (taken, rows) = taken(alloc, text, &[])?;
     same(rt, &taken, &want);
@@ -114,7 +113,7 @@ fn one_row_for_each_media(rt: HostRuntime) -> Result<(), Fail> {
     comes_to(&rt, rt.alloc(), &text, want)
 }
 
-// Why this row isn't judged.
+// The reason why this flow isn't judged.
 fn reason(rows: &[Row], place: usize) -> Option<Unjudged> {
     match &rows.get(place)?.verdict {
         Verdict::Unjudged(unjudged) => Some(*unjudged),
@@ -122,15 +121,15 @@ fn reason(rows: &[Row], place: usize) -> Option<Unjudged> {
     }
 }
 
-// No row is judged, for these reasons.
+// None of the flows is judged, for these reasons.
 fn has_reasons(rt: &impl Abort, rows: &[Row], reasons: &[Unjudged]) {
     for (place, want) in reasons.iter().enumerate() {
         same_at(rt, &place, &reason(rows, place), &Some(*want));
     }
 }
 
-// The first packets come up to a marker that is the only one, the second media's first packet is the
-// 102nd record and too short, and the third media has none.
+// The first media has two packets up to its only marker; the first packet of the second media is in record 102 and too
+// short; the third media has no packet.
 #[test]
 fn each_media_has_its_own_packets(rt: HostRuntime) -> Result<(), Fail> {
     let text = capture(rt.alloc())?;
@@ -157,7 +156,7 @@ fn cut_capture(rt: HostRuntime) -> Result<(), Fail> {
     comes_to(&rt, rt.alloc(), text.get(..200).unwrap_or(&[]), want)
 }
 
-// The read of this number fails, and that is the note.
+// If the read with this number fails, the note is `ReadFault`.
 fn fails_at(rt: &impl Abort, alloc: Global, text: &[u8], number: u32) -> Result<(), Fail> {
     let (taken, _) = taken(alloc, text, &[number])?;
     let want = FileNote::Refused(PcapFault::ReadFault);

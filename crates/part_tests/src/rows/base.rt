@@ -1,4 +1,4 @@
-//! The calls once each, on rows and targets that are known.
+//! One call of each function, on known results and targets.
 
 use super::compare::same;
 use std::alloc::Global;

@@ -1,4 +1,4 @@
-//! Rows that are posted and read, by one thread and by several.
+//! Results that are posted and read, by one thread and by several.
 
 ghost use Rattle.std.specs.Prelude.{IfSome};
 ghost use Rattle.verdict_book.specs.Receipts.{IsOf};
@@ -11,7 +11,7 @@ use std::thread::Threads;
 use timing_base::{FlowKey, Row, Unjudged, Verdict};
 use verdict_book::{Book, Receipt};
 
-// A row without a verdict, with this number.
+// The result of a flow that isn't judged, with this number.
 fn row(number: u32) -> Row {
     Row {
         key: FlowKey {
@@ -24,7 +24,7 @@ fn row(number: u32) -> Row {
     }
 }
 
-// Asserts that a row is the one with this number.
+// Asserts that this is the result with this number.
 fn is_row(rt: &impl Abort, found: &Row, number: u32) {
     same(rt, &found.key.file, &number);
     let head = match &found.verdict {
@@ -52,14 +52,14 @@ fn book_receipts(rt: HostRuntime) {
     is_row(&rt, book.read(&first), 3);
 }
 
-// Posts the row with this number.
+// Posts the result with this number.
 fn post_one<R: Wait>(rt: &R, book: &Book, number: u32) -> Option<Receipt>
     ensures { IfSome result (λ receipt. IsOf book.now receipt) }
 {
     book.post(rt, row(number)).ok()
 }
 
-// Two threads post side by side, and one thread reads what both posted.
+// Two threads post at the same time, and one thread reads what both posted.
 fn posts_of_two<R: Threads + Wait + Abort + Sync>(rt: &R, book: &Book) {
     let (first, second) = thread::join(rt, || post_one(rt, book, 3), || post_one(rt, book, 8));
     let Some(first) = first else {

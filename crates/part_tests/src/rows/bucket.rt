@@ -1,4 +1,4 @@
-//! The bucket's part of worked rows.
+//! The leaky bucket, with values worked by hand.
 
 use super::compare::{same, same_at};
 use drain_bucket::Bucket;
@@ -22,7 +22,7 @@ fn fed(rt: &impl Abort, params: &Params, bucket: &mut Bucket, at: u64) -> u64 {
     bucket.feed(params, at)
 }
 
-// A packet of the plain video, so many nanoseconds after the first one.
+// Feeds a packet of the plain video that comes `late` nanoseconds after the first one.
 fn fed_late(rt: &impl Abort, bucket: &mut Bucket, late: u64) -> u64 {
     fed(rt, &plain(), bucket, FIRST.saturating_add(late))
 }
@@ -57,9 +57,9 @@ fn interlaced_narrow(rt: HostRuntime) {
     same(&rt, &bucket.seen, &40);
 }
 
-// 1080p at 60000/1001 with 4320 packets per frame: T_DRAIN is 284,375/81 ns. Two frames from TAI second
-// 1,601,600,000 on, where frame 96,000,000,000 begins; each packet comes 1,000 ns before the floor of
-// its gapped read. T_FRAME is 450,450,000/27 ns, TR_OFFSET 17,217,200/27 ns and T_RS 100,100/27 ns.
+// 1080p at 60000/1001 with 4320 packets per frame: T_DRAIN is 284,375/81 ns. The two frames start at TAI second
+// 1,601,600,000, where frame 96,000,000,000 begins. Each packet comes 1,000 ns before its gapped read, rounded down.
+// T_FRAME is 450,450,000/27 ns, TR_OFFSET 17,217,200/27 ns and T_RS 100,100/27 ns.
 #[test]
 fn usual_equipment(rt: HostRuntime) {
     let params = Params::of(&video(1080, false, 60_000, 1001), 4320);
@@ -77,7 +77,7 @@ fn usual_equipment(rt: HostRuntime) {
     same(&rt, &params.c_max(Kind::W), &16);
 }
 
-// Feeds packets of the plain video, and asserts count and begin after each.
+// Feeds packets of the plain video, and asserts the count and the first packet of the burst after each.
 fn fed_rows(rt: &impl Abort, bucket: &mut Bucket, rows: &[(u64, u64, u64)]) {
     for (late, count, begin) in rows {
         same_at(rt, &late, &fed_late(rt, bucket, *late), count);
@@ -135,8 +135,8 @@ fn burst_in_second_frame(rt: HostRuntime) {
     same(&rt, &bucket.peak, &5);
 }
 
-// Ticks come 909,090 10/11 and 1,818,181 9/11 ns after the first packet. The second packet finds the
-// bucket empty; the third comes less than a tick later, and the fourth just after the next tick.
+// The drain ticks come 909,090 10/11 and 1,818,181 9/11 ns after the first packet. The second packet finds the bucket
+// empty, the third comes less than a tick later, and the fourth just after the next tick.
 #[test]
 fn ticks_after_spaced(rt: HostRuntime) {
     let rows = [

@@ -1,4 +1,4 @@
-//! The buffer's part of worked rows.
+//! The virtual receiver buffer, with values worked by hand.
 
 ghost use Rattle.std.specs.Prelude.{◌≤◌, ◌*◌};
 
@@ -10,7 +10,7 @@ use std::process::Abort;
 use timing_base::Kind;
 use vrx_buffer::{Vrx, VrxFault};
 
-// TAI second 1,600,000,000 begins frame 80,000,000,000 at 50 frames per second.
+// At 50 frames per second, frame 80,000,000,000 begins with TAI second 1,600,000,000.
 const SECOND: u64 = 1_600_000_000_000_000_000;
 
 const FIRST: u64 = SECOND + 764_000;
@@ -22,7 +22,7 @@ fn plain() -> Params {
     Params::of(&video(1080, false, 50, 1), 20)
 }
 
-// A buffer, the packets fed, and the schedule that says what is due at them.
+// A buffer, the number of packets that it was fed, and the schedule of the reads that are due.
 #[derive(Clone, Copy)]
 struct Flow {
     buffer: Vrx,
@@ -30,7 +30,7 @@ struct Flow {
     schedule: Schedule,
 }
 
-// Both of a flow that begins at `first`.
+// The buffer and the schedule of a flow that begins at `first`.
 fn started(rt: &impl Abort, params: &Params, kind: Kind, first: u64) -> Flow {
     assert!(rt; first < 1 << 62);
     Flow {
@@ -50,7 +50,8 @@ fn fed(rt: &impl Abort, params: &Params, flow: &mut Flow, at: u64) -> Option<Vrx
     flow.buffer.feed_due(params, packet, due)
 }
 
-// The buffer after two frames of 20 packets, each so long after the first.
+// The buffer after two frames of 20 packets; the first packet comes `first` after the start of the frame, and each
+// other one `step` after the one before.
 fn after(rt: &impl Abort, params: &Params, kind: Kind, first: u64, step: u64) -> Vrx {
     let mut flow = started(rt, params, kind, first);
     for frame in 0..2 {
@@ -64,7 +65,7 @@ fn after(rt: &impl Abort, params: &Params, kind: Kind, first: u64, step: u64) ->
     flow.buffer
 }
 
-// Of two frames of packets so far apart each type's buffer has this fault and this peak.
+// For two frames of packets `step` apart, the buffer of each type has this fault and this peak.
 fn comes_to(
     rt: &impl Abort,
     params: &Params,
@@ -77,7 +78,7 @@ fn comes_to(
     }
 }
 
-// The first packet of two frames comes behind its read.
+// The first packet of two frames comes after its read.
 fn is_late(rt: &impl Abort, params: &Params, first: u64) {
     for kind in &KINDS {
         let vrx = after(rt, params, *kind, first, 960_000);
@@ -121,7 +122,7 @@ fn early_reads() -> Params {
     Params::of(&media, 20)
 }
 
-// Each packet stands on its gapped read.
+// Each packet comes exactly at its gapped read.
 #[test]
 fn on_its_read(rt: HostRuntime) {
     let rows = [(Kind::N, None, 0), (Kind::NL, None, 1), (Kind::W, None, 1)];
@@ -133,7 +134,7 @@ fn one_ns_late(rt: HostRuntime) {
     is_late(&rt, &early_reads(), SECOND + 700_001)
 }
 
-// Read 0 is at 746,666 2/3 ns.
+// Read 0 is due at 746,666 2/3 ns.
 #[test]
 fn height_720(rt: HostRuntime) {
     is_late(&rt, &Params::of(&video(720, false, 50, 1), 20), FIRST)
@@ -155,8 +156,8 @@ fn interlaced_narrow(rt: HostRuntime) {
     }
 }
 
-// 1080p at 60000/1001 with 4320 packets per frame, from TAI second 1,601,600,000 on, where frame
-// 96,000,000,000 begins; each packet comes 1,000 ns before the floor of its gapped read.
+// 1080p at 60000/1001 with 4320 packets per frame, from TAI second 1,601,600,000 on, where frame 96,000,000,000 begins.
+// Each packet comes 1,000 ns before its gapped read, rounded down.
 #[test]
 fn usual_equipment(rt: HostRuntime) {
     let params = Params::of(&video(1080, false, 60_000, 1001), 4320);

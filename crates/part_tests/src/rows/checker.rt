@@ -1,4 +1,4 @@
-//! Claims on captures that were laid out by hand.
+//! Claims that are checked on captures laid out by hand.
 
 ghost use Rattle.std.specs.Prelude.{◌≡◌, ◌≤◌, ◌+◌, ◌^◌, IfOk, length};
 ghost use Rattle.interval_checker.specs.Readings.{HaveRoom};
@@ -13,7 +13,7 @@ use timing_base::worked::{LATE, PLAIN};
 use timing_base::{Broken, FailProof, Kind, PacketFault, Unjudged};
 use timing_outside::{MemorySource, OpenFault};
 
-// Five packets of 20 at once: five in the bucket, and four are the most.
+// Five of 20 packets at once: the bucket holds five, where C_MAX is four.
 const BURST: FailProof = FailProof {
     model: Broken::Bucket,
     from: 0,
@@ -22,16 +22,16 @@ const BURST: FailProof = FailProof {
     limit: 4,
 };
 
-// How the packets of the frame come.
+// The times at which the packets of a frame come.
 #[derive(Clone, Copy)]
 enum Sender {
-    // The first five at once, and all others 960,000 ns apart.
+    // The first five packets at once, all others 960,000 ns apart.
     Burst,
-    // 1,000,000 ns apart.
+    // All packets 1,000,000 ns apart.
     Linear,
 }
 
-// When this packet of the frame comes, in nanoseconds behind the frame's start.
+// The time at which this packet of a frame comes, in nanoseconds after the start of the frame.
 fn nanos(sender: Sender, place: u8) -> u32 {
     match sender {
         Sender::Burst if place < 5 => 764_000,
@@ -40,7 +40,8 @@ fn nanos(sender: Sender, place: u8) -> u32 {
     }
 }
 
-// A record of the packet of this number, of this frame of video, which it ends or not.
+// Appends a packet record with this packet number, with or without the marker. Each `group` has an RTP timestamp of its
+// own.
 fn put(
     text: &mut Vec<u8>,
     seconds: u32,
@@ -59,8 +60,8 @@ fn put(
     text.extend_from_slice(&bytes)
 }
 
-// A capture of the packets from one number on and below another: number 0 ends the frame before, and
-// a frame has numbers 1 to 20.
+// A capture of the packets with numbers from `from` up to, but not including, `to`. Number 0 ends the frame before; a
+// frame has the numbers 1 to 20.
 fn capture(alloc: Global, sender: Sender, from: u8, to: u8) -> Result<Vec<u8>, AllocError> {
     let mut text = Vec::from_slice(alloc, &HEAD)?;
     for number in from..to {
@@ -74,7 +75,7 @@ fn capture(alloc: Global, sender: Sender, from: u8, to: u8) -> Result<Vec<u8>, A
     Ok(text)
 }
 
-// Puts a source at the end of a list.
+// Appends a source to a list.
 fn add(sources: &mut Vec<MemorySource>, source: MemorySource) -> Result<(), OpenFault>
     ensures { IfOk result (λ _. length sources.new.items ≡ length sources.old.items + 1) }
 {
@@ -84,10 +85,10 @@ fn add(sources: &mut Vec<MemorySource>, source: MemorySource) -> Result<(), Open
     }
 }
 
-/// What is said of a claim, or why its sources weren't read.
+/// The finding on a claim, or the reason why the sources weren't read.
 type Said = Result<Result<bool, Unjudged>, CheckFault>;
 
-// One reading, with what this claim asks.
+// One reading, with what this claim needs.
 fn reading(alloc: Global, run: u32, proof: &FailProof) -> Result<Vec<Reading>, AllocError>
     ensures { IfOk result (λ readings. HaveRoom (2 ^ 40) readings.items) }
 {
@@ -98,8 +99,8 @@ fn reading(alloc: Global, run: u32, proof: &FailProof) -> Result<Vec<Reading>, A
     Ok(readings)
 }
 
-// What sources that are one capture say of a claim about this run of a narrow sender, and how many of
-// them come back.
+// The finding on a claim about this run of a narrow sender, in sources that are one capture, and the number of sources
+// that come back.
 fn said(
     alloc: Global,
     run: u32,
@@ -122,7 +123,7 @@ fn said(
     Ok((back.len(), said))
 }
 
-// What a capture says of a claim about this run of a narrow sender.
+// The finding on a claim about this run of a narrow sender, in one capture.
 fn told(alloc: Global, text: Vec<u8>, run: u32, proof: FailProof) -> Result<Said, OpenFault> {
     let mut sources = Vec::new(alloc);
     add(&mut sources, source_of(alloc, &text, 100, &[])?)?;
@@ -130,7 +131,7 @@ fn told(alloc: Global, text: Vec<u8>, run: u32, proof: FailProof) -> Result<Said
     Ok(answer)
 }
 
-// A capture of the packets from one number on and below another says this of a claim about a run.
+// A capture of these packet numbers has this finding on a claim about a run.
 fn says(
     rt: &(impl Abort + AllocGlobal),
     (sender, from, to): (Sender, u8, u8),
@@ -143,7 +144,7 @@ fn says(
     Ok(())
 }
 
-// A claim is confirmed, and with any of its numbers changed by one it isn't.
+// A claim is confirmed; with any of its numbers changed by one, it isn't.
 #[test]
 fn verify_burst(rt: HostRuntime) -> Result<(), Fail> {
     let rows = [
@@ -173,8 +174,7 @@ fn verify_burst(rt: HostRuntime) -> Result<(), Fail> {
     Ok(())
 }
 
-// The second read of the gapped schedule is 1,724,444 ns behind the frame's start, and the second
-// packet comes at 1,764,000 ns.
+// The second gapped read is due 1,724,444 ns after the start of the frame, and the second packet comes at 1,764,000 ns.
 #[test]
 fn verify_empty(rt: HostRuntime) -> Result<(), Fail> {
     for (count, want) in [(1, true), (2, false), (0, false)] {
@@ -190,20 +190,20 @@ fn no_packets(rt: HostRuntime) -> Result<(), Fail> {
     says(&rt, (Sender::Burst, 0, 0), (0, BURST), want)
 }
 
-// The packets of a frame but for its last.
+// All packets of a frame except the last one.
 #[test]
 fn no_marker(rt: HostRuntime) -> Result<(), Fail> {
     let want = Ok(Err(Unjudged::NoWholeFrame { head: 5 }));
     says(&rt, (Sender::Burst, 1, 6), (0, BURST), want)
 }
 
-// There is one run, which has number 0.
+// There is one run, with number 0.
 #[test]
 fn another_run(rt: HostRuntime) -> Result<(), Fail> {
     says(&rt, (Sender::Burst, 0, 21), (1, BURST), Ok(Ok(false)))
 }
 
-// Two records, of which the second is stamped one ns before the first.
+// Two packet records, the second with a capture timestamp one nanosecond before that of the first.
 fn going_back(alloc: Global) -> Result<Vec<u8>, AllocError> {
     let mut text = Vec::from_slice(alloc, &HEAD)?;
     put(&mut text, 1_599_999_999, 999_000_000, 0, 0, true)?;
@@ -225,7 +225,7 @@ fn stamp_back(rt: HostRuntime) -> Result<(), Fail> {
     Ok(())
 }
 
-// Two captures that are one, where the reads of these numbers of the second fail.
+// Two captures that are one; the reads with these numbers of the second one fail.
 fn joined(alloc: Global, fails: &[u32]) -> Result<Vec<MemorySource>, OpenFault>
     ensures { IfOk result (λ sources. length sources.items ≤ 16) }
 {
@@ -237,7 +237,7 @@ fn joined(alloc: Global, fails: &[u32]) -> Result<Vec<MemorySource>, OpenFault>
     Ok(sources)
 }
 
-// Such captures say this of the burst, and both come back.
+// Two such captures have this finding on the burst, and both sources come back.
 fn both_say(rt: &impl Abort, alloc: Global, fails: &[u32], want: Said) -> Result<(), Fail> {
     let sources = joined(alloc, fails)?;
     same_at(rt, &fails, &said(alloc, 0, BURST, sources)?, &(2, want));
@@ -249,7 +249,7 @@ fn two_captures_are_one(rt: HostRuntime) -> Result<(), Fail> {
     both_say(&rt, rt.alloc(), &[], Ok(Ok(true)))
 }
 
-// Every source comes back, and that of the failed read is named.
+// If a read fails, its source is named, and all sources come back.
 #[test]
 fn failed_read_names_its_source(rt: HostRuntime) -> Result<(), Fail> {
     for number in 1..7 {

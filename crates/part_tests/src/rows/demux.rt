@@ -1,4 +1,4 @@
-//! The packets of two media, dealt out to what takes the flow of each.
+//! The packets of two media, which are distributed to the takers of their flows.
 
 ghost use Rattle.std.specs.Prelude.{◌≡◌, ⊤, All, IfOk};
 ghost use Rattle.frame_group.specs.Expected.{after};
@@ -15,14 +15,14 @@ use timing_base::worked::undeclared_to;
 use timing_base::{FlowPacket, Rtp};
 use timing_outside::OpenFault;
 
-// What it was given: the record of each packet, and whether that was the one expected, taken on the short way.
+// The packets that a taker was given: their record numbers, and whether each was taken as the expected one.
 #[derive(Drop)]
 struct Noted {
     given: Vec<(u64, bool)>,
     next: Option<Rtp>,
 }
 
-// The packet that goes on after the one that was expected.
+// The packet after the expected one.
 fn later(expected: Option<Rtp>) -> Option<Rtp>
     ensures { result ≡ after expected }
 {
@@ -73,7 +73,7 @@ impl FlowTaker for Noted {
     }
 }
 
-// The flow to this port, of which nothing was taken.
+// The flow to this port, before its first packet.
 fn flow_to(alloc: Global, port: u16) -> MediaFlow<Noted>
     ensures { AwaitsExpected (λ (x : Noted). x.next) result }
 {
@@ -94,7 +94,7 @@ fn flows_to(alloc: Global, ports: (u16, u16)) -> Result<Vec<MediaFlow<Noted>>, A
     Ok(flows)
 }
 
-// What each flow was given.
+// The packets that each flow was given.
 fn given_of(
     alloc: Global,
     flows: Vec<MediaFlow<Noted>>,
@@ -108,7 +108,7 @@ fn given_of(
     Ok(all)
 }
 
-// What the flows to these ports are given of this capture.
+// The packets that the flows to these ports are given from this capture.
 fn given(
     alloc: Global,
     text: &[u8],
@@ -120,8 +120,8 @@ fn given(
     Ok(given_of(alloc, demux.into_flows())?)
 }
 
-// Ten records: the frames of two flows in turn, with one to port 50009 between them. The first flow ends a frame with
-// its fourth packet, and the second one misses its fourth.
+// Ten packet records: the frames of two flows in turn, with one to port 50009 between them. The fourth packet of the
+// first flow has the marker; the fourth packet of the second flow is missing.
 fn capture(alloc: Global) -> Result<Vec<u8>, AllocError> {
     let mut text = Vec::from_slice(alloc, &HEAD)?;
     put(&mut text, 1000, &frame(0, 0, false, 0), 56)?;
@@ -137,8 +137,8 @@ fn capture(alloc: Global) -> Result<Vec<u8>, AllocError> {
     Ok(text)
 }
 
-// Whose turn it is is learnt from the first packets: from the fourth on each packet that goes on is taken as it is
-// expected.
+// The first three packets show in which order the flows come. After them each packet that continues its frame is taken
+// as the expected one.
 #[test]
 fn two_flows_in_turn(rt: HostRuntime) -> Result<(), Fail> {
     let text = capture(rt.alloc())?;
@@ -159,7 +159,7 @@ fn two_flows_in_turn(rt: HostRuntime) -> Result<(), Fail> {
     Ok(())
 }
 
-// A frame to a target of two media goes to both, and none is expected ahead of the other.
+// If two media have the same target, a frame to it goes to both, and no packet is taken as the expected one.
 #[test]
 fn one_target_of_two_media(rt: HostRuntime) -> Result<(), Fail> {
     let text = capture(rt.alloc())?;

@@ -1,4 +1,4 @@
-//! The plain capture and description are those that are made.
+//! The captures and SDPs of `examples` are those that the program generates.
 
 use super::compare::{same, same_at};
 use capture_gen::examples::{
@@ -10,7 +10,7 @@ use std::process::Abort;
 use std::test::Fail;
 use timing_outside::MemorySink;
 
-// A made capture of two frames. Asserts what the call requires, since a proof does not follow the
+// A generated capture of two frames with this flaw. Asserts what the call requires, since a proof does not follow the
 // rows of a table.
 fn made(rt: &impl Abort, alloc: Global, flaw: u32) -> Result<MemorySink, Fail> {
     assert!(rt; flaw <= 4);
@@ -19,7 +19,7 @@ fn made(rt: &impl Abort, alloc: Global, flaw: u32) -> Result<MemorySink, Fail> {
     Ok(sink)
 }
 
-// A capture of this sender is the one that is made with this flaw.
+// The capture of this sender is the generated one with this flaw.
 fn is_as_made(rt: &impl Abort, alloc: Global, spread: &Spread, flaw: u32) -> Result<(), Fail> {
     let sink = made(rt, alloc, flaw)?;
     let capture = spread.capture(alloc)?;
@@ -27,7 +27,7 @@ fn is_as_made(rt: &impl Abort, alloc: Global, spread: &Spread, flaw: u32) -> Res
     Ok(())
 }
 
-// The plain capture, one with five packets of its last frame at once, and one that is spread evenly.
+// The plain capture, one with five packets of its last frame at once, and one with evenly spaced packets.
 #[test]
 fn captures_are_as_made(rt: HostRuntime) -> Result<(), Fail> {
     let burst = Spread {
@@ -44,7 +44,7 @@ fn captures_are_as_made(rt: HostRuntime) -> Result<(), Fail> {
     is_as_made(&rt, rt.alloc(), &even, 2)
 }
 
-// A file head of 24 bytes, and 72 for each of 8,641 packets.
+// A capture header of 24 bytes, and 72 bytes for each of 8,641 packets.
 #[test]
 fn usual_capture(rt: HostRuntime) -> Result<(), Fail> {
     let capture = usual_equipment(rt.alloc())?;
@@ -52,7 +52,7 @@ fn usual_capture(rt: HostRuntime) -> Result<(), Fail> {
     Ok(())
 }
 
-// The description with another text in this one's place has so many bytes less.
+// If `old` is replaced by `new`, the SDP is `less` bytes shorter.
 fn is_shorter(
     rt: &impl Abort,
     alloc: Global,
@@ -65,14 +65,14 @@ fn is_shorter(
     Ok(())
 }
 
-// A text that isn't there changes nothing.
+// Replacing a text that isn't in the SDP changes nothing.
 fn is_unchanged(rt: &impl Abort, alloc: Global) -> Result<(), Fail> {
     let sdp = described(alloc, "absent", "")?;
     same(rt, &sdp.as_slice(), &sdp_bytes());
     Ok(())
 }
 
-// One media more, and two, with the same lengths.
+// The SDP with one more media and that with two more have the lengths of these media more.
 fn has_more(rt: &impl Abort, alloc: Global) -> Result<(), Fail> {
     let more = three_media(alloc)?.len();
     same(rt, &more, &(sdp_bytes().len() + 2 * MEDIA.len()));
@@ -81,7 +81,7 @@ fn has_more(rt: &impl Abort, alloc: Global) -> Result<(), Fail> {
     Ok(())
 }
 
-// A height of one digit less, no media, and more of them.
+// SDPs with a height of one digit less, without a media, and with more media.
 #[test]
 fn other_description(rt: HostRuntime) -> Result<(), Fail> {
     let height = ("height=1080;", "height=720;");
@@ -91,7 +91,7 @@ fn other_description(rt: HostRuntime) -> Result<(), Fail> {
     has_more(&rt, rt.alloc())
 }
 
-// The bytes of a record, which is one of 40 and more.
+// The bytes of a packet record, with a number from 0 to 39.
 fn record<'a>(rt: &impl Abort, capture: &'a [u8], number: usize) -> &'a [u8] {
     assert!(rt; number < 40);
     let from = 24 + 72 * number;
@@ -99,8 +99,8 @@ fn record<'a>(rt: &impl Abort, capture: &'a [u8], number: usize) -> &'a [u8] {
     &capture[from..from + 72]
 }
 
-// A record of the other path has its stamp so many nanoseconds later, in the same second, and another last byte of its
-// address.
+// A packet record of the other path has a capture timestamp that is `wanted` nanoseconds later, in the same second, and
+// another last byte of its address.
 fn check_later(rt: &impl Abort, own: &[u8], late: &[u8], wanted: u32, number: usize) {
     assert!(rt; own.len() == 72 && late.len() == 72);
     let nanos = u32::from_le_bytes([own[4], own[5], own[6], own[7]]);
@@ -110,15 +110,15 @@ fn check_later(rt: &impl Abort, own: &[u8], late: &[u8], wanted: u32, number: us
     same_at(rt, &number, &(&own[..4]), &(&late[..4]));
 }
 
-// All else of a record is the same.
+// All other bytes of a packet record are the same.
 fn check_same(rt: &impl Abort, own: &[u8], late: &[u8], number: usize) {
     assert!(rt; own.len() == 72 && late.len() == 72);
     same_at(rt, &number, &(&own[8..49]), &(&late[8..49]));
     same_at(rt, &number, &(&own[50..]), &(&late[50..]));
 }
 
-// A record differs from the plain one in its stamp, which is 150 ns later or 900 ns, and in the last byte of its
-// address.
+// Each packet record differs from the plain one in its capture timestamp, which is 150 ns later (for one record 900
+// ns), and in the last byte of its address.
 fn check_records(rt: &impl Abort, plain: &[u8], other: &[u8]) {
     for number in 0..40usize {
         let (own, late) = (record(rt, plain, number), record(rt, other, number));
@@ -128,7 +128,7 @@ fn check_records(rt: &impl Abort, plain: &[u8], other: &[u8]) {
     }
 }
 
-// A head of 24 bytes and 40 records of 72.
+// A capture header of 24 bytes, and 40 packet records of 72 bytes.
 #[test]
 fn second_path_is_later(rt: HostRuntime) -> Result<(), Fail> {
     let plain = NARROW.capture(rt.alloc())?;

@@ -1,9 +1,9 @@
-//! Floors, and the instants of a line.
+//! Rounding down, and the instants of a series.
 
 use super::compare::{same, same_at};
 use fraction128::{Clock, Line, floor_of, floor_signed};
 
-// T_DRAIN of 1080p at 50 with 20 packets per frame is 10,000,000 / 11 ns: ticks after 3,840,000 ns.
+// T_DRAIN of 1080p at 50 with 20 packets per frame is 10,000,000 / 11 ns: drain ticks before and after 3,840,000 ns.
 #[test]
 fn floors(rt: HostRuntime) {
     same(&rt, &floor_of(3_840_000, 11, 10_000_000), &4);
@@ -11,14 +11,14 @@ fn floors(rt: HostRuntime) {
     same(&rt, &floor_signed(-7, 2), &-4);
 }
 
-// Ticks 10,000,000 / 11 ns apart from 7 on, each counted once: none before the first, two steps, and
-// leaps over the others.
+// Instants 10,000,000 / 11 ns apart from 7 on, each counted once: none before the first, two steps, and jumps over
+// several instants.
 #[test]
 fn instants(rt: HostRuntime) {
     let line = Line::of(10_000_000, 11);
     let mut clock = Clock::start(&line, 7);
     let rows = [
-        // stamp, instants since the stamp before
+        // time, instants since the time before
         (7, 0),
         (909_097, 0),
         (909_098, 1),

@@ -1,4 +1,4 @@
-//! The worked rows, packet by packet.
+//! The grouper, packet by packet, with values worked by hand.
 
 ghost use Rattle.std.specs.Prelude.{◌≡◌, ◌≤◌, ◌<◌, ◌^◌};
 ghost use Rattle.frame_group.specs.Stands.{count_fed};
@@ -9,7 +9,7 @@ use std::process::Abort;
 use timing_base::worked::reading;
 use timing_base::{PacketFault, Rtp};
 
-/// A grouper, and how many packets it was fed.
+/// A grouper, and the number of packets that it was fed.
 #[derive(Clone, Copy)]
 struct Flow {
     grouper: Grouper,
@@ -34,7 +34,7 @@ impl Flow {
     }
 }
 
-/// When frame 0 of a capture begins whose head has this packet number, in nanoseconds.
+/// The time in nanoseconds at which frame 0 begins, in a capture with this packet number in its head.
 fn start(number: u32) -> u64
     ensures some { 1000000 ≤ result }
     ensures few { result < 2 ^ 62 }
@@ -42,13 +42,13 @@ fn start(number: u32) -> u64
     (1_600_000_000 + u64::from(number % 1_000_000)) * 1_000_000_000
 }
 
-/// Feeds a marked packet 1 ms before frame 0.
+/// Feeds a packet with the marker 1 ms before frame 0.
 fn feed_head(rt: &impl Abort, flow: &mut Flow, number: u32) {
     let answer = flow.feed(rt, start(number) - 1_000_000, reading(number, 0, true));
     same(rt, &answer, &Ok(None));
 }
 
-/// Feeds so many packets after the head, numbers in order, in frames of 20 ms with 20 packets each.
+/// Feeds this many packets after the head, with numbers in order, in frames of 20 ms and 20 packets each.
 fn feed_frames(rt: &impl Abort, flow: &mut Flow, number: u32, count: u32) {
     for j in 0..count {
         let at = start(number)

@@ -1,4 +1,4 @@
-//! The worked rows of one flow, from its packets to its row.
+//! The judge of one flow, from its packets to its result, with values worked by hand.
 
 ghost use Rattle.std.specs.Prelude.{◌≡◌, ◌≤◌, ◌<◌, ◌*◌, ◌^◌};
 ghost use Rattle.fail_interval.specs.Stands.{count_fed};
@@ -16,7 +16,7 @@ use timing_base::{
 
 const KEY: FlowKey = FlowKey { file: 0, media: 0 };
 
-// A judge, and how many packets it was fed: their records are counted from 1.
+// A judge, and the number of packets that it was fed; their packet records count from 1.
 #[derive(Drop)]
 struct Flow {
     judge: FlowJudge<()>,
@@ -29,7 +29,7 @@ impl Flow {
         Flow::later(alloc, media, 0)
     }
 
-    // Of stamps that are so many seconds too low.
+    // A judge for capture timestamps that are `tai` seconds too low.
     fn later(alloc: Global, media: &Media, tai: u64) -> Flow
         requires { tai ≤ 1000 }
     {
@@ -72,27 +72,27 @@ fn unjudged(row: &Row) -> Option<Unjudged> {
     }
 }
 
-// This comes of a flow that isn't judged.
+// The flow isn't judged, for this reason.
 fn comes_to_none(rt: &impl Abort, flow: Flow, want: Unjudged) {
     same(rt, &unjudged(&flow.finish(rt)), &Some(want));
 }
 
-// A made capture: a marked packet 1 ms before the first group, and a group every 20 ms.
+// A capture: a packet with the marker 1 ms before the first frame, and a frame every 20 ms.
 #[derive(Clone, Copy)]
 struct Made {
-    // When the first group begins, in seconds.
+    // The start of the first frame, in seconds.
     start: u32,
-    // The stamps are so many seconds too low.
+    // The seconds by which the capture timestamps are too low.
     tai: u64,
-    // The number of the marked packet.
+    // The number of the packet with the marker.
     number: u32,
-    // The packets of a group.
+    // The packets in a frame.
     size: u32,
-    // From the begin of a group to its first packet, in nanoseconds.
+    // The time from the start of a frame to its first packet, in nanoseconds.
     first: u32,
-    // From one packet to the next, in microseconds.
+    // The time from one packet to the next, in microseconds.
     step: u16,
-    // In this group the packets up to this one come with the first.
+    // In the frame `bunched` the packets up to `up_to` come with the first.
     bunched: u32,
     up_to: u32,
 }
@@ -109,7 +109,7 @@ const PLAIN: Made = Made {
 };
 
 impl Made {
-    // When a packet comes, in nanoseconds.
+    // The time at which a packet comes, in nanoseconds.
     fn stamp(&self, group: u32, place: u32) -> u64 {
         let steps = if group == self.bunched && place <= self.up_to {
             0
@@ -127,7 +127,7 @@ impl Made {
         flow.feed(rt, at, reading(self.number, 0, true));
     }
 
-    // Feeds the packets from this one up to that one, counted after the head.
+    // Feeds the packets from `from` up to, but not including, `to`, counted after the head.
     fn feed(&self, rt: &impl Abort, flow: &mut Flow, from: u32, to: u32) {
         assert!(rt; self.size > 0);
         for j in from..to {
@@ -140,7 +140,7 @@ impl Made {
         }
     }
 
-    // This comes of the head and so many packets to this media.
+    // The head and this many packets to this media have this result.
     fn comes_to(&self, rt: &impl Abort, alloc: Global, media: &Media, count: u32, want: Judged) {
         assert!(rt; self.tai <= 1000);
         let mut flow = Flow::later(alloc, media, self.tai);
@@ -150,7 +150,7 @@ impl Made {
     }
 }
 
-// What comes of so many whole frames where all is well.
+// The result of this many frames in which every type passes.
 fn passes(frames: u64) -> Judged
     requires { frames < 2 ^ 32 }
 {
@@ -198,7 +198,7 @@ fn linear_sender(rt: HostRuntime) {
     made.comes_to(&rt, rt.alloc(), &plain(), 40, want)
 }
 
-// What comes of two frames where five packets come at once, the first of them this one.
+// The result of two frames with five packets at once, the first of which is this one.
 fn five_from(first: u64) -> Judged
     requires { first < 2 ^ 32 }
 {
@@ -240,7 +240,7 @@ fn burst_in_second_frame(rt: HostRuntime) {
     made.comes_to(&rt, rt.alloc(), &plain(), 40, five_from(20))
 }
 
-// The verdicts don't hang on the type that is declared.
+// The verdicts don't depend on the declared type.
 #[test]
 fn declared_wide(rt: HostRuntime) {
     let made = Made {
@@ -255,7 +255,7 @@ fn declared_wide(rt: HostRuntime) {
     made.comes_to(&rt, rt.alloc(), &media, 40, five_from(20))
 }
 
-// P with TROFF=700.
+// 1080p at 50, declared narrow, with TROFF=700.
 fn early_reads() -> Media {
     Media {
         troff: Some(700),
@@ -276,7 +276,7 @@ fn on_its_read(rt: HostRuntime) {
     made.comes_to(&rt, rt.alloc(), &early_reads(), 40, want)
 }
 
-// What comes of two frames each of whose packets comes just after its gapped read.
+// The result of two frames in which each packet comes just after its gapped read.
 fn all_late() -> Judged {
     let late = fail(Broken::Empty, 0, 0, 0, 1);
     Judged {
@@ -366,8 +366,8 @@ fn interlaced_narrow(rt: HostRuntime) {
     made.comes_to(&rt, rt.alloc(), &video(1080, true, 25, 1), 40, want)
 }
 
-// Two frames from TAI second 1,601,600,000 on, where frame 96,000,000,000 begins; each packet comes 1,000 ns before
-// the floor of its gapped read. T_FRAME is 450,450,000/27 ns, TR_OFFSET 17,217,200/27 ns and T_RS 100,100/27 ns.
+// Two frames from TAI second 1,601,600,000 on, where frame 96,000,000,000 begins. Each packet comes 1,000 ns before its
+// gapped read, rounded down. T_FRAME is 450,450,000/27 ns, TR_OFFSET 17,217,200/27 ns and T_RS 100,100/27 ns.
 #[test]
 fn usual_equipment(rt: HostRuntime) {
     let begin: u64 = 1_601_600_000_000_000_000 - 37_000_000_000;
@@ -411,7 +411,7 @@ fn no_marker(rt: HostRuntime) {
     comes_to_none(&rt, flow, Unjudged::NoWholeFrame { head: 5 })
 }
 
-// What comes of a flow whose first fault is this one, of this record.
+// The result of a flow with this first fault, in this packet record.
 fn refused(rec: u64, fault: PacketFault) -> Unjudged {
     Unjudged::Refused { rec, fault }
 }
@@ -426,7 +426,7 @@ fn short_frame(rt: HostRuntime) {
     comes_to_none(&rt, flow, want)
 }
 
-// The packets after the fault are passed over.
+// The packets after the fault are ignored.
 #[test]
 fn second_source(rt: HostRuntime) {
     let mut flow = Flow::new(rt.alloc(), &plain());
@@ -440,7 +440,7 @@ fn second_source(rt: HostRuntime) {
     comes_to_none(&rt, flow, refused(2, PacketFault::SecondSource))
 }
 
-// The stamps that are told are those of the capture.
+// The timestamps in a fault are those of the capture, without `--tai`.
 #[test]
 fn stamp_back(rt: HostRuntime) {
     let mut flow = Flow::later(rt.alloc(), &plain(), 1000);
@@ -487,7 +487,7 @@ fn too_many_gaps(rt: HostRuntime) {
     comes_to_none(&rt, flow, want)
 }
 
-// The runs of a row.
+// The runs in a result.
 fn runs(row: &Row) -> &[Run] {
     match &row.verdict {
         Verdict::Runs(runs) => runs.list.as_slice(),
@@ -495,7 +495,7 @@ fn runs(row: &Row) -> &[Run] {
     }
 }
 
-// These runs come of a flow.
+// The flow has these runs.
 fn comes_to_runs(rt: &impl Abort, flow: Flow, want: &[Run]) {
     same(rt, &runs(&flow.finish(rt)), &want);
 }

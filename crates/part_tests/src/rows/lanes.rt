@@ -1,4 +1,4 @@
-//! Lanes in one thread and between threads, with each message compared.
+//! Lanes in one thread and between threads; each message is compared.
 
 ghost use Rattle.std.specs.Prelude.{◌≡◌, length};
 ghost use Rattle.ruled_intake.specs.Lanes.{AreSenders};
@@ -16,10 +16,10 @@ use std::thread::Threads;
 use std::{mem, slice, thread};
 use timing_base::{FileNote, FlowPacket, Items, PacketFault, Rtp};
 
-// A lane of so many messages is long, and its senders wait. It is a private number of `ruled_intake`.
+// The number of messages from which on the senders of a lane wait. It is a private constant of `ruled_intake`.
 const LONG: u64 = 64;
 
-// The end of a file that is cut at this byte.
+// The message that a file ends, cut at this byte.
 fn cut_at(file: u32, at: u64) -> Message {
     Message::End(FileEnd {
         file,
@@ -28,7 +28,7 @@ fn cut_at(file: u32, at: u64) -> Message {
     })
 }
 
-// Asserts that a message is the end of a file that is cut at this byte.
+// Asserts that a message is that of a file that is cut at this byte.
 fn is_cut_at(rt: &impl Abort, message: Option<Message>, file: u32, at: u64) {
     let end = match &message {
         Some(Message::End(end)) => Some((end.file, end.note)),
@@ -72,7 +72,7 @@ fn lane_order(rt: HostRuntime) {
     same(&rt, &closed, &Closed { sent: 3, taken: 3 });
 }
 
-// Sends 1,000 ends of the next file.
+// Sends 1,000 end messages of the next file.
 fn send_ends<R: Wait + Abort>(rt: &R, lane: &Lane, pass: SendPass, files: &AtomicU32)
     requires { pass.lane ≡ lane.now }
 {
@@ -85,7 +85,7 @@ fn send_ends<R: Wait + Abort>(rt: &R, lane: &Lane, pass: SendPass, files: &Atomi
     }
 }
 
-// Takes so many ends of two files, and asserts that those of each file come in order.
+// Takes this many end messages of two files, and asserts that those of each file come in order.
 fn take_ends<R: Wait + Abort>(rt: &R, lane: &Lane, taker: TakePass, count: u64)
     requires { taker.lane ≡ lane.now }
 {
@@ -115,7 +115,7 @@ fn take_ends<R: Wait + Abort>(rt: &R, lane: &Lane, taker: TakePass, count: u64)
     same(rt, &last, &[1000, 1000]);
 }
 
-// Sends from a thread for each pass.
+// Sends from one thread for each pass.
 fn send_in_threads<R: Threads + Wait + Abort + Sync>(rt: &R, lane: &Lane, passes: Vec<SendPass>)
     requires { AreSenders lane.now passes.items }
 {
@@ -148,7 +148,7 @@ fn two_senders_1000(rt: HostRuntime) {
     two_senders(&rt, rt.alloc());
 }
 
-// A packet that its file and its number tell, of media 0 to 6.
+// A packet with values that follow from its file and its number, of media 0 to 6.
 fn packet(file: u32, number: u32) -> Packet {
     let rtp = if number % 64 == 0 {
         Err(PacketFault::Short)
@@ -171,7 +171,7 @@ fn packet(file: u32, number: u32) -> Packet {
     )
 }
 
-// A batch of 256 packets of a file, from this number on.
+// A batch of 256 packets of a file, the first of which has this number.
 fn batch(alloc: Global, file: u32, first: u32) -> Option<Message> {
     let mut packets = Vec::with_capacity(alloc, 256).ok()?;
     for place in 0..256 {
@@ -185,10 +185,10 @@ fn batch(alloc: Global, file: u32, first: u32) -> Option<Message> {
 
 const SENDERS: u32 = 16;
 
-// The batches of one sender.
+// The number of batches of one sender.
 const BATCHES: u32 = 256;
 
-// The files and messages of several senders.
+// The counts of files and messages of several senders.
 #[derive(Drop)]
 struct Counts {
     // The next file.
@@ -197,7 +197,7 @@ struct Counts {
     sent: AtomicU64,
 }
 
-// Sends the batches of the next file, and then its end. Before each message it waits for room.
+// Sends the batches of the next file, and then its end. Waits for room before each message.
 fn send_file<R: Wait + Abort>(rt: &R, alloc: Global, lane: &Lane, pass: SendPass, counts: &Counts)
     requires { pass.lane ≡ lane.now }
 {
@@ -220,14 +220,14 @@ fn send_file<R: Wait + Abort>(rt: &R, alloc: Global, lane: &Lane, pass: SendPass
     counts.sent.fetch_add(1, Ordering::SeqCst);
 }
 
-// Asserts that a packet is the one that its file and its number tell.
+// Asserts that a packet is the one of its file with its number.
 fn is_packet(rt: &impl Abort, found: &Packet, file: u32, number: u32) {
     let wanted = packet(file, number);
     same(rt, &found.media(), &wanted.media());
     same(rt, &found.flow_packet(), &wanted.flow_packet());
 }
 
-// Asserts that the packets of a file go on at this number, and returns the one after them.
+// Asserts that the packets of a file continue at this number, and returns the number after them.
 fn goes_on(rt: &impl Abort, batch: &Batch, first: u32) -> u32 {
     let mut number = first;
     for found in batch.packets.as_slice() {
@@ -237,8 +237,8 @@ fn goes_on(rt: &impl Abort, batch: &Batch, first: u32) -> u32 {
     number
 }
 
-// Takes the files of all senders, and asserts that each has its packets in order, and that the lane is never
-// longer than one message of each sender makes it. Where there is none it sleeps.
+// Takes the files of all senders, and asserts that the packets of each come in order, and that the lane is at most one
+// message of each sender longer than `LONG`. Sleeps while there is no message.
 fn take_files<R: Wait + Abort>(rt: &R, lane: &Lane, taker: TakePass, sent: &AtomicU64)
     requires { taker.lane ≡ lane.now }
 {
@@ -275,7 +275,7 @@ fn take_files<R: Wait + Abort>(rt: &R, lane: &Lane, taker: TakePass, sent: &Atom
     assert!(rt; lane.take::<NoLesson, _>(rt, &mut taker).is_none());
 }
 
-// Sends the files from a thread for each pass.
+// Sends the files from one thread for each pass.
 fn send_files<R: Threads + Wait + Abort + Sync>(
     rt: &R,
     alloc: Global,
@@ -293,7 +293,7 @@ fn send_files<R: Threads + Wait + Abort + Sync>(
     assert!(rt; sent.is_ok());
 }
 
-// Sixteen threads send a file each, and another one takes them.
+// Sixteen threads send a file each, and another thread takes them.
 fn sixteen_senders<R: Threads + Wait + Abort + Sync>(rt: &R, alloc: Global) {
     let Ok((lane, passes, taker)) = Lane::new(alloc, SENDERS) else {
         assert!(rt; false, "there is memory");
@@ -335,7 +335,7 @@ fn halt_is_seen_once_raised(rt: HostRuntime) {
     assert!(rt; halt.raised().is_some());
 }
 
-// Sleeps until the halt is seen raised, and tells before that it begins.
+// Sets `begun`, and then sleeps until it sees that the halt is raised.
 fn sleep_until_raised<R: Wait>(
     rt: &R,
     lane: &Lane,
@@ -355,7 +355,7 @@ fn sleep_until_raised<R: Wait>(
     }
 }
 
-// Lets the other thread begin, and then gives it time to fall asleep.
+// Waits until the other thread has begun, and then gives it time to fall asleep.
 fn let_sleep(begun: &AtomicBool) {
     for _ in 0..1_000_000 {
         if begun.load(Ordering::SeqCst) {
@@ -395,7 +395,7 @@ fn sleeper_sees_the_halt(rt: HostRuntime) {
     sleeper_and_halt(&rt, rt.alloc());
 }
 
-// Sends so many ends, counts each, and waits for room after it.
+// Sends this many end messages, counts each, and waits for room after it.
 fn send_and_wait<R: Wait + Abort>(rt: &R, lane: &Lane, pass: SendPass, count: u64, sent: &AtomicU64)
     requires { pass.lane ≡ lane.now }
 {
@@ -409,7 +409,7 @@ fn send_and_wait<R: Wait + Abort>(rt: &R, lane: &Lane, pass: SendPass, count: u6
     }
 }
 
-// Lets the lane get long, gives the sender time to fall asleep, and ends without a take.
+// Waits until the lane is long, gives the sender time to fall asleep, and ends without a take.
 fn end_at_once(sent: &AtomicU64, working: Working<'_>) {
     for _ in 0..1_000_000 {
         if sent.load(Ordering::SeqCst) >= LONG {
@@ -423,7 +423,7 @@ fn end_at_once(sent: &AtomicU64, working: Working<'_>) {
     drop(working);
 }
 
-// Asserts that the lane holds so many ends, in order, and nothing more.
+// Asserts that the lane has exactly this many end messages, in order.
 fn holds_ends<R: Wait + Abort>(rt: &R, lane: &Lane, taker: TakePass, count: u64)
     requires { taker.lane ≡ lane.now }
 {
@@ -434,7 +434,7 @@ fn holds_ends<R: Wait + Abort>(rt: &R, lane: &Lane, taker: TakePass, count: u64)
     assert!(rt; lane.take::<NoLesson, _>(rt, &mut taker).is_none());
 }
 
-// One thread sends more than a lane may hold, and another ends without a take.
+// One thread sends more messages than a lane may have, and another ends without a take.
 fn sender_and_end<R: Threads + Wait + Abort + Sync>(rt: &R, alloc: Global) {
     let Ok((lane, mut passes, taker)) = Lane::new(alloc, 1) else {
         assert!(rt; false, "there is memory");
@@ -462,7 +462,7 @@ fn sleeping_sender_sees_the_end(rt: HostRuntime) {
     sender_and_end(&rt, rt.alloc());
 }
 
-// Gives the other thread time to fall asleep, tells that the file is about to end, and ends it.
+// Gives the other thread time to fall asleep, sets `ending`, and ends the file.
 fn end_file(reading: Reading<'_>, ending: &AtomicBool) {
     for _ in 0..10_000 {
         thread::yield_now();

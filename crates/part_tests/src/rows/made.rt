@@ -1,4 +1,4 @@
-//! Made captures on a sink in memory, and sinks that fail.
+//! Generated captures on a sink in memory, and sinks that fail.
 
 use super::compare::{same, same_at};
 use byteorder::{BigEndian, ByteOrder, LittleEndian};
@@ -8,8 +8,8 @@ use std::process::Abort;
 use std::test::Fail;
 use timing_outside::MemorySink;
 
-// A capture in a sink that has room for it and no more. Asserts what the calls require, since a
-// proof does not follow the rows of a table.
+// A capture in a sink that has exactly the room for it. Asserts what the calls require, since a proof does not follow
+// the rows of a table.
 fn made<R: Abort>(
     rt: &R,
     alloc: Global,
@@ -25,7 +25,7 @@ fn made<R: Abort>(
     Ok(sink)
 }
 
-// A record of a capture, counted from 1.
+// The bytes of a packet record of a capture, counted from 1.
 fn record<'a>(rt: &impl Abort, capture: &'a [u8], record: usize) -> &'a [u8] {
     assert!(rt; 1 <= record);
     assert!(rt; record <= 20_000);
@@ -34,7 +34,7 @@ fn record<'a>(rt: &impl Abort, capture: &'a [u8], record: usize) -> &'a [u8] {
     &capture[at..at + 72]
 }
 
-// Whole seconds, nanoseconds, whether the marker is set, and the packet number of a record.
+// The whole seconds, the nanoseconds, the marker and the packet number of a packet record.
 fn seen(rt: &impl Abort, capture: &[u8], number: usize) -> (u32, u32, bool, u32) {
     let record = record(rt, capture, number);
     assert!(rt; record.len() == 72);
@@ -57,7 +57,7 @@ fn adler32(bytes: &[u8]) -> u32 {
     high % 65_521 * 65_536 + low % 65_521
 }
 
-// A made capture has so many bytes.
+// A generated capture has this length in bytes.
 fn has_length(
     rt: &impl Abort,
     alloc: Global,
@@ -86,7 +86,7 @@ fn lengths(rt: HostRuntime) -> Result<(), Fail> {
     Ok(())
 }
 
-// A made capture has this checksum.
+// A generated capture has this checksum.
 fn has_checksum(
     rt: &impl Abort,
     alloc: Global,
@@ -98,8 +98,8 @@ fn has_checksum(
     Ok(())
 }
 
-// The checksums are those of examples/plain.sdp and examples/plain.pcap, and of captures that a
-// script in another language made from the documented format.
+// The checksums are those of examples/plain.sdp and examples/plain.pcap, and of captures that a script in another
+// language generated from the documented format.
 #[test]
 fn checksums(rt: HostRuntime) -> Result<(), Fail> {
     same(&rt, &adler32(sdp_bytes()), &0x0172_5f81);
@@ -119,7 +119,7 @@ fn checksums(rt: HostRuntime) -> Result<(), Fail> {
     Ok(())
 }
 
-// From one byte on and below another these stand.
+// The bytes from `from` up to, but not including, `to` are these.
 fn has_bytes(rt: &impl Abort, capture: &[u8], from: usize, to: usize, expected: &[u8]) {
     let bytes = capture.get(from..to);
     same_at(rt, &from, &bytes, &Some(expected));
@@ -129,8 +129,7 @@ fn has_bytes(rt: &impl Abort, capture: &[u8], from: usize, to: usize, expected: 
 fn first_bytes(rt: HostRuntime) -> Result<(), Fail> {
     let sink = made(&rt, rt.alloc(), 0, 2, 0)?;
     let rows: [(usize, usize, &[u8]); 7] = [
-        // from byte, to byte, what stands there: the magic, two record heads, the Ethernet frame of
-        // the second record
+        // from byte, to byte, the bytes there: the magic, two record headers, the Ethernet frame of the second record
         (0, 4, b"\x4d\x3c\xb2\xa1"),
         (24, 32, b"\xff\x0f\x5e\x5f\xc0\x87\x8b\x3b"),
         (32, 40, b"\x38\x00\x00\x00\x38\x00\x00\x00"),
@@ -181,7 +180,7 @@ fn number_wraps(rt: HostRuntime) -> Result<(), Fail> {
     Ok(())
 }
 
-// A record of a capture of two frames shows these numbers.
+// A packet record of a capture of two frames has these values.
 fn has_record(
     rt: &impl Abort,
     alloc: Global,
@@ -197,12 +196,12 @@ fn has_record(
 #[test]
 fn flaws(rt: HostRuntime) -> Result<(), Fail> {
     let rows = [
-        // flaw, record, nanoseconds of its stamp, marker, packet number
+        // flaw, record, nanoseconds of its capture timestamp, marker, packet number
         (0, 2, 764_000, false, 1),
         (0, 3, 1_724_000, false, 2),
         (0, 21, 19_004_000, true, 20),
         (0, 41, 39_004_000, true, 40),
-        // 1: packets 1 to 4 of the last frame stand with packet 0
+        // 1: packets 1 to 4 of the last frame have the capture timestamp of packet 0
         (1, 3, 1_724_000, false, 2),
         (1, 22, 20_764_000, false, 21),
         (1, 23, 20_764_000, false, 22),
@@ -211,12 +210,12 @@ fn flaws(rt: HostRuntime) -> Result<(), Fail> {
         // 2: 1,000,000 ns from packet to packet
         (2, 3, 1_764_000, false, 2),
         (2, 41, 39_764_000, true, 40),
-        // 3: packet 10 of the last frame, number 31, is not there
+        // 3: packet 10 of the last frame, number 31, is missing
         (3, 12, 10_364_000, false, 11),
         (3, 31, 29_404_000, false, 30),
         (3, 32, 31_324_000, false, 32),
         (3, 40, 39_004_000, true, 40),
-        // 4: packet 18 of the last frame is its last
+        // 4: packet 18 of the last frame is its last one
         (4, 21, 19_004_000, true, 20),
         (4, 39, 37_084_000, false, 38),
         (4, 40, 38_044_000, true, 39),
@@ -228,7 +227,7 @@ fn flaws(rt: HostRuntime) -> Result<(), Fail> {
     Ok(())
 }
 
-// The first 100 bytes of a capture go into a sink that has room for no more.
+// The first 100 bytes of a capture are written to a sink that has room for no more.
 fn fills(rt: &impl Abort, small: &mut MemorySink, whole: &[u8]) {
     assert!(rt; write_capture(0, 2, 0, small).is_err());
     same(rt, &Some(small.bytes()), &whole.get(..100));

@@ -1,4 +1,4 @@
-//! The calls with memory at hand, and files that are not there.
+//! Inputs and outputs while memory suffices, and files that don't exist.
 
 use super::compare::{same, same_at};
 use std::alloc::{AllocError, Global};
@@ -9,7 +9,7 @@ use timing_outside::{
     SteadyShelf, WritePlan, put_all,
 };
 
-// A plan of pieces of at most 3 bytes, whose second read fails.
+// A plan for reads of at most 3 bytes, the second of which fails.
 fn plan(alloc: Global, fetch_fails: bool) -> Result<ReadPlan, AllocError> {
     Ok(ReadPlan {
         fetch_fails,
@@ -18,7 +18,7 @@ fn plan(alloc: Global, fetch_fails: bool) -> Result<ReadPlan, AllocError> {
     })
 }
 
-// Puts a text with such a plan on a shelf.
+// Puts contents with such a plan on a shelf.
 fn put(
     alloc: Global,
     shelf: &mut MemoryShelf,
@@ -32,7 +32,7 @@ fn put(
     Ok(())
 }
 
-// Reads once, and compares what was read.
+// Reads once, and compares the bytes that were read.
 fn reads<S: Source>(rt: &impl Abort, source: &mut S, expected: Result<&[u8], Failed>) {
     let mut buf = [0u8; 8];
     let got = match source.read(&mut buf) {
@@ -42,7 +42,7 @@ fn reads<S: Source>(rt: &impl Abort, source: &mut S, expected: Result<&[u8], Fai
     same(rt, &got, &expected);
 }
 
-// What is fetched under this name reads so first.
+// The first read of the contents with this name gives these bytes, or fails.
 fn reads_first<S: Shelf>(
     rt: &impl Abort,
     shelf: &mut S,
@@ -58,7 +58,7 @@ fn reads_first<S: Shelf>(
     }
 }
 
-// Something is fetched under this name, or nothing.
+// Fetching this name succeeds, or fails.
 fn fetches<S: Shelf>(rt: &impl Abort, shelf: &mut S, name: &str, expected: bool) {
     match shelf.fetch(name) {
         Ok(source) => {
@@ -142,7 +142,7 @@ fn fourth_write_fails(rt: HostRuntime) -> Result<(), Fail> {
     Ok(())
 }
 
-// A folder opens, and its first read fails.
+// Fetching a directory succeeds, and its first read fails.
 fn has_no_bytes<S: Shelf>(rt: &impl Abort, shelf: &mut S, folder: &str) {
     match shelf.fetch(folder) {
         Ok(mut source) => {
@@ -161,7 +161,8 @@ fn files_of_the_system(rt: HostRuntime) {
     has_no_bytes(&rt, &mut shelf, "/");
 }
 
-// The null device isn't a regular file: it is fetched once. The program itself is one.
+// A file that isn't regular can be fetched only once, like the null device; a regular one again, like the program
+// itself.
 #[test]
 fn fetched_again(rt: HostRuntime) {
     let mut shelf = FileShelf::new(rt);
@@ -184,6 +185,6 @@ fn takes_line<S: Sink>(rt: &impl Abort, sink: &mut S) {
 
 #[test]
 fn standard_streams(rt: HostRuntime) {
-    takes_line(&rt, &mut StdSink::out(&rt, rt.stdout()));
-    takes_line(&rt, &mut StdSink::err(&rt, rt.stderr()));
+    takes_line(&rt, &mut StdSink::new(&rt, rt.stdout()));
+    takes_line(&rt, &mut StdSink::new(&rt, rt.stderr()));
 }

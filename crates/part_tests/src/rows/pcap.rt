@@ -1,4 +1,4 @@
-//! Captures in pieces, reads that fail, and the largest record.
+//! Captures that are read in pieces, reads that fail, and the largest packet record.
 
 use super::compare::{same, same_at};
 use capture_gen::examples::source_of;
@@ -23,7 +23,7 @@ const FRAME: [u8; 56] = [
     0x00, 0x00, // extended sequence number
 ];
 
-// How the numbers of a capture stand in it.
+// The byte order of the numbers of a capture, and the unit of its timestamps.
 #[derive(Clone, Copy)]
 enum Kind {
     LittleMicros,
@@ -49,7 +49,7 @@ impl Kind {
         }
     }
 
-    // A file header: the magic, the version, zone, sigfigs, snaplen and link type.
+    // A capture header: the magic, the version, zone, sigfigs, snaplen and link type.
     fn header(self, alloc: Global, minor: u8, link: u32) -> Result<Vec<u8>, AllocError> {
         let mut out = Vec::from_slice(alloc, &self.magic())?;
         let version = if self.is_little() {
@@ -73,7 +73,7 @@ impl Kind {
         out.extend_from_slice(&bytes)
     }
 
-    // A record's head, the stamp in nanoseconds.
+    // A record header with this capture timestamp in nanoseconds.
     fn head(self, out: &mut Vec<u8>, at: u64, captured: u32) -> Result<(), AllocError> {
         let fraction = match self {
             Kind::LittleMicros | Kind::BigMicros => at % SECOND / 1000,
@@ -86,7 +86,7 @@ impl Kind {
     }
 }
 
-// The stamp of a record of the capture of two frames of 20 packets each behind one head packet.
+// The capture timestamp of a packet record, in a capture of two frames of 20 packets behind one head packet.
 fn stamp(index: u8) -> u64 {
     let first = 1_600_000_000 * SECOND;
     if index == 0 {
@@ -96,14 +96,14 @@ fn stamp(index: u8) -> u64 {
     first + 20_000_000 * (packet / 20) + 764_000 + 960_000 * (packet % 20)
 }
 
-// Its frame: the low byte of the sequence number is the index.
+// The frame of a packet record; the low byte of its sequence number is the index.
 fn frame(index: u8) -> [u8; 56] {
     let mut bytes = FRAME;
     bytes[45] = index;
     bytes
 }
 
-// That capture: 41 records of 72 bytes.
+// The capture of two frames: 41 packet records of 72 bytes.
 fn capture(alloc: Global, kind: Kind) -> Result<Vec<u8>, AllocError> {
     let mut out = kind.header(alloc, 4, 1)?;
     for index in 0..41 {
@@ -113,7 +113,7 @@ fn capture(alloc: Global, kind: Kind) -> Result<Vec<u8>, AllocError> {
     Ok(out)
 }
 
-// A reader of this text, which comes in pieces of so many bytes. The reads of these numbers fail.
+// A reader of these bytes, which a source gives in pieces of this size; the reads with these numbers fail.
 fn open(
     alloc: Global,
     text: &[u8],
@@ -128,7 +128,7 @@ fn open(
     }
 }
 
-// The stamp and the length of the next record, or how the records end.
+// The capture timestamp and the length of the next packet record, or how the records end.
 fn sight(reader: &mut PcapReader<MemorySource>) -> Result<(u64, usize), FileNote> {
     match reader.next() {
         Ok(Step::Frame { at, bytes }) => Ok((at, bytes.len())),
@@ -138,7 +138,7 @@ fn sight(reader: &mut PcapReader<MemorySource>) -> Result<(u64, usize), FileNote
     }
 }
 
-// In whatever pieces this text comes, it has so many records of that capture, and this note.
+// Read in pieces of any size, these bytes have the first `count` records of the capture of two frames, and this note.
 fn has_records(
     rt: &(impl Abort + AllocGlobal),
     text: &[u8],
@@ -158,7 +158,7 @@ fn has_records(
     Ok(())
 }
 
-// The next record has this stamp and these bytes.
+// The next packet record has this capture timestamp and these bytes.
 fn has_frame(rt: &impl Abort, reader: &mut PcapReader<MemorySource>, stamp: u64, frame: &[u8]) {
     match reader.next() {
         Ok(Step::Frame { at, bytes }) => {
@@ -169,14 +169,14 @@ fn has_frame(rt: &impl Abort, reader: &mut PcapReader<MemorySource>, stamp: u64,
     }
 }
 
-// The records end so, and go on ending so.
+// The packet records end in this way, and every further call returns the same.
 fn stays(rt: &impl Abort, reader: &mut PcapReader<MemorySource>, note: FileNote) {
     for _ in 0..2 {
         same(rt, &sight(reader), &Err(note));
     }
 }
 
-// A reader of records of 100 bytes at most hands out the first one alone.
+// A reader with a limit of 100 bytes in a record returns only the first one.
 fn stops_behind_first(rt: &impl Abort, alloc: Global, text: &[u8]) -> Result<(), Fail> {
     for piece in PIECES {
         let mut reader = open(alloc, text, piece, &[], 100)?;
@@ -192,7 +192,7 @@ fn reader_stops(rt: HostRuntime) -> Result<(), Fail> {
     stops_behind_first(&rt, rt.alloc(), &text)
 }
 
-// So many bytes that count up to 250 and begin again.
+// This many bytes, which count up to 250 and begin again.
 fn counted(alloc: Global, count: u32) -> Result<Vec<u8>, AllocError> {
     let mut body = Vec::new(alloc);
     for place in 0..count {
@@ -201,7 +201,7 @@ fn counted(alloc: Global, count: u32) -> Result<Vec<u8>, AllocError> {
     Ok(body)
 }
 
-// A capture of one record of these bytes, 7 seconds after 1970.
+// A capture of one packet record with these bytes, 7 seconds after 1970-01-01 00:00:00.
 fn one_record(alloc: Global, body: &[u8]) -> Result<Vec<u8>, AllocError> {
     let mut text = Kind::LittleNanos.header(alloc, 4, 1)?;
     for number in [7, 0, 262_144, 262_144] {
@@ -211,7 +211,7 @@ fn one_record(alloc: Global, body: &[u8]) -> Result<Vec<u8>, AllocError> {
     Ok(text)
 }
 
-// In whatever pieces this text comes, it has these bytes alone.
+// Read in pieces of any size, the capture has one record with these bytes.
 fn has_one(rt: &impl Abort, alloc: Global, text: &[u8], body: &[u8]) -> Result<(), Fail> {
     for piece in PIECES {
         let mut reader = open(alloc, text, piece, &[], MOST)?;
@@ -228,7 +228,7 @@ fn largest_record(rt: HostRuntime) -> Result<(), Fail> {
     has_one(&rt, rt.alloc(), &text, &body)
 }
 
-// So many bytes of a header with this minor version and link type have this note.
+// The first `count` bytes of a header with this minor version and link type have this note.
 fn has_header(
     rt: &(impl Abort + AllocGlobal),
     (count, minor, link): (usize, u8, u32),
@@ -253,7 +253,7 @@ fn bad_headers(rt: HostRuntime) -> Result<(), Fail> {
     Ok(())
 }
 
-// A record with a head of these numbers has this note.
+// A packet record with a header of these numbers has this note.
 fn has_head(
     rt: &(impl Abort + AllocGlobal),
     numbers: [u32; 4],
@@ -266,7 +266,7 @@ fn has_head(
     has_records(rt, &text, 0, note)
 }
 
-// A billion nanoseconds, and more bytes than a record may have.
+// A fraction of a billion nanoseconds, and more bytes than a packet record may have.
 #[test]
 fn bad_records(rt: HostRuntime) -> Result<(), Fail> {
     let stamp = FileNote::Refused(PcapFault::BadStamp { rec: 1 });
@@ -276,7 +276,7 @@ fn bad_records(rt: HostRuntime) -> Result<(), Fail> {
     has_head(&rt, numbers, length)
 }
 
-// In whatever pieces this text comes, it has the stamps and frames of that capture.
+// Read in pieces of any size, these bytes have the capture timestamps and frames of the capture of two frames.
 fn has_frames(rt: &impl Abort, alloc: Global, text: &[u8]) -> Result<(), Fail> {
     for piece in PIECES {
         let mut reader = open(alloc, text, piece, &[], MOST)?;
@@ -288,7 +288,7 @@ fn has_frames(rt: &impl Abort, alloc: Global, text: &[u8]) -> Result<(), Fail> {
     Ok(())
 }
 
-// That capture with its numbers in this order.
+// The capture of two frames in this byte order and unit.
 fn has_order(rt: &(impl Abort + AllocGlobal), kind: Kind) -> Result<(), Fail> {
     let text = capture(rt.alloc(), kind)?;
     has_records(rt, &text, 41, FileNote::End)?;
@@ -325,7 +325,7 @@ fn compressed_file(rt: HostRuntime) -> Result<(), Fail> {
     has_records(&rt, &text, 0, FileNote::Refused(PcapFault::BadMagic))
 }
 
-// Two records, and then nothing is read, though the source would go on.
+// Two packet records are read, and then none, though the source has more.
 fn stops_at_failure(rt: &impl Abort, reader: &mut PcapReader<MemorySource>) {
     same(rt, &sight(reader), &Ok((stamp(0), 56)));
     same(rt, &sight(reader), &Ok((stamp(1), 56)));

@@ -1,4 +1,4 @@
-//! Captures as pcapng files, in pieces, with reads that fail, and with long blocks.
+//! pcapng files that are read in pieces, with reads that fail, and with long blocks.
 
 use super::compare::{same, same_at};
 use capture_gen::examples::{
@@ -13,20 +13,20 @@ use timing_outside::{MemorySink, Source};
 
 const PIECES: [u32; 4] = [1, 7, 100, 65_536];
 
-// The head of a record with 2^32 - 1 captured bytes.
+// The header of a packet record with 2^32 - 1 captured bytes.
 const BAD: [u8; 16] = [0, 0, 0, 0, 0, 0, 0, 0, 255, 255, 255, 255, 0, 0, 0, 0];
 
-// A record of four bytes: 3 seconds and 5 nanoseconds.
+// A packet record of four bytes, with the timestamp 3 seconds and 5 nanoseconds.
 const RECORD: [u8; 20] = [3, 0, 0, 0, 5, 0, 0, 0, 4, 0, 0, 0, 4, 0, 0, 0, 1, 2, 3, 4];
 
-// The capture of two frames: 24 bytes and 41 records of 72.
+// The capture of two frames as classic pcap: 24 bytes and 41 packet records of 72 bytes.
 fn classic_capture(alloc: Global) -> Result<Vec<u8>, Fail> {
     let mut sink = MemorySink::new(alloc, capture_len(2, 0))?;
     write_capture(0, 2, 0, &mut sink)?;
     Ok(Vec::from_slice(alloc, sink.bytes())?)
 }
 
-// Reads a source to its end, so many bytes at most in one read, and counts the reads that failed.
+// Reads a source to its end, at most `most` bytes in one read, and counts the reads that failed.
 fn read_all<S: Source>(
     alloc: Global,
     source: &mut S,
@@ -46,7 +46,7 @@ fn read_all<S: Source>(
     Ok((text, failed))
 }
 
-// A file that comes in pieces of this size has this classic text, though the reads of these numbers fail.
+// Read in pieces of this size, a file gives this classic capture, though the reads with these numbers fail.
 fn gives_with(
     rt: &impl Abort,
     alloc: Global,
@@ -64,12 +64,12 @@ fn gives_with(
     Ok(())
 }
 
-// Asserts that a file has this classic text, read in pieces of each size, some reads failing.
+// Asserts that a file gives this classic capture, read in pieces of each size, with some reads that fail.
 fn gives(rt: &impl Abort, alloc: Global, file: &[u8], expected: &[u8]) -> Result<(), Fail> {
     gives_in(rt, alloc, &PIECES, file, expected)
 }
 
-// The same in pieces of these sizes.
+// Asserts that a file gives this classic capture, read in pieces of these sizes, with some reads that fail.
 fn gives_in(
     rt: &impl Abort,
     alloc: Global,
@@ -85,13 +85,14 @@ fn gives_in(
     Ok(())
 }
 
-// So many bytes of a text.
+// The first `count` bytes.
 fn front<'a>(rt: &impl Abort, text: &'a [u8], count: usize) -> &'a [u8] {
     assert!(rt; count <= text.len());
     &text[..count]
 }
 
-// The capture as a pcapng file of this interface, in units of so many nanoseconds, has so many bytes and its text.
+// As a pcapng file with this interface, in units of this many nanoseconds, the capture has this length and gives the
+// same classic capture.
 fn gives_as(
     rt: &impl Abort,
     alloc: Global,
@@ -104,7 +105,7 @@ fn gives_as(
     gives(rt, alloc, &file, capture)
 }
 
-// The interface of microseconds has 12 bytes less.
+// The interface with microseconds is 12 bytes shorter.
 #[test]
 fn pcapng_plain(rt: HostRuntime) -> Result<(), Fail> {
     let capture = classic_capture(rt.alloc())?;
@@ -136,7 +137,7 @@ fn pcapng_no_interface(rt: HostRuntime) -> Result<(), Fail> {
     gives(&rt, rt.alloc(), &file, &expected)
 }
 
-// Blocks that are longer than the buffer: one that is passed over, and a packet.
+// Blocks that are longer than the buffer: one that is skipped, and a packet.
 fn long_file(alloc: Global) -> Result<Vec<u8>, AllocError> {
     let mut file = Vec::from_slice(alloc, &SECTION)?;
     file.extend_from_slice(&NANOS)?;
@@ -150,14 +151,14 @@ fn long_file(alloc: Global) -> Result<Vec<u8>, AllocError> {
     Ok(file)
 }
 
-// A classic capture that goes on with this behind its head.
+// A classic capture with these bytes behind its header.
 fn behind_head(alloc: Global, more: &[u8]) -> Result<Vec<u8>, AllocError> {
     let mut text = Vec::from_slice(alloc, &capture_gen::file_head())?;
     text.extend_from_slice(more)?;
     Ok(text)
 }
 
-// Of those blocks nothing is kept but the packet's data.
+// Only the packet's data is kept of the long blocks.
 #[test]
 fn long_blocks(rt: HostRuntime) -> Result<(), Fail> {
     let file = long_file(rt.alloc())?;

@@ -1,4 +1,4 @@
-//! A schedule that is carried along and one that is new at each stamp say the same, and worked rows.
+//! Schedules of reads: one that is advanced and one that is made anew for each packet agree; and values worked by hand.
 
 ghost use Rattle.std.specs.Prelude.{◌≤◌, ◌*◌};
 
@@ -8,7 +8,7 @@ use sender_params::Params;
 use sender_params::worked::video;
 use std::process::Abort;
 
-// 764,000 ns after 1,600,000,000 s: of frame 80,000,000,000 at 50 frames per second.
+// 764,000 ns after 1,600,000,000 s, where frame 80,000,000,000 begins at 50 frames per second.
 const FIRST: u64 = 1_600_000_000_000_764_000;
 
 const FRAME: i128 = 80_000_000_000;
@@ -29,8 +29,8 @@ fn advanced(
     due
 }
 
-// Gapped read 1 is at 1,724,444 4/9 ns of the frame, before packet 1 at 1,764,000 ns; linear read 1
-// is at 1,764,444 4/9 ns, after it.
+// Gapped read 1 is due 1,724,444 4/9 ns after the start of the frame, before packet 1 at 1,764,000 ns; linear read 1 at
+// 1,764,444 4/9 ns, after it.
 #[test]
 fn linear_sender(rt: HostRuntime) {
     let params = Params::of(&video(1080, false, 50, 1), 20);
@@ -46,13 +46,13 @@ fn linear_sender(rt: HostRuntime) {
     }
 }
 
-// Gapped read 0 is 444 4/9 ns after the first packet, and read 1 is 960,000 ns after it.
+// Gapped read 0 is due 444 4/9 ns after the first packet, and read 1 is due 960,000 ns after read 0.
 #[test]
 fn next_reads(rt: HostRuntime) {
     let params = Params::of(&video(1080, false, 50, 1), 20);
     let mut schedule = Schedule::new(&params, true, FRAME);
     let rows = [
-        // nanoseconds after the first packet, the next read's number and nanoseconds
+        // nanoseconds after the first packet; number and time of the next read, in nanoseconds
         (0, 0, 445),
         (444, 0, 445),
         (445, 1, 960_445),
@@ -67,9 +67,9 @@ fn next_reads(rt: HostRuntime) {
     }
 }
 
-// Gapped reads 0 and 1 are 444 4/9 and 960,444 4/9 ns after the first packet, and 20 reads are a group. Read 1 leaves
-// 444 ns to a packet that comes 960,001 ns after the first one, and 5 ns to one that comes 439 ns later: of those a
-// quarter, rounded up, is left out.
+// Gapped reads 0 and 1 are due 444 4/9 and 960,444 4/9 ns after the first packet, and 20 reads are a frame. Read 1
+// leaves 444 ns to a packet that comes 960,001 ns after the first one, and 5 ns to one that comes 439 ns later; a
+// quarter of these, rounded up, isn't used.
 #[test]
 fn spans(rt: HostRuntime) {
     let params = Params::of(&video(1080, false, 50, 1), 20);
@@ -96,7 +96,7 @@ fn spans(rt: HostRuntime) {
     }
 }
 
-// TROFF=700: each packet stands on its gapped read, and so does each a nanosecond later no more.
+// With TROFF=700 each packet comes exactly at its gapped read; one nanosecond later it would be late.
 #[test]
 fn on_its_read(rt: HostRuntime) {
     let mut media = video(1080, false, 50, 1);
@@ -114,8 +114,8 @@ fn on_its_read(rt: HostRuntime) {
     }
 }
 
-// 1080p at 60000/1001 with 4320 packets per frame, from TAI second 1,601,600,000 on, where frame
-// 96,000,000,000 begins; each packet comes 1,000 ns before the floor of its gapped read.
+// 1080p at 60000/1001 with 4320 packets per frame, from TAI second 1,601,600,000 on, where frame 96,000,000,000 begins.
+// Each packet comes 1,000 ns before its gapped read, rounded down.
 #[test]
 fn usual_equipment(rt: HostRuntime) {
     let params = Params::of(&video(1080, false, 60_000, 1001), 4320);
@@ -130,8 +130,8 @@ fn usual_equipment(rt: HostRuntime) {
     }
 }
 
-// What is due after long pauses and bursts is what a new schedule says, for odd rates and for reads
-// that begin before 0.
+// After long pauses and bursts the reads that are due are those of a new schedule, for odd rates and for reads that
+// begin before 0.
 #[test]
 fn carried_as_counted(rt: HostRuntime) {
     let videos = [

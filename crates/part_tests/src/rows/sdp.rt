@@ -1,5 +1,5 @@
-//! Rows that were worked by hand, texts of other programs, and tables by subject: each row of a
-//! table stands in one place of a text that is good but for it.
+//! SDPs that were worked by hand, SDPs of other programs, and tables by subject: each row of a table stands in one
+//! place of an SDP that is otherwise valid.
 
 ghost use Rattle.std.specs.Prelude.{◌≤◌};
 
@@ -11,7 +11,7 @@ use std::process::Abort;
 use timing_base::worked::PLAIN;
 use timing_base::{Kind, Media};
 
-// The plain description: lines 1 to 4, 5, 6, 7, three parts of line 8, and after its end lines 9 and 10.
+// The plain SDP: lines 1 to 4, 5, 6, 7, three parts of line 8, and the lines 9 and 10 behind its end.
 const SESSION: &str = "v=0\no=- 1 1 IN IP4 192.0.2.1\ns=test\nt=0 0\n";
 
 const MEDIA: &str = "m=video 50000 RTP/AVP 96\n";
@@ -32,7 +32,7 @@ const CLOCKS: &str =
 
 const PLAIN_TEXT: [&str; 8] = [SESSION, MEDIA, CONNECTION, MAP, SIZE, RATE, REST, CLOCKS];
 
-// Two video parts of the same packets on two paths, the first with the session's connection.
+// Two media with the same packets on two paths, the first with the connection of the session.
 const PAIR: &str =
     "v=0\ns=x\nc=IN IP4 239.0.0.1/32\na=group:DUP a b\nm=audio 5004 RTP/AVP 97\na=rtpmap:97 L24/48000/2\nm=video 50000 RTP/AVP 96\na=rtpmap:96 raw/90000\na=fmtp:96 width=1280; height=720; exactframerate=60000/1001; TP=2110TPNL;";
 
@@ -63,7 +63,7 @@ fn video(line: u32, address: u32, port: u16, size: (u32, u32), declared: Kind) -
     }
 }
 
-// The first fault of a text, or none where it is accepted. Memory is ample.
+// The first fault of an SDP, or `None` if it is valid. Memory suffices.
 fn fault_of(rt: &impl Abort, alloc: Global, text: &[u8]) -> Option<SdpFault> {
     match read_sdp(alloc, text) {
         Ok(_) => None,
@@ -72,13 +72,13 @@ fn fault_of(rt: &impl Abort, alloc: Global, text: &[u8]) -> Option<SdpFault> {
     }
 }
 
-// The text has this first fault, or is accepted where there is none.
+// The SDP has this first fault, or is valid if `want` is `None`.
 fn assert_fault(rt: &impl Abort, alloc: Global, text: &str, want: Option<(u32, SdpCause)>) {
     let want = want.map(|(line, what)| SdpFault { line, what });
     same_at(rt, &text, &fault_of(rt, alloc, text.as_bytes()), &want);
 }
 
-// Each of these texts has its first fault.
+// Each of these SDPs has its first fault.
 fn assert_faults(rt: &impl Abort, alloc: Global, rows: &[(&str, u32, SdpCause)]) {
     for (text, line, what) in rows {
         assert_fault(rt, alloc, text, Some((*line, *what)));
@@ -94,7 +94,7 @@ fn joined(alloc: Global, parts: &[&str]) -> Result<String, AllocError> {
     Ok(text)
 }
 
-// The text of these parts has this first fault, or is accepted where there is none.
+// The SDP of these parts has this first fault, or is valid if `want` is `None`.
 fn assert_joined(
     rt: &impl Abort,
     alloc: Global,
@@ -106,7 +106,7 @@ fn assert_joined(
     Ok(())
 }
 
-// The text is accepted, and has these media.
+// The SDP is valid, and has these media.
 fn assert_media(rt: &impl Abort, alloc: Global, text: &str, want: &[Media]) {
     match read_sdp(alloc, text.as_bytes()) {
         Ok(session) => same_at(rt, &text, &session.media.as_slice(), &want),
@@ -114,7 +114,7 @@ fn assert_media(rt: &impl Abort, alloc: Global, text: &str, want: &[Media]) {
     }
 }
 
-// The text of these parts is accepted, and has these media.
+// The SDP of these parts is valid, and has these media.
 fn assert_joined_media(
     rt: &impl Abort,
     alloc: Global,
@@ -163,7 +163,7 @@ fn sdp_bad_values(rt: HostRuntime) -> Result<(), AllocError> {
     assert_joined(&rt, rt.alloc(), &troff, Some((8, BadParameter)))
 }
 
-// The plain description, and its lines 5 to 8 once more.
+// The plain SDP, with its lines 5 to 8 a second time.
 #[test]
 fn sdp_same_target(rt: HostRuntime) -> Result<(), AllocError> {
     let parts = [
@@ -181,7 +181,7 @@ fn sdp_dup_pair(rt: HostRuntime) -> Result<(), AllocError> {
     assert_extended(&rt, rt.alloc(), &[PAIR, "MAXUDP=8960;", PAIR_END])
 }
 
-// The text of these parts is refused with this line.
+// The SDP of these parts is refused: `ExtendedUdp`, line 9.
 fn assert_extended(rt: &impl Abort, alloc: Global, parts: &[&str]) -> Result<(), AllocError> {
     let text = joined(alloc, parts)?;
     let Some(fault) = fault_of(rt, alloc, text.as_bytes()) else {
@@ -199,7 +199,7 @@ fn sdp_too_large(rt: HostRuntime) -> Result<(), AllocError> {
     Ok(())
 }
 
-// These blanks are too many by one.
+// These blanks make the SDP one byte too long.
 fn assert_blanks(rt: &impl Abort, alloc: Global, text: &[u8]) {
     let large = SdpFault {
         line: 0,
@@ -214,7 +214,7 @@ fn assert_blanks(rt: &impl Abort, alloc: Global, text: &[u8]) {
     same(rt, &fault_of(rt, alloc, rest), &Some(blank));
 }
 
-// Some raw parts of three lines, from port 5001 on.
+// This many raw media of three lines, from port 5001 on.
 fn parts(alloc: Global, count: u16) -> Result<String, AllocError> {
     let mut text = String::from_str(alloc, "v=0\nc=IN IP4 239.0.0.1\n")?;
     for k in 0..count {
@@ -227,7 +227,7 @@ fn parts(alloc: Global, count: u16) -> Result<String, AllocError> {
     Ok(text)
 }
 
-// The text of so many parts has this first fault, or is accepted where there is none.
+// The SDP of this many media has this first fault, or is valid if `want` is `None`.
 fn assert_parts(
     rt: &impl Abort,
     alloc: Global,
@@ -245,7 +245,7 @@ fn sdp_too_many_media(rt: HostRuntime) -> Result<(), AllocError> {
     assert_parts(&rt, rt.alloc(), 65, Some((195, TooManyMedia)))
 }
 
-// A text that is good but for one place, what is accepted there, and what has the first fault of a line and cause.
+// An SDP that is valid except for one place, texts that are valid there, and texts with a first fault.
 #[derive(Clone, Copy)]
 struct Around<'a> {
     before: &'a str,
@@ -255,7 +255,7 @@ struct Around<'a> {
 }
 
 impl Around<'_> {
-    // With each of these in its place the text has this first fault, or is accepted where there is none.
+    // With each of these texts in its place the SDP has this first fault, or is valid if `want` is `None`.
     fn assert_each(
         &self,
         rt: &impl Abort,
@@ -299,7 +299,7 @@ static SIZES: Around = Around {
                 "width= 2; height=2",
                 "width=+2; height=2",
                 "width; height=2",
-                // A width in a bad form isn't missing.
+                // A malformed width isn't a missing one.
                 "width=x; height=2",
                 "width=2; height=",
                 "width=2; height=2; width",
@@ -365,7 +365,7 @@ static OTHER_PARAMETERS: Around = Around {
         "CMAX=65535",
         "MAXUDP=1",
         "MAXUDP=1460",
-        // Names that aren't known are passed over, also a second time.
+        // Unknown names are ignored, also a second time.
         "width =5; foo; bar=baz=1; foo",
     ],
     bad: &[
@@ -414,7 +414,7 @@ static SEVERAL_CAUSES: Around = Around {
     ],
 };
 
-// Two causes and more on one line: that with the smallest number.
+// Several causes in one line: the one with the smallest number counts.
 #[test]
 fn several_causes(rt: HostRuntime) -> Result<(), AllocError> {
     SEVERAL_CAUSES.holds(&rt, rt.alloc())
@@ -490,16 +490,16 @@ fn video_lines(rt: HostRuntime) -> Result<(), AllocError> {
 }
 
 static ACCEPTED: [&str; 4] = [
-    // The shortest, and line ends.
+    // The shortest SDP, and line ends.
     "v=0\nm=video 1 RTP/AVP 0\nc=IN IP4 1.2.3.4\na=rtpmap:0 raw/90000\na=fmtp:0 width=1;height=1;exactframerate=1",
     "\r\n\nv=0 \t\r\nm=video 65535 RTP/AVP 127 98 x \r\nc=IN IP4 255.255.255.255/255\r\na=rtpmap:127 raw/90000\t\r\na=fmtp:127 width=1;height=1;exactframerate=1\r\n",
-    // A parameter list before its map, in two lines, with leading zeros; the first `c=` of two.
+    // A list of parameters before its map, in two lines, with leading zeros; the first `c=` of two counts.
     "v=0\nc=x\nm=video 1 RTP/AVP 000\na=fmtp:00 width=1\na=rtpmap:0000 raw/90000\na=fmtp:0 height=1;exactframerate=1\nc=IN IP4 1.2.3.4\nc=bad",
-    // Parts that are passed over.
+    // Media that are ignored.
     "v=0\nm=audio x\nc=bad\nm=videos\nm=VIDEO\nm=video 1 RTP/AVP 0\nc=bad\na=rtpmap:0 raw/90000/2\nm=video 2 RTP/AVP 0\nc=IN IP4 1.2.3.4\na=rtpmap:0 raw/90000\na=fmtp:0 width=1;height=1;exactframerate=1",
 ];
 
-// Each text is accepted.
+// Each SDP is valid.
 #[test]
 fn accepted(rt: HostRuntime) {
     for text in &ACCEPTED {
@@ -532,7 +532,7 @@ fn single_lines(rt: HostRuntime) {
     assert_faults(&rt, rt.alloc(), &SINGLE_LINES)
 }
 
-// Parts that are passed over: a map of another format, fields that a tab cuts, and no map.
+// Media that are ignored: a map of another format, fields separated by a tab, and no map.
 static PASSED_OVER: Around = Around {
     before: "v=0\nm=video",
     after: "",
@@ -553,7 +553,7 @@ static RAW: Around = Around {
     after: "",
     good: &[],
     bad: &[
-        // The part's own connection, before the session's.
+        // The media's own connection, before that of the session.
         (
             5,
             BadAddress,
@@ -569,7 +569,7 @@ static RAW: Around = Around {
                 "a=fmtp:0 width=1;height=1",
             ],
         ),
-        // A second time in a second line, once in a bad form.
+        // A parameter repeated in a second line, once malformed.
         (
             6,
             RepeatedParameter,
@@ -581,7 +581,7 @@ static RAW: Around = Around {
     ],
 };
 
-// A part that is passed over, or has a fault of its own; the text's first line is the version.
+// A media that is ignored, and one with a fault of its own; the first line is the version.
 #[test]
 fn raw_parts(rt: HostRuntime) -> Result<(), AllocError> {
     PASSED_OVER.holds(&rt, rt.alloc())?;
@@ -591,7 +591,7 @@ fn raw_parts(rt: HostRuntime) -> Result<(), AllocError> {
 static SECOND_PARTS: Around = Around {
     before: "v=0\nc=IN IP4 1.2.3.4\nm=video 1 RTP/AVP 0\na=rtpmap:0 raw/90000\na=fmtp:0 width=1;height=1;exactframerate=1\nm=video ",
     after: "\na=rtpmap:0 raw/90000\na=fmtp:0 width=1;height=1;exactframerate=1",
-    // One address and two ports, and one port at two addresses.
+    // One address with two ports, and one port at two addresses.
     good: &["2 RTP/AVP 0", "1 RTP/AVP 0\nc=IN IP4 1.2.3.5"],
     // The same address, also in another form.
     bad: &[(
@@ -601,7 +601,7 @@ static SECOND_PARTS: Around = Around {
     )],
 };
 
-// A part, and a second one on line 6.
+// A media, and a second one on line 6.
 #[test]
 fn second_parts(rt: HostRuntime) -> Result<(), AllocError> {
     SECOND_PARTS.holds(&rt, rt.alloc())
@@ -623,7 +623,7 @@ static LEAST_LINES: [(&str, u32, SdpCause); 5] = [
         2,
         BadAddress,
     ),
-    // Before a missing parameter on the same line, and that before the same target.
+    // It counts before a missing parameter on the same line, and that before the same target.
     (
         "v=0\nm=video 1 RTP/AVP 0\na=rtpmap:0 raw/90000",
         2,
@@ -636,7 +636,7 @@ static LEAST_LINES: [(&str, u32, SdpCause); 5] = [
     ),
 ];
 
-// The least line, though a later one has a cause with a smaller number.
+// The first line with a fault counts, though a later one has a cause with a smaller number.
 #[test]
 fn least_lines(rt: HostRuntime) {
     assert_faults(&rt, rt.alloc(), &LEAST_LINES)
@@ -663,7 +663,7 @@ fn interlaced_with_all_parameters(rt: HostRuntime) {
     assert_media(&rt, rt.alloc(), text, &[want]);
 }
 
-// As ffmpeg writes one for raw video: without exactframerate.
+// An SDP of ffmpeg for raw video: without exactframerate.
 #[test]
 fn of_ffmpeg(rt: HostRuntime) {
     let text =
@@ -671,7 +671,7 @@ fn of_ffmpeg(rt: HostRuntime) {
     assert_fault(&rt, rt.alloc(), text, Some((7, MissingParameter)));
 }
 
-// Of a stream that GStreamer sent.
+// An SDP for a stream of GStreamer.
 #[test]
 fn of_gstreamer(rt: HostRuntime) {
     let text =

@@ -1,4 +1,4 @@
-//! Limits and times of worked videos.
+//! Limits and times of senders, with values worked by hand.
 
 ghost use Rattle.std.specs.Prelude.{◌<◌, ◌^◌};
 
@@ -7,7 +7,7 @@ use sender_params::worked::video;
 use sender_params::{Params, sizes_of};
 use timing_base::Kind;
 
-// The first packet of the plain capture: 764,000 ns after 1,600,000,000 s.
+// The capture timestamp of the first packet of the plain capture: 764,000 ns after 1,600,000,000 s.
 const FIRST: u64 = 1_600_000_000_000_764_000;
 
 // C_MAX and VRX_FULL of N, NL and W.
@@ -28,7 +28,7 @@ fn offset_of(params: &Params) -> (u128, u128)
     (sizes.offset, sizes.den)
 }
 
-// T_RS in nanoseconds of the gapped schedule or the linear one, as numerator and denominator.
+// T_RS in nanoseconds with gapped or linear reads, as numerator and denominator.
 fn step_of(params: &Params, gapped: bool) -> (u128, u128)
     ensures num_small { result.0 < 2 ^ 51 }
     ensures den_small { result.1 < 2 ^ 48 }
@@ -55,14 +55,14 @@ fn interlaced_limits(rt: HostRuntime) {
     same(&rt, &limits(&params), &[(10, 16), (10, 16), (20, 1440)]);
 }
 
-// 746,666 2/3 ns.
+// TR_OFFSET is 746,666 2/3 ns.
 #[test]
 fn height_720(rt: HostRuntime) {
     let (num, den) = offset_of(&Params::of(&video(720, false, 50, 1), 20));
     same(&rt, &(num * 3), &(2_240_000 * den));
 }
 
-// 1,664,000 ns, and 1,271,111 1/9 ns.
+// TR_OFFSET is 1,664,000 ns, and 1,271,111 1/9 ns.
 #[test]
 fn interlaced_offsets(rt: HostRuntime) {
     let (num, den) = offset_of(&Params::of(&video(576, true, 25, 1), 20));
@@ -71,9 +71,8 @@ fn interlaced_offsets(rt: HostRuntime) {
     same(&rt, &(num * 9), &(11_440_000 * den));
 }
 
-// 1080p at 50 with 20 packets per frame, and a first packet at 764,000 ns of frame 80,000,000,000:
-// T_RS gapped is 960,000 ns and linear 1,000,000 ns, TR_OFFSET 764,444 4/9 ns and T_DRAIN
-// 909,090 10/11 ns.
+// 1080p at 50 with 20 packets per frame, and a first packet at 764,000 ns of frame 80,000,000,000. T_RS is 960,000 ns
+// with gapped and 1,000,000 ns with linear reads, TR_OFFSET 764,444 4/9 ns and T_DRAIN 909,090 10/11 ns.
 #[test]
 fn plain_narrow(rt: HostRuntime) {
     let params = Params::of(&video(1080, false, 50, 1), 20);
@@ -96,8 +95,8 @@ fn plain_narrow(rt: HostRuntime) {
     same(&rt, &params.ticks(FIRST, FIRST + 3_840_000), &4);
 }
 
-// Gapped read 1 is at 1,724,444 4/9 ns of the frame, before packet 1 at 1,764,000 ns; linear read 1
-// is at 1,764,444 4/9 ns, after it.
+// Gapped read 1 is due 1,724,444 4/9 ns after the start of the frame, before packet 1 at 1,764,000 ns; linear read 1 at
+// 1,764,444 4/9 ns, after it.
 #[test]
 fn linear_sender(rt: HostRuntime) {
     let params = Params::of(&video(1080, false, 50, 1), 20);

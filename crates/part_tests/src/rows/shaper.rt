@@ -1,4 +1,4 @@
-//! Worked rows, and departures counted again from the whole list.
+//! The shaper, with values worked by hand, and departures that are checked against the whole list.
 
 ghost use Rattle.std.specs.Prelude.{◌<◌, ◌≤◌, ◌^◌};
 
@@ -17,7 +17,7 @@ const FIRST: u64 = 1_600_000_000_000_764_000;
 
 const END: u64 = 4_294_967_296_000_000_000;
 
-// 1080p at 50 with 20 packets per frame, declared narrow, as the plain description has it.
+// 1080p at 50 with 20 packets per frame, declared narrow, as in the plain SDP.
 fn plain() -> Params {
     Params::of(&video(1080, false, 50, 1), 20)
 }
@@ -29,7 +29,8 @@ fn wide_bucket() -> Params {
     Params::of(&media, 20)
 }
 
-// Two frames of a gapped sender, where the first packets of the first frame come at once.
+// The arrivals of two frames of a sender with gapped reads; the first `at_once` packets of the first frame come at
+// once.
 fn stamp(packet: u64, at_once: u64) -> u64 {
     let (frame, place) = (packet / 20, packet % 20);
     if packet < at_once {
@@ -55,7 +56,7 @@ fn fed(rt: &impl Abort, params: &Params, shaper: &mut Shaper, at: u64) -> Result
     shaper.feed(params, at)
 }
 
-// The departures of two frames are these delayed ones, and else the arrivals.
+// The departures of two frames: these packets are delayed, all others leave at their arrival.
 fn leaves(rt: &impl Abort, params: &Params, at_once: u64, delayed: &[(u64, u64, Bound)]) {
     let mut shaper = shaper(params, END);
     for packet in 0..40 {
@@ -91,14 +92,14 @@ fn shape_buffer(rt: HostRuntime) {
     leaves(&rt, &wide_bucket(), 12, &delayed);
 }
 
-// Packets in time are left alone.
+// Packets that keep the limits aren't delayed.
 #[test]
 fn plain_narrow(rt: HostRuntime) {
     leaves(&rt, &plain(), 1, &[]);
     leaves(&rt, &plain(), 4, &[]);
 }
 
-// Whether the buffer is not over its limit of type N at packet i, which leaves at `at`.
+// Whether the buffer is within its limit of type N at packet i, which leaves at `at`.
 fn keeps_buffer(rt: &impl Abort, params: &Params, i: u64, at: u64) -> bool {
     assert!(rt; at < 1 << 62);
     assert!(rt; i < 1 << 41);
@@ -106,7 +107,7 @@ fn keeps_buffer(rt: &impl Abort, params: &Params, i: u64, at: u64) -> bool {
     (i + 1).saturating_sub(due.count) <= params.vrx_full(Kind::N)
 }
 
-// Whether no interval that ends with packet i, which leaves at `at`, has a load over the bucket's limit of type N.
+// Whether every interval that ends with packet i, which leaves at `at`, is within the bucket's limit of type N.
 fn keeps_bucket(rt: &impl Abort, params: &Params, departures: &[u64], i: u64, at: u64) -> bool {
     assert!(rt; FIRST <= at && at < 1 << 62);
     assert!(rt; i < 1 << 41);
@@ -124,7 +125,7 @@ fn keeps_bucket(rt: &impl Abort, params: &Params, departures: &[u64], i: u64, at
     keeps
 }
 
-// Whether the limits of type N hold for these departures, counted from all of them.
+// Whether these departures keep the limits of type N, counted from the whole list.
 fn keeps_limits(rt: &impl Abort, params: &Params, departures: &[u64]) -> bool {
     let mut keeps = true;
     for (i, at) in departures.iter().enumerate() {
@@ -134,8 +135,8 @@ fn keeps_limits(rt: &impl Abort, params: &Params, departures: &[u64]) -> bool {
     keeps
 }
 
-// The departures keep the limits, and where the last one is later than its arrival they wouldn't a nanosecond earlier.
-// Answers whether it is later.
+// The departures keep the limits; if the last one is later than its arrival, one nanosecond earlier wouldn't. Returns
+// whether it is later.
 fn is_least_at(rt: &impl Abort, params: &Params, departures: &mut [u64], at: u64) -> bool {
     same_at(rt, &at, &keeps_limits(rt, params, departures), &true);
     assert!(rt; departures.len() > 0);
@@ -149,7 +150,7 @@ fn is_least_at(rt: &impl Abort, params: &Params, departures: &mut [u64], at: u64
     true
 }
 
-// Each departure of two frames is the least one, and so many are later than their arrivals.
+// Each departure of two frames is the least one, and `count` of them are later than their arrivals.
 fn is_least(
     rt: &impl Abort,
     alloc: Global,
@@ -171,7 +172,7 @@ fn is_least(
     Ok(())
 }
 
-// A burst of a whole frame: the bucket alone, and the buffer alone.
+// A burst of a whole frame, held back by the bucket alone, and by the buffer alone.
 #[test]
 fn one_nanosecond_earlier(rt: HostRuntime) -> Result<(), Fail> {
     is_least(&rt, rt.alloc(), &plain(), 5, 1)?;

@@ -1,4 +1,4 @@
-//! Frames and payloads laid out by hand, and the flow of records.
+//! Frames and payloads laid out by hand, and the flow in packet records.
 
 ghost use Rattle.std.specs.Prelude.{◌≡◌, map, IfOk};
 ghost use Rattle.udp_rtp.specs.Flow.{flow};
@@ -10,7 +10,7 @@ use timing_base::worked::PLAIN;
 use timing_base::{FlowPacket, Media, PacketFault, Rtp};
 use udp_rtp::{datagram, packet_of, read_rtp};
 
-// The first packet of a capture, laid out by hand: the frame of a marked RTP packet to 239.0.0.1.
+// The first packet of a capture, laid out by hand: an RTP packet with the marker to 239.0.0.1.
 const FRAME: [u8; 56] = [
     0x01, 0x00, 0x5e, 0x00, 0x00, 0x01, // destination
     0x02, 0x00, 0x00, 0x00, 0x00, 0x01, // source
@@ -28,7 +28,7 @@ const FRAME: [u8; 56] = [
     0x00, 0x01, // extended sequence number
 ];
 
-// A tag of VLAN 5 with priority 3.
+// A VLAN tag with VLAN 5 and priority 3.
 const TAG: [u8; 4] = [0x81, 0x00, 0x60, 0x05];
 
 const READ: Rtp = Rtp {
@@ -39,7 +39,7 @@ const READ: Rtp = Rtp {
     ssrc: 1,
 };
 
-// The frame with another byte in this place.
+// The frame with another byte at this place.
 fn with(place: usize, byte: u8) -> [u8; 56] {
     let mut frame = FRAME;
     if let Some(old) = frame.get_mut(place) {
@@ -48,7 +48,7 @@ fn with(place: usize, byte: u8) -> [u8; 56] {
     frame
 }
 
-// What is read of a frame that goes to the media.
+// The result of reading a frame that goes to the media.
 fn reading_of(frame: &[u8]) -> Option<Result<Rtp, PacketFault>> {
     packet_of(&PLAIN, 1, 0, frame).map(|packet| packet.rtp)
 }
@@ -63,12 +63,12 @@ fn shows_each_part(rt: HostRuntime) {
     same(&rt, &read_rtp(seen.payload), &Ok(READ));
 }
 
-// No datagram is seen in these bytes.
+// No datagram is found in these bytes.
 fn is_ignored(rt: &impl Abort, frame: &[u8]) {
     same_at(rt, &frame, &datagram(frame).is_none(), &true);
 }
 
-// The frame with two tags in front of the type field.
+// The frame with two tags before the type field.
 fn with_two_tags() -> [u8; 64] {
     let mut frame = [0; 64];
     frame[..12].copy_from_slice(&FRAME[..12]);
@@ -81,7 +81,7 @@ fn with_two_tags() -> [u8; 64] {
 #[test]
 fn ignored_frames(rt: HostRuntime) {
     let rows = [
-        // place, and the byte in it
+        // place, and the byte there
         (14, 0x44), // a header of four words
         (14, 0x65), // version 6
         (13, 0x06), // another type
@@ -105,8 +105,8 @@ fn is_short(rt: &impl Abort, frame: &[u8]) {
 
 #[test]
 fn short_packets(rt: HostRuntime) {
-    // A length of 7, 15 sources, and an extension: its head is the two bytes of the extended sequence
-    // number, and is cut.
+    // A length of 7, 15 sources, and an extension: its header is the two bytes of the extended sequence number, and is
+    // cut.
     for (place, byte) in [(39, 7), (42, 0x8f), (42, 0x90)] {
         is_short(&rt, &with(place, byte));
     }
@@ -128,7 +128,7 @@ fn captured_at_40(rt: HostRuntime) {
 
 #[test]
 fn big_payload(rt: HostRuntime) {
-    // 1,200 more bytes of payload, of which eight were captured.
+    // 1,200 more bytes of payload, eight of which were captured.
     let mut frame = [0; 64];
     frame[..56].copy_from_slice(&FRAME);
     frame[16] = 0x04; // total length 1242
@@ -142,7 +142,7 @@ fn big_payload(rt: HostRuntime) {
     same(&rt, &reading_of(&frame), &Some(Ok(READ)));
 }
 
-// A tag in front of the type field; the other orders are those of captures.
+// A tag before the type field; the other byte orders are those of captures.
 #[test]
 fn other_orders(rt: HostRuntime) {
     let mut tagged = [0; 60];
@@ -170,7 +170,7 @@ fn names_each_fault(rt: HostRuntime) {
     }
 }
 
-// The flow of a media in records: number, stamp and frame.
+// The flow of a media in packet records, given by number, capture timestamp and frame.
 #[tactic(auto, using(std::proofs::lemmas::Grind::common_steps, udp_rtp::proofs::Flows::flow_steps))]
 fn packets_of(
     alloc: Global,

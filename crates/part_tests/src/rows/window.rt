@@ -1,4 +1,4 @@
-//! The window's part of worked rows, and windows against offsets that are tried one by one.
+//! The windows of offsets, with values worked by hand, and checked against offsets that are tried one by one.
 
 use super::compare::same;
 use offset_window::{Window, WindowEnd, WindowMeter};
@@ -12,25 +12,25 @@ use timing_base::{Kind, Media};
 
 const KINDS: [Kind; 3] = [Kind::N, Kind::NL, Kind::W];
 
-// TAI second 1,600,000,000, with which a frame at 50 and a field at 25 begin.
+// TAI second 1,600,000,000, at which a frame at 50 and a field at 25 begin.
 const SECOND: u64 = 1_600_000_000_000_000_000;
 
-// When the packets of some groups come, in nanoseconds.
+// The times at which the packets of some frames come, in nanoseconds.
 #[derive(Clone, Copy)]
 struct Sent {
-    // From the begin of a group to its packet 0.
+    // From the start of a frame to its packet 0.
     first: u64,
     groups: u64,
-    // The packets of a group.
+    // The packets in a frame.
     packets: u64,
     // From a packet to the next.
     step: u64,
-    // In this group so many packets come with packet 0.
+    // In the frame `bunched` the first `at_once` packets come with packet 0.
     bunched: u64,
     at_once: u64,
 }
 
-// Two frames from a narrow sender, with 20 packets per frame.
+// Two frames of a narrow sender, with 20 packets per frame.
 const PLAIN: Sent = Sent {
     first: 764_000,
     groups: 2,
@@ -41,7 +41,7 @@ const PLAIN: Sent = Sent {
 };
 
 impl Sent {
-    // When this packet of a group comes.
+    // The time at which this packet of a frame comes.
     fn stamp(&self, group: u64, place: u64) -> u64 {
         let bunched = group == self.bunched && place < self.at_once;
         let steps = if bunched { 0 } else { place };
@@ -71,8 +71,8 @@ fn plain() -> Media {
     video(1080, false, 50, 1)
 }
 
-// The group of the first packet. Asserts what the calls require, since a proof does not follow the
-// stamps of a list.
+// The number of the frame of the first packet. Asserts what the calls require, since a proof does not follow the
+// elements of a list.
 fn anchor(rt: &impl Abort, params: &Params, stamps: &[u64]) -> i128 {
     let first = stamps.first().copied().unwrap_or(0);
     assert!(rt; first < 1 << 62);
@@ -91,7 +91,7 @@ fn window(rt: &impl Abort, params: &Params, kind: Kind, stamps: &[u64]) -> Windo
     meter.finish()
 }
 
-// An end at this offset, bound by this packet.
+// An end at this offset, which this packet binds.
 fn bound(micros: u32, packet: u64) -> WindowEnd {
     WindowEnd::At {
         micros,
@@ -107,7 +107,7 @@ fn free(micros: u32) -> WindowEnd {
     }
 }
 
-// The windows of these packets, at 50 with 20 packets per frame, are these: of N, of NL and of W.
+// These packets, at 50 with 20 packets per frame, have these windows of N, NL and W.
 fn try_windows(
     rt: &impl Abort,
     alloc: Global,
@@ -161,7 +161,7 @@ fn no_window(rt: HostRuntime) {
     same(&rt, &early.upper, &WindowEnd::Absent);
 }
 
-// How a packet is broken.
+// The way in which a packet violates the buffer model.
 #[derive(Clone, Copy)]
 enum Fault {
     Empty,
@@ -169,7 +169,7 @@ enum Fault {
 }
 
 impl Fault {
-    // The offset that serves if any does.
+    // The offset with which no packet does so, if there is one.
     fn mildest(self) -> u32 {
         match self {
             Fault::Empty => 1_000_000,
@@ -177,7 +177,7 @@ impl Fault {
         }
     }
 
-    // The next offset that may break a packet so, if there is one.
+    // The next offset with which a packet may do so, if there is one.
     fn beyond(self, micros: u32) -> Option<u32> {
         match self {
             Fault::Empty => micros.checked_sub(1),
@@ -187,7 +187,7 @@ impl Fault {
     }
 }
 
-// A flow, whose packets are tried with single offsets.
+// A flow, with packets that are tried with single offsets.
 #[derive(Clone, Copy)]
 struct Flow<'a> {
     media: Media,
@@ -206,14 +206,14 @@ impl Flow<'_> {
         Params::of(&media, self.params.n())
     }
 
-    // What is due at `at` by these numbers.
+    // The reads that are due at `at` with these numbers.
     fn due(&self, rt: &impl Abort, with: &Params, at: u64) -> Due {
         assert!(rt; self.n0 >= -480 && self.n0 <= 1 << 42);
         assert!(rt; at < 1 << 62);
         Schedule::new(with, self.kind == Kind::N, self.n0).advance(at)
     }
 
-    // Whether packet i, which came at `at`, is broken by these numbers.
+    // Whether packet i, which came at `at`, violates the buffer model with these numbers.
     fn is_broken(&self, rt: &impl Abort, with: &Params, fault: Fault, i: u64, at: u64) -> bool {
         assert!(rt; i < 1 << 41);
         let due = self.due(rt, with, at);
@@ -223,7 +223,7 @@ impl Flow<'_> {
         }
     }
 
-    // The first packet that is broken with this offset.
+    // The first packet that violates the buffer model with this offset.
     fn first_broken(&self, rt: &impl Abort, fault: Fault, micros: u32) -> Option<u64> {
         let with = self.with(rt, micros);
         let mut i = 0u64;
@@ -236,7 +236,7 @@ impl Flow<'_> {
         None
     }
 
-    // An end serves, and the offset beyond it doesn't, for the sake of the packet that binds.
+    // With the offset of an end no packet violates the buffer model; with the next one the packet that binds does.
     fn check_end(&self, rt: &impl Abort, fault: Fault, end: WindowEnd) {
         match end {
             WindowEnd::Absent => {
@@ -257,7 +257,7 @@ impl Flow<'_> {
     }
 }
 
-// Compares the windows of a flow with its offsets.
+// Compares the windows of a flow with offsets that are tried.
 fn check_windows(rt: &impl Abort, media: &Media, n: u32, stamps: &[u64]) {
     assert!(rt; n >= 1 && n <= 262_144);
     let params = Params::of(media, n);
@@ -275,7 +275,7 @@ fn check_windows(rt: &impl Abort, media: &Media, n: u32, stamps: &[u64]) {
     }
 }
 
-// The plain sender, a linear one, bursts, and packets on their reads and a nanosecond later.
+// The plain sender, a linear one, bursts, packets exactly at their reads, and packets a nanosecond later.
 #[test]
 fn as_tried(rt: HostRuntime) -> Result<(), Fail> {
     let burst = |bunched: u64, at_once: u64| Sent {
@@ -312,7 +312,7 @@ fn as_tried(rt: HostRuntime) -> Result<(), Fail> {
     Ok(())
 }
 
-// Fields of an interlaced picture, with TROFF and without.
+// Fields of an interlaced video, with TROFF and without.
 #[test]
 fn fields_as_tried(rt: HostRuntime) -> Result<(), Fail> {
     let sent = Sent {
@@ -333,9 +333,8 @@ fn fields_as_tried(rt: HostRuntime) -> Result<(), Fail> {
     Ok(())
 }
 
-// 1080p at 60000/1001 with 4,320 packets per frame, two frames from the one that begins with TAI second
-// 1,601,600,000: each packet comes 1,000 ns before the floor of its gapped read, which is 4,500 reads
-// after the one of the frame before.
+// 1080p at 60000/1001 with 4,320 packets per frame, two frames from the one that begins at TAI second 1,601,600,000 on.
+// Each packet comes 1,000 ns before its gapped read, rounded down, which is 4,500 reads after that of the frame before.
 #[test]
 fn usual_equipment(rt: HostRuntime) -> Result<(), Fail> {
     let mut stamps = Vec::new(rt.alloc());

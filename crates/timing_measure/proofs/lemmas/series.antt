@@ -1,11 +1,11 @@
-pub mod Rowing
-pub mod Metering
-pub mod Taking
-pub mod Copying
+pub mod Beginning
 pub mod Capturing
-pub mod Fronting
+pub mod Closing
+pub mod Copying
 pub mod Ending
-pub mod Judging
+pub mod Existing
+pub mod Fronting
+pub mod Pouring
 pub mod Resting
 pub mod Some
 pub mod Unique

@@ -1,6 +1,6 @@
--- What the texts of `page` define: the report of a capture as one page (HTML Standard, with SVG 2 inside). The session
--- description is read first, and then the capture. Stamps are nanoseconds of TAI, with the seconds of the job added;
--- media count from 0, and records from 1. This project's profile.
+-- The output and status of `page`, by the contents of its inputs: the report of a capture as one page (HTML Standard,
+-- with SVG 2 inside). The SDP is read first, then the capture. Capture timestamps are nanoseconds of TAI, with `--tai`
+-- added; media count from 0, and packet records from 1. This project's profile.
 use Rattle.std.specs.Prelude.{◌≡◌, ◌^◌, ◌&&◌, if◌then◌else◌, not, ℕ, Bool, List, Result}
 use Rattle.std.specs.List.{list_any}
 use Rattle.timing_base.specs.Captures.{Record}
@@ -25,27 +25,28 @@ use Rattle.timing_reach.specs.declared.steps.failure.Failure.{Failure}
 use Rattle.udp_rtp.specs.Flow.{flow}
 use Rattle.timing_measure.specs.page.Shown.{IsFlowPage}
 
--- what a page has of the flow of each media of a session, in a capture of these records
+-- the part of a page for the flow of each media of a session, in a capture with these packet records
 abbrev pub ArePages : (tai : ℕ) → List Media → List Record → List FlowPage → Type 0
 ArePages tai media items pages = EachOf (λ number m page. IsFlowPage m number tai (flow items m) page) 0 media pages
 
--- a run of the flow is judged
+-- the flow has a judged run
 abbrev pub is_judged : FlowPage → Bool
 is_judged page = has_run page.flow
 
--- 0 where one is, and the capture wasn't refused for its bytes; else 4
+-- 0 if a run is judged, and the capture wasn't refused as malformed; else 4
 abbrev pub page_status : FileNote → List FlowPage → Status
 page_status note pages =
     if list_any is_judged pages && not (is_refused note) then status.Pass else status.NotAllJudged
 
--- the answer on a capture of this name, which ends so and holds this, with these flows of a session
+-- the answer for a capture with this name that ends in this way, with these flows of a session and this result of a
+-- scan
 abbrev pub paged : (name : List ℕ) → FileNote → (tai : ℕ) → List Media → List FlowPage → Contents → Answer
 paged name note tai media pages c = record {
   text = page_of name note tai media pages (contents_text name note c);
   status = page_status note pages;
 }
 
--- the answer of `page` on these media, over a classic capture of this text
+-- the answer of `page` for these media, over a classic capture with these contents
 pub record HasPage (job : CaptureJob) (media : List Media) (text : List ℕ) (answer : Answer) : Type 0 where
   pub items : List Record
   pub note : FileNote
@@ -54,15 +55,15 @@ pub record HasPage (job : CaptureJob) (media : List Media) (text : List ℕ) (an
   pub are : ArePages job.tai media items pages
   pub answer_is : answer ≡ paged job.capture note job.tai media pages (contents items)
 
--- `page`: the description, then the capture
+-- `page` reads the SDP, then the capture
 abbrev pub FollowsPage : CaptureJob → Inputs → Result Answer Failure → Type 0
 FollowsPage job i outcome = Yields outcome (ReadsSession i outcome job.sdp (λ media.
     ReadsCapture i outcome job.capture (λ text. Gives outcome (HasPage job media text))))
 
--- the count of the name of this input rose: there are two, as of `measure`
+-- the count of faults of the name of this input rose; the inputs are those of `measure`
 abbrev pub PageInputRose : CaptureJob → Inputs → Input → Type 0
 PageInputRose job i input = MeasureInputRose job i input
 
--- the statuses of its answers: 0, 3 or 4
+-- the statuses of the answers of `page`: 0, 3 or 4
 abbrev pub page_ends : Status → Bool
 page_ends ends = measure_ends ends

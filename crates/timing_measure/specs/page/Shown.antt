@@ -1,24 +1,20 @@
--- What a page shows of the judged runs of a flow: of one run the columns of its judged packets and groups, and those
--- around its fails. Packets count from 0; stamps are nanoseconds of TAI, and `tai` is in seconds. Which run is shown is
--- this project's own.
-use Rattle.std.specs.Prelude.{◌≡◌, ◌-◌, ◌≤◌, ◌<◌, ℕ, All, List, [], ◌∷◌, ◌++◌, length, slice_index, Option, Some, None}
+-- The judged run of a flow that a page shows: the columns of its judged packets and of its frames or fields, and those
+-- around its violations. Packets count from 0; capture timestamps are nanoseconds of TAI, and `tai` is in seconds.
+-- Which run is shown is this project's own choice.
+use Rattle.std.specs.Prelude.{◌≡◌, ◌-◌, ℕ, List, [], length, slice_index, Option, Some, None}
 use Rattle.timing_base.specs.Media.{Media}
 use Rattle.timing_base.specs.declared.packet.FlowPacket.{FlowPacket}
+use Rattle.run_meter.specs.Runs.{JudgedPart, stamps_of}
+use Rattle.fail_interval.specs.Parts.{judged_parts}
+use Rattle.flow_measure.specs.Measured.{HasNumbers, IsMeasuredRun}
+use Rattle.flow_measure.specs.Packets.{timestamps_of}
 use Rattle.flow_page.specs.drawing.Drawn.{AreCurves, AreRegions}
+use Rattle.flow_page.specs.drawing.Told.{IsLongest}
 use Rattle.flow_page.specs.declared.shown.FlowPage.{FlowPage}
 use Rattle.flow_page.specs.declared.shown.ShownRun.{ShownRun}
-use Rattle.timing_measure.specs.Measured.{IsMeasuredFlow, IsMeasuredRun, JudgedPart, judged_parts, stamps_of}
-use Rattle.timing_measure.specs.Measures.{HasNumbers, timestamps_of}
+use Rattle.timing_measure.specs.Measured.{IsMeasuredFlow}
 
--- of these judged runs this one has the most judged packets, and is the first that has as many
-pub record IsLongest (parts : List JudgedPart) (part : JudgedPart) : Type 0 where
-  pub before : List JudgedPart
-  pub after : List JudgedPart
-  pub whole : parts ≡ before ++ part ∷ after
-  pub fewer : All (λ (other : JudgedPart). other.values.packets < part.values.packets) before
-  pub no_more : All (λ (other : JudgedPart). other.values.packets ≤ part.values.packets) after
-
--- a judged run of a media, and what is shown of it
+-- a judged run of a media, as it is shown
 pub record IsShownRun (m : Media) (tai : ℕ) (part : JudgedPart) (s : ShownRun) : Type 0 where
   pub run_is : IsMeasuredRun (HasNumbers m tai) part s.run
   pub first_is : s.first_at ≡ slice_index (stamps_of tai part.packets) 0
@@ -27,12 +23,12 @@ pub record IsShownRun (m : Media) (tai : ℕ) (part : JudgedPart) (s : ShownRun)
       s.curves
   pub regions : AreRegions m part.values.n (stamps_of tai part.packets) 0 part.values.kinds s.regions
 
--- of these judged runs of a flow the longest is shown; of none nothing is
+-- the longest of the judged runs of a flow is shown; without a judged run, none
 abbrev pub Shows : Media → (tai : ℕ) → List JudgedPart → Option ShownRun → Type 0
 Shows m tai parts None = parts ≡ []
 Shows m tai parts (Some s) = (part : JudgedPart) × IsLongest parts part × IsShownRun m tai part s
 
--- what a page has of the flow of the media of this number, of these packets
+-- the part of a page for the flow with these packets, of the media with this number
 pub record IsFlowPage (m : Media) (number tai : ℕ) (packets : List FlowPacket) (page : FlowPage) : Type 0 where
-  pub flow_is : IsMeasuredFlow HasNumbers m number tai packets page.flow
+  pub flow_is : IsMeasuredFlow m number tai packets page.flow
   pub shows : Shows m tai (judged_parts m packets tai) page.shown

@@ -1,53 +1,19 @@
--- The rows of the judged runs of a flow, one run after the other. m is the video, `tai` is in seconds. Which runs are
--- listed is this project's own.
-use Rattle.std.specs.Prelude.{◌≡◌, ℕ, Bool, List, [], ◌∷◌, ◌++◌, take}
+-- The rows of a flow: those of its judged runs, one run after the other. If the flow has a fault, those of the whole
+-- frames or fields before the packet with the first fault. `m` is the media, `tai` is in seconds. Which packets are
+-- listed is this project's own choice.
+use Rattle.std.specs.Prelude.{ℕ, Bool, List, Option, Some, None}
+use Rattle.timing_base.specs.Flows.{FirstFault, first_fault}
 use Rattle.timing_base.specs.Media.{Media}
 use Rattle.timing_base.specs.declared.packet.FlowPacket.{FlowPacket}
-use Rattle.flow_measure.specs.rows.Rows.{AreRows, header_text}
-use Rattle.timing_measure.specs.Measured.{JudgedPart, judged_parts}
+use Rattle.fail_interval.specs.Parts.{judged_parts, open_before, parts_before}
+use Rattle.flow_measure.specs.rows.Told.{AreRowsSoFar}
 
--- the rows of judged runs, one after the other
-abbrev pub AreRowsOf : (frames : Bool) → Media → (tai : ℕ) → List JudgedPart → List ℕ → Type 0
-AreRowsOf frames m tai [] text = text ≡ []
-AreRowsOf frames m tai (part ∷ parts) text =
-    (here : List ℕ) × (rest : List ℕ) × (text ≡ here ++ rest)
-    × AreRows frames m tai part.number part.values.n [] part.packets here
-    × AreRowsOf frames m tai parts rest
+-- the rows up to the first fault of the flow, if it has one
+abbrev pub AreRowsUpTo : (frames : Bool) → Media → (tai : ℕ) → List FlowPacket → Option FirstFault → List ℕ → Type 0
+AreRowsUpTo frames m tai packets None rows = AreRowsSoFar frames m tai (judged_parts m packets tai) None rows
+AreRowsUpTo frames m tai packets (Some first) rows =
+    AreRowsSoFar frames m tai (parts_before m packets tai first.index) (open_before packets tai first.index) rows
 
--- the rows at the first so many of these packets, or at all
-pub record BeginRows (frames : Bool) (m : Media) (tai number n : ℕ) (packets : List FlowPacket) (text : List ℕ)
-    : Type 0 where
-  pub past : List FlowPacket
-  pub later : List FlowPacket
-  pub whole : packets ≡ past ++ later
-  pub rows : AreRows frames m tai number n [] past text
-
--- the rows of the next of these runs as far as it came
-abbrev pub BeginNext : (frames : Bool) → Media → (tai : ℕ) → List JudgedPart → List ℕ → Type 0
-BeginNext frames m tai [] here = here ≡ []
-BeginNext frames m tai (part ∷ parts) here = BeginRows frames m tai part.number part.values.n part.packets here
-
--- the rows of the first so many of these runs, and of the next one as far as it came
-pub record BeginRowsOf (frames : Bool) (m : Media) (tai : ℕ) (parts : List JudgedPart) (text : List ℕ) : Type 0 where
-  pub past : List JudgedPart
-  pub later : List JudgedPart
-  pub whole : parts ≡ past ++ later
-  pub over : List ℕ
-  pub here : List ℕ
-  pub text_is : text ≡ over ++ here
-  pub rows : AreRowsOf frames m tai past over
-  pub begun : BeginNext frames m tai later here
-
--- the text of the flow of a media: the header, and the rows of its judged runs
-pub record IsSeries (frames : Bool) (m : Media) (tai : ℕ) (packets : List FlowPacket) (text : List ℕ) : Type 0 where
-  pub rows : List ℕ
-  pub are : AreRowsOf frames m tai (judged_parts m packets tai) rows
-  pub text_is : text ≡ header_text frames ++ rows
-
--- a front of it
-pub record IsSeriesFront (frames : Bool) (m : Media) (tai : ℕ) (packets : List FlowPacket) (text : List ℕ) : Type 0
-  where
-    pub rows : List ℕ
-    pub begin : BeginRowsOf frames m tai (judged_parts m packets tai) rows
-    pub count : ℕ
-    pub text_is : text ≡ take count (header_text frames ++ rows)
+-- the rows of the flow of a media
+abbrev pub AreRowsOfFlow : (frames : Bool) → Media → (tai : ℕ) → List FlowPacket → List ℕ → Type 0
+AreRowsOfFlow frames m tai packets rows = AreRowsUpTo frames m tai packets (first_fault packets m.pt) rows

@@ -1,11 +1,14 @@
-//! What holds of the definitions of judged runs themselves.
+//! Examples of judged runs that are worked by hand. Each function is a theorem: it does nothing, and its clauses are
+//! proved.
 
 ghost use Rattle.std.specs.Prelude.{◌≡◌, ◌∷◌, [], Some, None, true, false, map};
 ghost use Rattle.timing_base.specs.Examples.{plain_media, sent, sent_by, two_groups, unread};
 ghost use Rattle.timing_base.specs.declared.packet.PacketFault.TheVariants.{Short};
-ghost use Rattle.timing_measure.specs.Measured.{JudgedPart, first_source, judged_parts};
+ghost use Rattle.run_meter.specs.Runs.{JudgedPart};
+ghost use Rattle.fail_interval.specs.Parts.{judged_parts};
+ghost use Rattle.timing_measure.specs.Measured.{first_source};
 
-/// A head of one packet, two groups of two, and a tail of one: the four packets between are judged, as run 1.
+/// A head of one packet, two frames of two, and a tail of one: the four packets between are judged, as run 1.
 pub fn one_part_by_hand()
     ensures number { map (λ (part : JudgedPart). part.number) (judged_parts plain_media two_groups 37)
         ≡ 1 ∷ [] }
@@ -16,7 +19,7 @@ pub fn one_part_by_hand()
         ∷ sent 5 50 10 102 true ∷ []) ∷ [] }
 {}
 
-/// A run without a whole frame, and behind a gap a head of one packet and one group: run 2 alone is judged.
+/// A run without a whole frame, and behind a gap a head of one packet and one frame: only run 2 is judged.
 pub fn later_part_by_hand()
     ensures number { map (λ (part : JudgedPart). part.number) (judged_parts plain_media
         (sent 1 10 6 100 true ∷ sent 2 20 7 101 false ∷ sent 3 30 9 101 true ∷ sent 4 40 10 102 false
@@ -32,8 +35,8 @@ pub fn later_part_by_hand()
         ≡ (sent 4 40 10 102 false ∷ sent 5 50 11 102 true ∷ []) ∷ [] }
 {}
 
-/// A flow with a fault has no judged run, and one without packets has none; the source is that of the first packet that
-/// was read.
+/// A flow with a fault has no judged run, and neither has one without packets. The SSRC is that of the first packet
+/// that was read as RTP.
 pub fn no_part_by_hand()
     ensures faulty { judged_parts plain_media (unread 1 10 Short ∷ []) 0 ≡ [] }
     ensures absent { judged_parts plain_media [] 0 ≡ [] }

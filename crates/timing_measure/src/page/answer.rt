@@ -1,4 +1,4 @@
-//! What `page` prints, and its status.
+//! The output of `page`, and its status.
 
 ghost use Rattle.std.specs.Prelude.{◌≡◌, IfOk, true};
 ghost use Rattle.std.specs.List.{list_any};
@@ -6,7 +6,7 @@ ghost use Rattle.flow_page.specs.Media.{AreOfMedia};
 ghost use Rattle.capture_scan.specs.report.Contents.{contents_of};
 ghost use Rattle.timing_measure.specs.page.Pages.{is_judged, page_ends, page_status, paged};
 
-use crate::page::readings::PageReading;
+use crate::page::capture::PageCapture;
 use capture_scan::report::text_of;
 use flow_page::{FlowPage, page_text};
 use std::alloc::{AllocError as OutOfMemory, Global};
@@ -14,21 +14,21 @@ use timing_base::{CaptureJob, FileNote, Session};
 use timing_reach::steps::Answer;
 use timing_report::{Status, any_refused};
 
-/// Whether a run of the flow is judged.
+/// Returns whether the flow has a judged run.
 fn is_judged(page: &FlowPage) -> bool
     ensures { result ≡ is_judged page.now }
 {
     page.flow.runs.len() > 0
 }
 
-/// Whether a run of one of the flows is judged.
+/// Returns whether one of the flows has a judged run.
 fn is_one_judged(pages: &[FlowPage]) -> bool
     ensures { result ≡ list_any is_judged pages.now }
 {
     pages.iter().any(is_judged)
 }
 
-/// The status beside these flows of a capture that ends so.
+/// Returns the status for these flows of a capture that ends in this way.
 fn status_of(note: FileNote, pages: &[FlowPage]) -> Status
     ensures status { result ≡ page_status note pages.now }
     ensures ends { page_ends result ≡ true }
@@ -42,22 +42,22 @@ fn status_of(note: FileNote, pages: &[FlowPage]) -> Status
     Status::Pass
 }
 
-/// The answer on a capture of which both readings came to this.
+/// Returns the answer for a capture that was read. Returns `Err` if memory runs out.
 pub fn paged(
     alloc: Global,
     job: &CaptureJob,
     session: &Session,
-    reading: &PageReading,
+    capture: &PageCapture,
 ) -> Result<Answer, OutOfMemory>
-    requires { AreOfMedia session.now reading.now.reading.flows.items }
+    requires { AreOfMedia session.now capture.now.flows.items }
     ensures { IfOk result (λ answer. answer
-        ≡ paged job.now.capture reading.now.reading.note job.now.tai session.now reading.now.reading.flows.items
-        (contents_of reading.now.found)) }
+        ≡ paged job.now.capture capture.now.note job.now.tai session.now capture.now.flows.items
+        (contents_of capture.now.found)) }
 {
     let name = job.capture.as_str();
-    let pages = reading.reading.flows.as_slice();
-    let note = reading.reading.note;
-    let contents = text_of(alloc, name, note, &reading.found)?;
+    let pages = capture.flows.as_slice();
+    let note = capture.note;
+    let contents = text_of(alloc, name, note, &capture.found)?;
     let text = page_text(
         alloc,
         name,

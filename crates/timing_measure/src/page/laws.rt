@@ -1,4 +1,4 @@
-//! What holds of the definitions themselves. Each function is a theorem: it does nothing, and its clauses are proved.
+//! Laws of the definitions. Each function is a theorem: it does nothing, and its clauses are proved.
 
 ghost use Rattle.std.specs.Prelude.{◌≡◌, ◌<◌, ◌^◌, ◌∷◌, [], ℕ, All, List, length};
 ghost use Rattle.timing_base.specs.Captures.{IsStamp, Record};
@@ -6,29 +6,29 @@ ghost use Rattle.timing_base.specs.Jobs.{CaptureJob, IsCaptureJob};
 ghost use Rattle.timing_base.specs.Media.{IsMedia, Media};
 ghost use Rattle.timing_base.specs.declared.capture.FileNote.{FileNote};
 ghost use Rattle.pcap_reader.specs.Records.{Records};
-ghost use Rattle.timing_measure.specs.Measured.{JudgedPart};
+ghost use Rattle.run_meter.specs.Runs.{JudgedPart};
 ghost use Rattle.timing_reach.specs.steps.Answers.{Answer};
 ghost use Rattle.timing_measure.specs.page.Pages.{HasPage};
-ghost use Rattle.timing_measure.specs.page.Shown.{IsLongest};
+ghost use Rattle.flow_page.specs.drawing.Told.{IsLongest};
 ghost use Rattle.timing_measure.specs.page.Worked.{part_of};
 
-/// The texts of `page` have an answer, where the media are within the limits of a media and the records have stamps
-/// that a capture can hold.
+/// The contents of the inputs of `page` have an answer, if the media are within their limits and the packet records
+/// have timestamps that a capture can have.
 pub fn some_page_answer()
     ensures { (job : CaptureJob) (media : List Media) (text : List ℕ) (items : List Record) (note : FileNote)
         → IsCaptureJob job → All IsMedia media → Records text (2 ^ 40) items note → length items < 2 ^ 41
         → All (λ r. IsStamp r.stamp) items → (answer : Answer) × HasPage job media text answer }
 {}
 
-/// The texts of `page` have no two answers.
+/// The contents of the inputs of `page` don't have two answers.
 pub fn one_page_answer()
     ensures { (job : CaptureJob) (media : List Media) (text : List ℕ) (a b : Answer)
         → HasPage job media text a → HasPage job media text b → a ≡ b }
 {}
 
-/// Of two judged runs that are the longest the first is shown.
+/// If two judged runs are the longest, the first of them is shown.
 pub fn first_of_the_longest()
-    ensures one { (part : JudgedPart) → IsLongest (part_of 1 40 ∷ part_of 2 60 ∷ part_of 4 60 ∷ []) part
-        → part ≡ part_of 2 60 }
-    ensures there { IsLongest (part_of 1 40 ∷ part_of 2 60 ∷ part_of 4 60 ∷ []) (part_of 2 60) }
+    ensures one { (part : JudgedPart) → IsLongest (part_of 1 2 ∷ part_of 2 4 ∷ part_of 4 4 ∷ []) part
+        → part ≡ part_of 2 4 }
+    ensures there { IsLongest (part_of 1 2 ∷ part_of 2 4 ∷ part_of 4 4 ∷ []) (part_of 2 4) }
 {}

@@ -1,8 +1,7 @@
-//! `page`: the report of the capture of a job, as one page.
+//! `page`: prints the report of the capture of a job as one page.
 
 ghost use Rattle.std.specs.Prelude.{◌≡◌, IfErr, IfOk};
 ghost use Rattle.flow_page.specs.Media.{AreOfMedia};
-ghost use Rattle.timing_base.specs.Targets.{HaveOwnTargets};
 ghost use Rattle.timing_outside.specs.Shelves.{StaysAs};
 ghost use Rattle.timing_reach.specs.steps.Answers.{Gives, OnReadFault, Yields, seen_of};
 ghost use Rattle.timing_reach.specs.steps.Ends.{EndsWith, HasStatus};
@@ -12,49 +11,48 @@ ghost use Rattle.capture_scan.specs.report.Contents.{contents_of};
 ghost use Rattle.timing_measure.specs.page.Pages.{FollowsPage, HasPage, PageInputRose, page_ends, paged};
 
 use crate::page::answer::paged;
-use crate::page::readings::{PageReading, read_pages};
+use crate::page::capture::{PageCapture, read_pages};
 use std::alloc::Global;
 use timing_base::{CaptureJob, Session};
 use timing_outside::{Shelf, Sink};
 use timing_reach::steps::{Answer, Failure, conclude, fetch_session};
 use timing_report::Status;
 
-/// The answer on a capture of which both readings came to this.
-fn answer_read(
+/// Returns the answer for a capture that was read.
+fn answer_capture(
     alloc: Global,
     job: &CaptureJob,
     session: &Session,
-    reading: &PageReading,
+    capture: &PageCapture,
 ) -> Result<Answer, Failure>
-    requires { AreOfMedia session.now reading.now.reading.flows.items }
+    requires { AreOfMedia session.now capture.now.flows.items }
     ensures answered { IfOk result (HasStatus page_ends) }
     ensures answers { IfOk result (λ answer. answer
-        ≡ paged job.now.capture reading.now.reading.note job.now.tai session.now reading.now.reading.flows.items
-        (contents_of reading.now.found)) }
+        ≡ paged job.now.capture capture.now.note job.now.tai session.now capture.now.flows.items
+        (contents_of capture.now.found)) }
     ensures cause { IfErr result (λ e. OnReadFault e (λ _. ⊥)) }
 {
-    Ok(paged(alloc, job, session, reading)?)
+    Ok(paged(alloc, job, session, capture)?)
 }
 
-/// The answer over a session.
+/// Returns the answer over a session.
 fn answer_over<H: Shelf>(
     alloc: Global,
     job: &CaptureJob,
     shelf: &mut H,
     session: &Session,
 ) -> Result<Answer, Failure>
-    requires targets { HaveOwnTargets session.now }
     ensures follows { Yields result (ReadsCapture (seen_of H.Shelf shelf.old shelf.new)
         result job.now.capture (λ text. Gives result (HasPage job.now session.now text))) }
     ensures answers { IfOk result (HasStatus page_ends) }
     ensures cause { HasCause result (PageInputRose job.now (seen_of H.Shelf shelf.old shelf.new)) }
     ensures stays { StaysAs H.text H.lacks H.faults shelf.old shelf.new }
 {
-    let reading = read_pages(alloc, job, shelf, session.media.as_slice())?;
-    answer_read(alloc, job, session, &reading)
+    let capture = read_pages(alloc, job, shelf, session.media.as_slice())?;
+    answer_capture(alloc, job, session, &capture)
 }
 
-/// The answer of a job, or why there is none. Where the description is refused, no capture is fetched.
+/// Returns the answer of a job, or the reason why there is none. If the SDP is invalid, no capture is opened.
 fn answer_page<H: Shelf>(alloc: Global, job: &CaptureJob, shelf: &mut H) -> Result<Answer, Failure>
     ensures follows { FollowsPage job.now (seen_of H.Shelf shelf.old shelf.new) result }
     ensures answers { IfOk result (HasStatus page_ends) }
@@ -67,8 +65,8 @@ fn answer_page<H: Shelf>(alloc: Global, job: &CaptureJob, shelf: &mut H) -> Resu
     }
 }
 
-/// Prints on `out` the report of the capture of a job as one page: HTML that needs nothing else. On `err` it tells why
-/// there is none. Where no run is judged the capture is read once, and else twice.
+/// Runs `page`: prints on `out` the report of the capture of a job as one HTML page that needs no other file. Prints on
+/// `err` the reason if there is no output.
 pub fn page_one<H: Shelf, K: Sink>(
     alloc: Global,
     job: &CaptureJob,

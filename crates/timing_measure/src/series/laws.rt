@@ -1,5 +1,4 @@
-//! What holds of the definitions themselves. Each function is a theorem: it does nothing, and its
-//! clauses are proved.
+//! Laws of the definitions. Each function is a theorem: it does nothing, and its clauses are proved.
 
 ghost use Rattle.std.specs.Prelude.{◌≡◌, ◌≤◌, ◌<◌, ◌^◌, ℕ, All, Bool, List, length};
 ghost use Rattle.timing_base.specs.Captures.{IsStamp, Record};
@@ -9,8 +8,8 @@ ghost use Rattle.pcap_reader.specs.Records.{Records};
 ghost use Rattle.timing_reach.specs.steps.Answers.{Answer};
 ghost use Rattle.timing_measure.specs.series.Series.{HasSeries};
 
-/// The texts of `series` have an answer, where the media is within the limits of a media and the
-/// records have stamps that a capture can hold.
+/// The contents of the inputs of `series` have an answer, if the media is within its limits and the packet records have
+/// timestamps that a capture can have.
 pub fn some_series_answer()
     ensures { (frames : Bool) (tai : ℕ) (m : Media) (text : List ℕ) (items : List Record)
         (note : FileNote)
@@ -19,7 +18,7 @@ pub fn some_series_answer()
         × HasSeries frames tai m text answer }
 {}
 
-/// The texts of `series` have no two answers.
+/// The contents of the inputs of `series` don't have two answers.
 pub fn one_series_answer()
     ensures { (frames : Bool) (tai : ℕ) (m : Media) (text : List ℕ) (a b : Answer)
         → HasSeries frames tai m text a → HasSeries frames tai m text b → a ≡ b }

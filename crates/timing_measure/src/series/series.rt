@@ -1,4 +1,4 @@
-//! `series`: the rows of the judged runs of the flow of a job.
+//! `series`: prints the rows of the judged runs of the flow of a job.
 
 ghost use Rattle.std.specs.Prelude.{◌≡◌, ◌≤◌, ◌⊎◌, [], ℕ, List, Some, IfErr, IfOk};
 ghost use Rattle.std.specs.Prelude.{Err};
@@ -13,17 +13,16 @@ ghost use Rattle.timing_reach.specs.Asked.{FlowInputRose, ReadsCapture};
 ghost use Rattle.timing_measure.specs.series.Series.{BeginsIn, BeginsSeries, FollowsSeries, HasSeries};
 ghost use Rattle.timing_measure.specs.series.Streams.{HasRestStatus, OnFailure, Rests, StreamEnds, Streams};
 
-use crate::metering::plan::has_judged_run;
-use crate::series::readings::{find_flow, write_rows};
+use crate::series::flow::SeriesFlow;
+use crate::series::stream::copy_capture;
 use std::alloc::Global;
 use timing_base::{Media, SeriesJob};
 use timing_outside::{Shelf, Sink};
 use timing_reach::judged::find_media;
-use timing_reach::judged::words::not_judged;
 use timing_reach::steps::{Answer, Failure, conclude};
 use timing_report::{Input, Status};
 
-/// The answer on the flow of this media, or what of it isn't written yet.
+/// Returns the rest of the answer for the flow of this media, behind what was written of it.
 fn answer_flow<H: Shelf, K: Sink>(
     alloc: Global,
     job: &SeriesJob,
@@ -44,14 +43,13 @@ fn answer_flow<H: Shelf, K: Sink>(
     ensures later { K.faults out.old ≤ K.faults out.new }
     ensures stays { StaysAs H.text H.lacks H.faults shelf.old shelf.new }
 {
-    let found = find_flow(alloc, job, shelf, media)?;
-    if !has_judged_run(&found.verdict) {
-        return Ok(not_judged(alloc, media, &found.verdict)?);
-    }
-    write_rows(alloc, job, shelf, media, found, out)
+    let mut flow = SeriesFlow::new(alloc, media, job.flow.media, job.flow.tai, job.frames)?;
+    let note = copy_capture(alloc, shelf, job.flow.capture.as_str(), &mut flow, out)?;
+    Ok(flow.finish(alloc, note)?)
 }
 
-/// The answer of a job, or what of it isn't written yet, or why there is none, or not the whole.
+/// Returns the rest of the answer of a job that isn't written yet, or the reason why there is no answer, or not the
+/// whole.
 fn answer_series<H: Shelf, K: Sink>(
     alloc: Global,
     job: &SeriesJob,
@@ -75,9 +73,8 @@ fn answer_series<H: Shelf, K: Sink>(
     }
 }
 
-/// Prints on `out` the rows of the judged runs of the flow of a job, while they are made. On `err`
-/// it tells why there are none, or not all. Where no run is judged the capture is read once, and
-/// else twice.
+/// Runs `series`: prints on `out` the rows of the judged runs of the flow of a job, while they are made. Prints on
+/// `err` the reason if there are no rows, or not all.
 pub fn series_one<H: Shelf, K: Sink>(
     alloc: Global,
     job: &SeriesJob,

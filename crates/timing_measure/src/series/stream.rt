@@ -1,39 +1,44 @@
-//! The records of a capture are read while rows are written.
+//! Reads the packet records of a capture while rows are written.
 
-ghost use Rattle.std.specs.Prelude.{◌≡◌, ◌≢◌, ◌≤◌, ◌+◌, ◌^◌, ℕ, List, None, IfErr, IfOk};
+ghost use Rattle.std.specs.Prelude.{◌≡◌, ◌≢◌, ◌≤◌, ◌+◌, ◌^◌, ℕ, List, None, Some, IfErr, IfOk};
 ghost use Rattle.timing_base.specs.Captures.{Record};
 ghost use Rattle.timing_base.specs.declared.capture.FileNote.TheVariants as file_note;
 ghost use Rattle.timing_base.specs.declared.capture.PcapFault.TheVariants as fault;
 ghost use Rattle.timing_outside.specs.Causes.{Rose};
+ghost use Rattle.timing_outside.specs.Shelves.{StaysAs};
 ghost use Rattle.pcap_reader.specs.Readers.{WillGive, end_note, frame_count, most_of, under};
+ghost use Rattle.pcap_reader.specs.Records.{Records};
+ghost use Rattle.pcapng_reader.specs.Classic.{classic_texts};
 ghost use Rattle.timing_reach.specs.steps.Ran.{Appended, output_of};
-ghost use Rattle.timing_measure.specs.series.Reading.{Copied, CopiesSome, HasRoom, Stopped, StopsAt};
+ghost use Rattle.timing_reach.specs.declared.steps.failure.Failure.TheVariants as failure;
+ghost use Rattle.timing_measure.specs.series.Stands.{HasRoom};
+ghost use Rattle.timing_measure.specs.series.Copies.{Copied, CopiesIn, CopiesSome, Stopped, StopsAt};
+ghost use Rattle.timing_measure.specs.series.Streams.{OnFailure};
 
-use crate::series::meter::SeriesMeter;
-use pcap_reader::{PcapReader, Step, Taker};
-use timing_base::FileNote;
-use timing_outside::{Sink, Source};
-use timing_reach::judged::flows::FlowOf;
-use timing_reach::steps::Failure;
+use crate::series::flow::SeriesFlow;
+use pcap_reader::{MOST, PcapReader, Step};
+use std::alloc::Global;
+use timing_base::{FileNote, PcapFault};
+use timing_outside::{Shelf, Sink, Source};
+use timing_reach::steps::{Failure, fetch_classic, give_back};
+use timing_report::Input;
 
-/// Takes the records of a reader that has answered none, and writes the rows that are made of them
-/// but for the last ones. The records end, or a read of the source fails, which the note says; or
-/// memory runs out, or a write fails.
-pub fn copy_rows<S: Source, K: Sink>(
+/// Takes the packet records of a reader from its start, and writes their rows. Returns how the records end, also if a
+/// read failed. Returns `Err` if memory runs out or a write fails.
+fn copy_rows<S: Source, K: Sink>(
     reader: &mut PcapReader<S>,
-    flow: &mut FlowOf<SeriesMeter>,
+    flow: &mut SeriesFlow,
     out: &mut K,
 ) -> Result<FileNote, Failure>
     requires fresh { end_note reader.old ≡ None }
     requires first { frame_count reader.old ≡ 0 }
     requires most { most_of reader.old ≤ 2 ^ 40 }
-    requires room { HasRoom (2 ^ 36 + 1) flow.old.taker.flow }
+    requires room { HasRoom (2 ^ 36 + 1) flow.old }
     ensures told { IfOk result (λ note. (items : List Record) (end : _)
         → WillGive S.left reader.old items end
         → Copied (output_of K.Sink out.old out.new) flow.old flow.new note items end) }
     ensures some { IfOk result (λ _. CopiesSome (output_of K.Sink out.old out.new)
         flow.old flow.new) }
-    ensures room { IfOk result (λ _. HasRoom 1 flow.new.taker.flow) }
     ensures stopped { IfErr result (λ e. (items : List Record) (end : _)
         → WillGive S.left reader.old items end
         → Stopped (output_of K.Sink out.old out.new) flow.old items) }
@@ -57,6 +62,64 @@ pub fn copy_rows<S: Source, K: Sink>(
             Ok(Step::Cut { at }) => return Ok(FileNote::Cut { at }),
             Err(fault) => return Ok(FileNote::Refused(fault)),
         }
-        flow.taker.pour(out)?;
+        flow.pour(out)?;
+    }
+}
+
+/// Returns how the packet records of a capture end, or `ReadFault` if a read failed.
+fn whole_note(note: FileNote) -> Result<FileNote, Failure>
+    ensures kept { IfOk result (λ kept. (kept ≡ note)
+        × (note ≢ file_note.Refused fault.ReadFault)) }
+    ensures failed { IfErr result (λ e. (e ≡ failure.ReadFault (Input.Capture 0))
+        × (note ≡ file_note.Refused fault.ReadFault)) }
+{
+    match note {
+        FileNote::Refused(PcapFault::ReadFault) => Err(Failure::ReadFault(Input::Capture(0))),
+        FileNote::Refused(_) | FileNote::End | FileNote::Cut { .. } => Ok(note),
+    }
+}
+
+/// Opens a capture, reads it, writes its rows, and gives its source back to the shelf. Returns how the capture ends.
+pub fn copy_capture<H: Shelf, K: Sink>(
+    alloc: Global,
+    shelf: &mut H,
+    name: &str,
+    flow: &mut SeriesFlow,
+    out: &mut K,
+) -> Result<FileNote, Failure>
+    requires room { HasRoom (2 ^ 36 + 1) flow.old }
+    ensures told { IfOk result (λ note. (text : List ℕ)
+        → classic_texts (H.text shelf.old) name.now ≡ Some text
+        → CopiesIn (output_of K.Sink out.old out.new) flow.old flow.new text note) }
+    ensures some { IfOk result (λ _. CopiesSome (output_of K.Sink out.old out.new)
+        flow.old flow.new) }
+    ensures there { IfOk result (λ _. ¬ H.lacks shelf.old name.now) }
+    ensures stopped { IfErr result (λ _. (text : List ℕ) (items : List Record) (end : _)
+        → classic_texts (H.text shelf.old) name.now ≡ Some text → Records text (2 ^ 40) items end
+        → Stopped (output_of K.Sink out.old out.new) flow.old items) }
+    ensures front { IfErr result (λ _. (front : List ℕ)
+        × Appended (output_of K.Sink out.old out.new) front) }
+    ensures cause { IfErr result (λ e. OnFailure (output_of K.Sink out.old out.new) e (λ i.
+        (i ≡ Input.Capture 0) × Rose (H.faults shelf.old name.now) (H.faults shelf.new name.now))) }
+    ensures later { K.faults out.old ≤ K.faults out.new }
+    ensures stays { StaysAs H.text H.lacks H.faults shelf.old shelf.new }
+{
+    let source = match fetch_classic(alloc, shelf, name) {
+        Ok(source) => source,
+        Err(fault) => return Err(Failure::of_input(fault, Input::Capture(0))),
+    };
+    match PcapReader::start(alloc, source, MOST) {
+        Ok(mut reader) => {
+            let copied = copy_rows(&mut reader, flow, out);
+            give_back(shelf, reader.into_source());
+            match copied {
+                Ok(note) => whole_note(note),
+                Err(failure) => Err(failure),
+            }
+        }
+        Err(source) => {
+            give_back(shelf, source);
+            Err(Failure::OutOfMemory)
+        }
     }
 }

@@ -1,4 +1,4 @@
--- The media that a job asks for, in the description that it names.
+-- The media that a job names, in its SDP.
 use Rattle.std.specs.Prelude.{◌≡◌, ℕ, List, Some, None, Result, Ok, Err, slice_get}
 use Rattle.timing_base.specs.Media.{Media}
 use Rattle.sdp_reader.specs.declared.fault.SdpFault.{SdpFault}
@@ -6,7 +6,7 @@ use Rattle.timing_report.specs.declared.status.Status.TheVariants as status
 use Rattle.timing_reach.specs.steps.Answers.{Answer, silent}
 use Rattle.timing_reach.specs.Asked.{no_such_media}
 
--- the description has the media of this number, counted from 0; or the answer says that it hasn't it or is refused
+-- the SDP has the media with this number, counted from 0; or the answer is that it hasn't, or that it is invalid
 abbrev pub IsFound : Result (List Media) SdpFault → (number : ℕ) → Result Media Answer → Type 0
 IsFound (Ok media) number (Ok m) = slice_get media number ≡ Some m
 IsFound (Ok media) number (Err answer) = (slice_get media number ≡ None) × (answer ≡ no_such_media)

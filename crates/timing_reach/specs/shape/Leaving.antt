@@ -1,5 +1,4 @@
--- What a `Leaver` says of the packets that it let go. Packets count from 0; stamps and departures are nanoseconds of
--- TAI.
+-- The packets that a `Leaver` let leave. Packets count from 0; arrivals and departures are nanoseconds of TAI.
 use Rattle.std.specs.Prelude.{◌≡◌, ◌<◌, ◌*◌, ◌^◌, ℕ, List, [], ◌∷◌, ◌++◌, length, slice_index, Result, Ok, Err}
 use Rattle.flow_shaper.specs.Bounds.{BoundAt}
 use Rattle.flow_shaper.specs.Stands.{StandsFor}
@@ -11,7 +10,8 @@ use Rattle.timing_base.specs.declared.media.Kind.{Kind}
 use Rattle.timing_reach.specs.Shapes.{IsLate, end_of}
 use Rattle.timing_reach.specs.declared.shape.leaver.Leaver.{Leaver}
 
--- what is shaped: packets of this media in groups of n, for this sender type; the first came at `origin`
+-- the flow that is shaped: packets of this media, `n` of them in each frame or field, for this sender type; the first
+-- came at `origin`
 pub record Part : Type 0 where
   pub media : Media
   pub n : ℕ
@@ -19,12 +19,12 @@ pub record Part : Type 0 where
   pub tai : ℕ
   pub origin : ℕ
 
--- packets with these stamps can be shaped: they never fall, and the first is the origin
+-- packets with these arrivals can be shaped: the arrivals never decrease, and the first one is the origin
 pub record IsFit (origin : ℕ) (stamps : List ℕ) : Type 0 where
   pub ordered : NeverFall stamps
   pub first : 0 < length stamps → slice_index stamps 0 ≡ origin
 
--- packets with these stamps left so, and no others
+-- the packets with these arrivals left at these departures, and no others
 pub record HasLet (w : Part) (l : Leaver) (stamps departures : List ℕ) : Type 0 where
   pub media : l.params.media ≡ w.media
   pub group : l.params.n ≡ w.n
@@ -34,11 +34,12 @@ pub record HasLet (w : Part) (l : Leaver) (stamps departures : List ℕ) : Type 
   pub added : l.added ≡ w.tai * 10 ^ 9
   pub stands : StandsFor l.params l.shaper stamps departures
 
--- how many packets left
+-- the number of packets that left
 abbrev pub count_left : Leaver → ℕ
 count_left l = l.shaper.seen
 
--- a packet behind these left so, where it can be shaped behind them; or it is the first that is late
+-- a packet that came at `at`, after these: it left at this departure, held back by this limit; or it is the first that
+-- is late
 abbrev pub LeavesSo : Part → (new : Leaver) → (stamps departures : List ℕ) → (at : ℕ) → Result Departure Late → Type 0
 LeavesSo w new stamps departures at (Ok d) =
     BoundAt w.media w.n w.kind (stamps ++ at ∷ []) (departures ++ d.at ∷ []) (length stamps) d.bound
@@ -46,6 +47,7 @@ LeavesSo w new stamps departures at (Ok d) =
 LeavesSo w new stamps departures at (Err late) =
     (late.packet ≡ length stamps) × IsLate w.media w.n w.kind (end_of w.tai) (stamps ++ at ∷ []) (length stamps)
 
+-- the departure of a packet that came at `at`, after these packets, if all of them can be shaped
 abbrev pub Leaves : Part → (new : Leaver) → (stamps departures : List ℕ) → (at : ℕ) → Result Departure Late → Type 0
 Leaves w new stamps departures at result =
     IsFit w.origin (stamps ++ at ∷ []) → LeavesSo w new stamps departures at result

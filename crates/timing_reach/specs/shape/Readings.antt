@@ -1,4 +1,4 @@
--- What the reading of a flow finds that is kept while it is judged.
+-- The reading of a flow that is kept while it is judged.
 use Rattle.std.specs.Prelude.{◌≡◌, ◌≤◌, ◌+◌, ◌^◌, ℕ, Bool, if◌then◌else◌, List, [], ◌∷◌, ◌++◌, All, Option, None, is_some}
 use Rattle.std.specs.List.{cons_option}
 use Rattle.std.proofs.Common.{arith, sym, subst, append-nil, append_assoc, ap, ◌∙◌}
@@ -11,10 +11,8 @@ use Rattle.timing_base.specs.Media.{Media}
 use Rattle.timing_base.specs.declared.capture.FileNote.{FileNote}
 use Rattle.timing_base.specs.declared.key.FlowKey.{FlowKey}
 use Rattle.timing_base.specs.declared.packet.FlowPacket.{FlowPacket}
-use Rattle.timing_base.specs.declared.packet.Rtp.{Rtp}
 use Rattle.fail_interval.specs.Row.{verdict_of}
 use Rattle.fail_interval.specs.Stands.{StandsFor, count_fed}
-use Rattle.fail_interval.specs.Taken.{IsExpected}
 use Rattle.pcap_reader.specs.Records.{Records}
 use Rattle.udp_rtp.specs.Flow.{flow, flow_packet}
 use Rattle.timing_reach.specs.ShapedAgain.{CanBeHeld}
@@ -26,92 +24,92 @@ use Rattle.timing_reach.specs.declared.shape.kept.Kept.{Kept}
 use Rattle.timing_reach.specs.declared.shape.reading.KeptFlow.{KeptFlow}
 use Rattle.timing_reach.specs.declared.shape.reading.Reading.{Reading}
 
--- the flow of this media in these records is kept, for a list or for a capture
+-- the flow of this media in these packet records is kept, for a list or for a capture
 pub record IsKept (m : Media) (list : Bool) (packets : Kept) (items : List Record) : Type 0 where
   pub kept : AreKept list packets (flow_records m items)
   pub held : All CanBeHeld (flow_records m items)
 
--- the flow of this media in these records was passed to the judge, and is kept
+-- the flow of this media in these packet records was passed to the judge, and is kept
 pub record IsReading (m : Media) (key : FlowKey) (tai : ℕ) (list : Bool) (r : Reading) (items : List Record) : Type 0
   where
-    pub judge : StandsFor m key tai r.judge (flow items m)
+    pub judge : StandsFor m key tai r.judge.judge (flow items m)
     pub packets : IsKept m list r.packets items
 
--- how many packets were passed
+-- the number of packets that were passed
 abbrev pub count_read : Reading → ℕ
-count_read r = count_fed r.judge
+count_read r = count_fed r.judge.judge
 
--- there is room for so many packets more
+-- `count` more packets can be passed
 abbrev pub HasRoom : (count : ℕ) → Reading → Type 0
 HasRoom count r = count_read r + count ≤ 2 ^ 41
 
+-- if many more packets can be passed, so can fewer
 pub room_less : (few many : ℕ) (r : Reading) → few ≤ many → HasRoom many r → HasRoom few r
 room_less few many r less room = omega (arith, less, room)
 
--- whatever packets were passed, the judge expects this one then
-abbrev pub Expects : Rtp → Reading → Type 0
-Expects p r = IsExpected r.judge p
-
--- whatever records were read, these were read then, and nothing else
+-- these packet records were read after those before, and nothing else
 abbrev pub ReadsOn : Media → (old new : Reading) → List Record → Type 0
 ReadsOn m old new more =
     (key : FlowKey) (tai : ℕ) (list : Bool) (items : List Record) → IsReading m key tai list old items
     → IsReading m key tai list new (items ++ more)
 
--- the flow of records, and of one more
+-- the packets of the flow, after one more packet record
 pub flow-on : (m : Media) (items : List Record) (r : Record) (o : Option FlowPacket) → flow_packet m r ≡ o
     → flow (items ++ r ∷ []) m ≡ flow items m ++ cons_option o []
 flow-on m items r o is =
     filter_map-append (flow_packet m) items (r ∷ [])
     ∙ ap (λ (x : Option FlowPacket). flow items m ++ cons_option x []) is
 
+-- the packet records of the flow, after one more packet record
 pub records-on : (m : Media) (items : List Record) (r : Record) (o : Option FlowPacket) → flow_packet m r ≡ o
     → flow_records m (items ++ r ∷ []) ≡ flow_records m items ++ (if is_some o then r ∷ [] else [])
 records-on m items r o is =
     filter-append (λ (x : Record). is_some (flow_packet m x)) items (r ∷ [])
     ∙ ap (λ (x : Option FlowPacket). flow_records m items ++ (if is_some x then r ∷ [] else [])) is
 
--- no record, one that is no packet of the flow, and some records and then others
+-- reading no record changes nothing
 pub reads_none : (m : Media) (x : Reading) → ReadsOn m x x []
 reads_none m x key tai list items h = subst (IsReading m key tai list x) (sym (append-nil items)) h
 
+-- a record that is no packet of the flow changes nothing
 pub reads_other : (m : Media) (x : Reading) (r : Record) → flow_packet m r ≡ None → ReadsOn m x x (r ∷ [])
 reads_other m x r is key tai list items h =
     let packets = flow-on m items r None is ∙ append-nil (flow items m) in
     let records = records-on m items r None is ∙ append-nil (flow_records m items) in
     record {
-      judge = subst (StandsFor m key tai x.judge) (sym packets) h.judge;
+      judge = subst (StandsFor m key tai x.judge.judge) (sym packets) h.judge;
       packets = record {
         kept = subst (AreKept list x.packets) (sym records) h.packets.kept;
         held = subst (All CanBeHeld) (sym records) h.packets.held;
       };
     }
 
+-- reading some records and then others is reading both
 pub reads_more : (m : Media) (x y z : Reading) (a b : List Record) → ReadsOn m x y a → ReadsOn m y z b
     → ReadsOn m x z (a ++ b)
 reads_more m x y z a b first second key tai list items h =
     subst (IsReading m key tai list z) (append_assoc items a b)
     (second key tai list (items ++ a) (first key tai list items h))
 
--- what is found where the flow of this media in these records is the whole flow; its judged runs are in order
+-- the result of reading the flow of this media in these packet records; its judged runs are in order
 pub record IsKeptFlow (m : Media) (tai : ℕ) (list : Bool) (items : List Record) (f : KeptFlow) : Type 0 where
   pub verdict_is : f.verdict ≡ verdict_of m (judged (flow items m) m.pt tai)
   pub packets : IsKept m list f.packets items
   pub grouped : IsGroupedVerdict (judged (flow items m) m.pt tai)
 
--- what is found of the flow of a media in a capture of this text
+-- the result of reading the flow of a media in a capture with these contents
 pub record IsKeptIn (m : Media) (tai : ℕ) (list : Bool) (text : List ℕ) (f : KeptFlow) : Type 0 where
   pub items : List Record
   pub note : FileNote
   pub records : Records text (2 ^ 40) items note
   pub flow_is : IsKeptFlow m tai list items f
 
--- some records were read
+-- the result of reading some packet records
 pub record IsRead (m : Media) (tai : ℕ) (list : Bool) (f : KeptFlow) : Type 0 where
   pub items : List Record
   pub flow_is : IsKeptFlow m tai list items f
 
--- the answer of `shape` is that on the flow of this media in some records
+-- the answer of `shape` is that for the flow of this media in some packet records
 pub record AnswersSome (job : ShapeJob) (m : Media) (answer : Answer) : Type 0 where
   pub items : List Record
   pub on_run : OnRun m (HasShape job.list job.flow.tai job.kind m items) (judged (flow items m) m.pt job.flow.tai) answer

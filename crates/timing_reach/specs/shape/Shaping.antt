@@ -1,4 +1,4 @@
--- What is made of a flow that is kept, where it is judged in one run of whole frames. Packets count from 0.
+-- The output for a flow that is kept and is judged in one run of whole frames or fields. Packets count from 0.
 use Rattle.std.specs.Prelude.{◌≡◌, ◌⊎◌, ◌≤◌, ◌-◌, ◌*◌, ◌^◌, ◌+◌, ℕ, Bool, nat_lt, List, [], ◌++◌, drop, length, map}
 use Rattle.std.specs.Prelude.{slice_index, string_bytes, take, Result, Ok, Err}
 use Rattle.std.specs.List.{count_by}
@@ -23,16 +23,16 @@ use Rattle.timing_reach.specs.declared.shape.kept.Kept.{Kept}
 use Rattle.timing_reach.specs.declared.shape.leaver.Leaver.{Leaver}
 use Rattle.timing_reach.specs.declared.shape.walk.Walk.{Walk}
 
--- stamps in nanoseconds of TAI
+-- capture timestamps as nanoseconds of TAI
 abbrev pub in_tai : (tai : ℕ) → List ℕ → List ℕ
 in_tai tai stamps = map (λ at. at + tai * 10 ^ 9) stamps
 
--- the judged packets behind a head of so many, as their stamps
+-- the arrivals of the judged packets, which stand behind `head` others
 abbrev pub judged_stamps : (tai head count : ℕ) → List Record → List ℕ
 judged_stamps tai head count records = in_tai tai (stamps_of (take count (drop head records)))
 
--- a flow with these records is judged in this run, of as many packets in each group, before the judged ones and among
--- them as these values say
+-- a flow with these packet records is judged in this run, with the numbers of `j`: packets in a frame or field, packets
+-- before the judged ones, and judged packets
 pub record IsRunOf (tai : ℕ) (j : Judged) (records : List Record) (run : JudgedRun) : Type 0 where
   pub group : j.n ≡ run.n
   pub head : j.head ≡ run.head
@@ -41,7 +41,7 @@ pub record IsRunOf (tai : ℕ) (j : Judged) (records : List Record) (run : Judge
   pub stamps : judged_stamps tai j.head j.packets records ≡ run.stamps
   pub grouped : IsGrouped run
 
--- a flow is kept that was judged so
+-- a flow is kept that was judged with this result
 pub record CanShape (m : Media) (tai : ℕ) (j : Judged) (packets : Kept) : Type 0 where
   pub list : Bool
   pub items : List Record
@@ -49,13 +49,13 @@ pub record CanShape (m : Media) (tai : ℕ) (j : Judged) (packets : Kept) : Type
   pub run_is : IsRunOf tai j (flow_records m items) run
   pub kept : IsKept m list packets items
 
--- whatever flow is kept that was judged so, the answer is on its run
+-- the answer is that for the run of the flow that is kept, if it was judged with this result
 abbrev pub IsShapeOf : Media → Kind → (tai : ℕ) → Judged → Kept → Answer → Type 0
 IsShapeOf m kind tai j packets answer =
     (list : Bool) (items : List Record) (run : JudgedRun) → IsRunOf tai j (flow_records m items) run
     → IsKept m list packets items → HasShape list tai kind m items run answer
 
--- the list of packets that leave so
+-- the list of packets with these arrivals and departures
 pub record IsListed (w : Part) (stamps departures : List ℕ) (d : Delays) : Type 0 where
   pub bounds : List Bound
   pub are : AreBounds w.media w.n w.kind stamps departures bounds
@@ -63,13 +63,13 @@ pub record IsListed (w : Part) (stamps departures : List ℕ) (d : Delays) : Typ
   pub delayed : d.delayed ≡ count_by (nat_lt 0) (delays stamps departures)
   pub most : d.greatest ≡ greatest (delays stamps departures)
 
--- the first i packets with these stamps left, and are listed
+-- the first `i` packets with these arrivals left, and are listed
 pub record HasListed (w : Part) (l : Leaver) (d : Delays) (stamps : List ℕ) (i : ℕ) : Type 0 where
   pub departures : List ℕ
   pub left : HasLet w l (take i stamps) departures
   pub listed : IsListed w (take i stamps) departures d
 
--- the answer with the list of packets with these stamps, or that on the first that is late
+-- the answer is the list of packets with these arrivals
 pub record ListsAll (w : Part) (stamps : List ℕ) (answer : Answer) : Type 0 where
   pub departures : List ℕ
   pub leave : LeaveInTime w.media w.n w.kind (end_of w.tai) stamps departures
@@ -77,19 +77,21 @@ pub record ListsAll (w : Part) (stamps : List ℕ) (answer : Answer) : Type 0 wh
   pub list : IsList w.media w.n w.kind stamps departures text
   pub answer_is : answer ≡ record { text = text; status = status.Pass }
 
+-- the answer is that a packet with one of these arrivals is late
 pub record TellsLate (w : Part) (stamps : List ℕ) (answer : Answer) : Type 0 where
   pub packet : ℕ
   pub late : IsLate w.media w.n w.kind (end_of w.tai) stamps packet
   pub answer_is : answer ≡ not_shaped packet
 
+-- the answer is the list of these packets, or that one of them is late
 abbrev pub ListsSo : Part → (stamps : List ℕ) → Answer → Type 0
 ListsSo w stamps answer = ListsAll w stamps answer ⊎ TellsLate w stamps answer
 
--- when the last of these packets left, as their capture has it; 0 where there is none
+-- the departure of the last packet, as a timestamp of its capture; 0 without a packet
 abbrev pub last_left : (tai : ℕ) → (departures : List ℕ) → ℕ
 last_left tai departures = slice_index departures (length departures - 1) - tai * 10 ^ 9
 
--- behind the packets of a head the first i packets with these records left, and have the stamps with which they did
+-- behind the packets of the head, the first `i` of these packet records have their departures as timestamps
 pub record HasLeft (w : Part) (l : Leaver) (walk : Walk) (left : ℕ) (head records : List Record) (stamps : List ℕ)
     (i : ℕ) : Type 0 where
   pub departures : List ℕ
@@ -97,7 +99,7 @@ pub record HasLeft (w : Part) (l : Leaver) (walk : Walk) (left : ℕ) (head reco
   pub last : left ≡ last_left w.tai departures
   pub before : IsBefore walk (shaped_capture w.tai (length head) departures (head ++ take i records)) (drop i records)
 
--- these packets left so behind a head, or one of them is late
+-- these packets left, behind the head; or one of them is late
 abbrev pub DepartsSo : Part → (new : Walk) → (head records : List Record) → (stamps : List ℕ) → (count : ℕ)
     → Result ℕ Late → Type 0
 DepartsSo w new head records stamps count (Ok left) = (departures : List ℕ)
@@ -105,7 +107,7 @@ DepartsSo w new head records stamps count (Ok left) = (departures : List ℕ)
     × IsBefore new (shaped_capture w.tai (length head) departures (head ++ take count records)) (drop count records)
 DepartsSo w new head records stamps count (Err late) = IsLate w.media w.n w.kind (end_of w.tai) stamps late.packet
 
--- whatever records the walk stood before, behind whatever head: so many of them left
+-- the next `count` packets of the walk left, behind whatever head; or one of them is late
 abbrev pub Departs : (count : ℕ) → Leaver → (old new : Walk) → Result ℕ Late → Type 0
 Departs count leaver old new result =
     (w : Part) (head records : List Record) (stamps : List ℕ) → HasLet w leaver [] []

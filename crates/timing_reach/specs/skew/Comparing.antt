@@ -1,4 +1,4 @@
--- How the captures of two flows are read, one after the other.
+-- The captures of two flows, which are read one after the other.
 use Rattle.std.specs.Prelude.{◌≡◌, ◌+◌, ◌==◌, ◌^◌, ℕ, List, [], ◌∷◌, ◌++◌, length}
 use Rattle.timing_base.specs.Captures.{Record}
 use Rattle.timing_base.specs.Media.{Media}
@@ -12,7 +12,7 @@ use Rattle.timing_reach.specs.Skewed.{first_of, last_of}
 use Rattle.timing_reach.specs.declared.skew.compare.Compared.{Compared}
 use Rattle.timing_reach.specs.declared.skew.compare.Comparing.{Comparing}
 
--- one capture more was read, of so many: its note stands at the end, and what it has of the two flows was taken
+-- one more of `count` captures was read: its note was appended, and its packets of the two flows were taken
 pub record ComparesNext (text : List ℕ) (count : ℕ) (old new : Comparing) : Type 0 where
   pub items : List Record
   pub note : FileNote
@@ -24,8 +24,8 @@ pub record ComparesNext (text : List ℕ) (count : ℕ) (old new : Comparing) : 
       (taken_of (length old.notes.items == 0) old.pairing.first.media items)
       (taken_of (length old.notes.items + 1 == count) old.pairing.second.media items)
 
--- captures of these texts were read, of so many: the first flow is of the first of them, and the second of the last,
--- where that was read
+-- captures with these contents were read, of `count` in all: the first flow from the first of them, and the second flow
+-- from the last, if that was read
 pub record AreCompared (texts : List (List ℕ)) (a b : Media) (count : ℕ) (c : Comparing) : Type 0 where
   pub files : List (List Record)
   pub records : AreRecords texts files c.notes.items
@@ -33,7 +33,7 @@ pub record AreCompared (texts : List (List ℕ)) (a b : Media) (count : ℕ) (c 
   pub second : c.pairing.second.media ≡ b
   pub stands : StandsFor c.pairing.skew (flow (first_of files) a) (taken_of (length files == count) b (last_of files))
 
--- what is found of two media in all captures of these texts
+-- the comparison of two media in all captures with these contents
 pub record IsComparedIn (texts : List (List ℕ)) (a b : Media) (c : Compared) : Type 0 where
   pub files : List (List Record)
   pub records : AreRecords texts files c.notes.items

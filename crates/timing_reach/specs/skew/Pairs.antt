@@ -1,4 +1,4 @@
--- Which records of a capture were taken for two flows that are compared.
+-- The packet records of a capture that were taken for two flows that are compared.
 use Rattle.std.specs.Prelude.{◌≡◌, ◌≤◌, ◌+◌, ◌^◌, ◌||◌, ℕ, Bool, true, false, max, not, List, [], ◌++◌}
 use Rattle.std.proofs.Common.{arith, refl, sym, subst, append-nil, append_assoc, ap, ◌∙◌}
 use Rattle.std.proofs.lemmas.List.Elements.{filter_map-append}
@@ -13,30 +13,32 @@ use Rattle.timing_reach.specs.skew.Paired.{IsSameFlow, packets_in}
 use Rattle.timing_reach.specs.declared.skew.paired.PairedFlow.{PairedFlow}
 use Rattle.timing_reach.specs.declared.skew.pairing.Pairing.{Pairing}
 
--- these records and no others were taken
+-- these packet records were taken, and no others
 pub record PairsOn (old new : Pairing) (more : List Record) : Type 0 where
   pub first : IsSameFlow old.first new.first
   pub second : IsSameFlow old.second new.second
   pub adds : Adds old.skew new.skew (packets_in old.first more) (packets_in old.second more)
 
--- whether no record of this capture is a packet of both flows: they aren't both in it, or go to different targets
+-- whether no record of this capture can be a packet of both flows: only one of them is in it, or they go to different
+-- targets
 abbrev pub are_apart : Pairing → Bool
 are_apart p =
     not p.first.is_here
     || (not p.second.is_here || not (is_same_target (target_of p.first.media) (target_of p.second.media)))
 
--- the most packets that one flow has
+-- the number of packets of the flow that has more
 abbrev pub pair_given : Pairing → ℕ
 pair_given p = max (count_first p.skew) (count_second p.skew)
 
--- there is room for so many records more
+-- `count` more packet records can be taken
 abbrev pub HasRoom : (number count : ℕ) → Pairing → Type 0
 HasRoom number count p = pair_given p + count ≤ 2 ^ 41
 
+-- if many more records can be taken, so can fewer
 pub room_less : (number few many : ℕ) (p : Pairing) → few ≤ many → HasRoom number many p → HasRoom number few p
 room_less number few many p less room = omega (arith, less, room)
 
--- no record, and some records and then others
+-- lemmas for taking no record, and some records and then others
 pub taken-none : (b : Bool) (m : Media) → taken_of b m [] ≡ []
 taken-none true m = refl
 taken-none false m = refl
@@ -51,6 +53,7 @@ added-none b m f = sym (append-nil f) ∙ ap (λ l. f ++ l) (sym (taken-none b m
 same-none : (x : PairedFlow) → IsSameFlow x x
 same-none x = record { media = refl; is_here = refl }
 
+-- taking no record changes nothing
 pub pairs_none : (x : Pairing) → PairsOn x x []
 pairs_none x = record {
   first = same-none x.first;
@@ -71,6 +74,7 @@ added-more x y f a b same =
     ∙ append_assoc f (packets_in x a) (packets_in x b)
     ∙ ap (λ l. f ++ l) (taken-more x.is_here x.media a b)
 
+-- taking some records and then others is taking both
 pub pairs_more : (x y z : Pairing) (a b : List Record) → PairsOn x y a → PairsOn y z b → PairsOn x z (a ++ b)
 pairs_more x y z a b h k = record {
   first = same-more x.first y.first z.first h.first k.first;

@@ -1,4 +1,4 @@
--- What the steps that fetch say to each other.
+-- The conditions between the steps that open inputs.
 use Rattle.std.specs.Prelude.{◌≡◌, ◌<◌, ℕ, ⊤, List, [], ◌∷◌, ◌++◌, length, All, Option, Result, IfOk, IfErr}
 use Rattle.timing_outside.specs.Causes.{Rose}
 use Rattle.timing_outside.specs.declared.shelf.OpenFault.{OpenFault}
@@ -9,7 +9,7 @@ use Rattle.timing_reach.specs.steps.Answers.{AreTold, CaptureRose, OnReadFault}
 use Rattle.timing_reach.specs.declared.steps.failure.Failure.{Failure}
 use Rattle.timing_reach.specs.declared.steps.failure.Failure.TheVariants as failure
 
--- the sources are those of these names, each whole and without a fault
+-- the sources are those of these names, each at its start and without a failed read
 abbrev pub AreFetched : {S : Type 0} → (name : S → List ℕ) → (left : S → Option (List ℕ)) → (faults : S → ℕ)
     → (texts : List ℕ → Option (List ℕ)) → List (List ℕ) → List S → Type 0
 AreFetched name left faults texts [] [] = ⊤
@@ -18,20 +18,21 @@ AreFetched name left faults texts (n ∷ ns) [] = ⊥
 AreFetched name left faults texts (n ∷ ns) (s ∷ ss) =
     (name s ≡ n) × (left s ≡ texts n) × (faults s ≡ 0) × AreFetched name left faults texts ns ss
 
--- why there is no answer, where this input couldn't be opened or read
+-- the failure if this input couldn't be opened or read
 abbrev pub unread : OpenFault → Input → Failure
 unread why.Failed i = failure.ReadFault i
 unread why.OutOfMemory i = failure.OutOfMemory
 
--- of these sources those ahead are still to go back; where a read of another had failed, the count of its name rose
+-- of all sources, those in `ahead` haven't gone back to the shelf yet; for every other one with a failed read the count
+-- of faults of its name rose
 pub record Returning {S : Type 0} (name : S → List ℕ) (faults : S → ℕ) (before now : List ℕ → ℕ) (all ahead : List S) :
     Type 0 where
   pub done : List S
   pub whole : all ≡ done ++ ahead
   pub raised : All (λ s. 0 < faults s → Rose (before (name s)) (now (name s))) done
 
--- of the captures of these names so many were read, and this holds of their texts; the sources of the others are ahead.
--- Or one couldn't be read
+-- the first `number` of these captures were read, and `Found` holds of their contents; the sources of the others are in
+-- `rest`. Or one couldn't be read
 pub record Reading {S : Type 0} (name : S → List ℕ) (left : S → Option (List ℕ)) (faults : S → ℕ)
     (texts : List ℕ → Option (List ℕ)) (before now : List ℕ → ℕ) (names : List (List ℕ))
     (rest : List S) (outcome : Result (Unit {0}) Failure) (number : ℕ) (Found : List (List ℕ) → Type 0) : Type 0 where

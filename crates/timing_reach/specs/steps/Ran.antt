@@ -1,4 +1,4 @@
--- How a run ends: what it leaves on its sinks, and its status.
+-- The end of a run: the output on its sinks, and its status.
 use Rattle.std.specs.Prelude.{◌≡◌, ◌≤◌, ◌⊎◌, ℕ, ⊤, List, Option, Result, Ok, Err}
 use Rattle.std.specs.Io.KnownBytes.{Appends, Keeps}
 use Rattle.timing_outside.specs.Causes.{Rose}
@@ -12,57 +12,58 @@ use Rattle.timing_reach.specs.steps.Answers.{Answer, OnReadFault}
 use Rattle.timing_reach.specs.declared.steps.failure.Failure.{Failure}
 use Rattle.timing_reach.specs.declared.steps.failure.Failure.TheVariants as failure
 
--- a sink before and after: the bytes written on it, where told, and the count of its faults
+-- a sink before and after: the bytes written on it, if they are known, and the count of its faults
 pub record Output : Type 0 where
   pub old : Option (List ℕ)
   pub new : Option (List ℕ)
   pub before : ℕ
   pub now : ℕ
 
--- of a sink before and after a run, by what it tells of its bytes and its faults
+-- a sink before and after a run
 abbrev pub output_of : {K : Type 0} → sink.Ghosts K → (old new : K) → Output
 output_of tells old new =
     record { old = tells.written old; new = tells.written new; before = tells.faults old; now = tells.faults new }
 
--- the status of a run that has no answer
+-- the status of a run without an answer
 abbrev pub status_of : Failure → Status
 status_of (failure.ReadFault input) = status.ReadFault input
 status_of failure.WriteFault = status.WriteFault
 status_of failure.OutOfMemory = status.OutOfMemory
 
--- the whole text was appended; or a write failed, and a front of it was that isn't the whole
+-- the whole text was appended
 abbrev pub Appended : Output → List ℕ → Type 0
 Appended o text = Appends o.old o.new text
 
+-- a write failed, and a prefix of the text was appended that is not the whole
 abbrev pub Broke : Output → List ℕ → Type 0
 Broke o text = Rose o.before o.now × AppendsFront o.old o.new text
 
--- an answer was printed, or a write of it failed; where there is none, nothing was printed
+-- the answer was printed, or a write of it failed; without an answer nothing was printed
 abbrev pub Leaves : Output → Result Answer Failure → Status → Type 0
 Leaves o (Ok answer) ends =
     ((ends ≡ answer.status) × Appended o answer.text) ⊎ ((ends ≡ status.WriteFault) × Broke o answer.text)
 Leaves o (Err failure) ends = (ends ≡ status_of failure) × Keeps o.old o.new
 
--- the line of the status stands on standard error, or a front of it, where a write failed
+-- standard error has the line of the status, or a prefix of it if a write failed
 abbrev pub TellsLine : Output → Status → Type 0
 TellsLine e ends = Appended e (error_line ends) ⊎ Broke e (error_line ends)
 
--- the status of a defined answer: none that a failure has
+-- the status is that of an answer, and not of a failure
 abbrev pub IsAnswered : Status → Type 0
 IsAnswered (status.ReadFault input) = ⊥
 IsAnswered status.WriteFault = ⊥
 IsAnswered status.OutOfMemory = ⊥
 IsAnswered ends = ⊤
 
--- an input that couldn't be read is one of which this holds, and an answer has a status of its own
+-- if the outcome is a read fault, `InputRose` holds of that input; if it is an answer, its status is not that of a
+-- failure
 abbrev pub HasCause : Result Answer Failure → (Input → Type 0) → Type 0
 HasCause (Ok answer) InputRose = IsAnswered answer.status
 HasCause (Err failure) InputRose = OnReadFault failure InputRose
 
--- a run: an answer or why there is none, what follows for it, its cause, and how it ends. `Follows` says which answers
--- the
--- request and its texts define, in the order in which its inputs are read, and `InputRose` of which inputs the count
--- rose.
+-- a run: its outcome, the cause of that, its output and its status. `Follows` is which answers the request and the
+-- contents of its inputs define, in the order in which the inputs are read. `InputRose` is for which inputs the count
+-- of faults rose.
 pub record Ran (Follows : Result Answer Failure → Type 0) (InputRose : Input → Type 0) (o e : Output) (ends : Status) :
     Type 0 where
   pub outcome : Result Answer Failure

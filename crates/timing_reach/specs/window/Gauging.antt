@@ -1,4 +1,4 @@
--- What a gauge measures of a flow, as far as the flow has come. Packets count from 0; stamps are nanoseconds of TAI.
+-- The measurements of a gauge, up to a packet of the flow. Packets count from 0; times are nanoseconds of TAI.
 use Rattle.std.specs.Prelude.{◌≡◌, ◌≤◌, ◌<◌, ◌*◌, ◌^◌, ℕ, ℤ, ⊤, Bool, true, false, List, [], ◌∷◌, ◌++◌, length}
 use Rattle.std.specs.Prelude.{slice_index, Option, Some, None}
 use Rattle.fail_interval.specs.SoFar.{Groups as GroupsSoFar, SoFar, in_first, in_groups, in_head, so_far_at}
@@ -17,18 +17,19 @@ use Rattle.timing_reach.specs.declared.window.gauge.Part.TheVariants.{First, Gro
 use Rattle.timing_reach.specs.declared.window.meters.WindowMeters.{WindowMeters}
 use Rattle.timing_reach.specs.declared.window.windows.Windows.{Windows}
 
--- the meters were fed packets with these stamps and no others, of a flow whose first packet is of group `anchor`
+-- the meters were given packets with these arrivals and no others; `anchor` is the number of the frame or field of the
+-- first one
 pub record AreFed (params : Params) (anchor : ℤ) (meters : WindowMeters) (stamps : List ℕ) : Type 0 where
   pub narrow : StandsFor params N anchor meters.narrow stamps
   pub narrow_linear : StandsFor params NL anchor meters.narrow_linear stamps
   pub wide : StandsFor params W anchor meters.wide stamps
 
--- how many packets were fed
+-- the number of packets that were given
 abbrev pub count_seen : WindowMeters → ℕ
 count_seen meters = meters.narrow.seen
 
--- the flow has come to these whole groups: all packets behind the first marker were fed, and at the last marker those
--- of the whole groups
+-- the whole frames or fields of the flow so far were measured: `meters` has all packets behind the first marker, and
+-- `at_marker` those up to the last marker
 pub record IsMetered (m : Media) (g : GroupGauge) (so_far : GroupsSoFar) : Type 0 where
   pub media : g.params.media ≡ m
   pub group : g.params.n ≡ so_far.n
@@ -37,12 +38,13 @@ pub record IsMetered (m : Media) (g : GroupGauge) (so_far : GroupsSoFar) : Type 
   pub fed : AreFed g.params (anchor_of m (slice_index so_far.stamps 0)) g.meters so_far.stamps
   pub kept : AreFed g.params (anchor_of m (slice_index so_far.stamps 0)) g.at_marker so_far.whole
 
--- whether a first group took the packet that came at this instant: it did, or has as many as a group may have
+-- whether the first frame or field took the packet that came at this instant; it doesn't if it has 262,144 packets
+-- already
 abbrev pub HasPushed : (at : ℕ) → (old new : List ℕ) → Bool → Type 0
 HasPushed at old new true = new ≡ old ++ at ∷ []
 HasPushed at old new false = 262144 ≤ length old
 
--- the flow has come to this, or its first group has more packets than a group may have
+-- the gauge has the state of the flow so far; or the first frame or field has more than 262,144 packets
 abbrev pub HasCome : Media → Part → SoFar → Type 0
 HasCome m Head (in_head head) = ⊤
 HasCome m (First group) (in_first head stamps) = group.stamps.items ≡ stamps
@@ -51,14 +53,14 @@ HasCome m TooLarge (in_first head stamps) = 262144 < length stamps
 HasCome m TooLarge (in_groups so_far) = 262144 < so_far.n
 HasCome m _ _ = ⊥
 
--- how many stamps are kept, or were fed
+-- the number of arrivals that are kept or were given to the meters
 abbrev pub count_kept : Part → ℕ
 count_kept Head = 0
 count_kept (First group) = length group.stamps.items
 count_kept (Groups g) = count_seen g.meters
 count_kept TooLarge = 0
 
--- the windows of a run of whole groups, unless they have more packets than a group may have
+-- the windows of a run of whole frames or fields, unless these have more than 262,144 packets
 abbrev pub AreWindowsIn : Media → RunOutcome → Option Windows → Type 0
 AreWindowsIn m (no_whole_frame head) windows = ⊤
 AreWindowsIn m (whole_frames run) (Some windows) = AreWindowsOf m run.n run.stamps windows
@@ -70,11 +72,11 @@ pub record IsGauged (m : Media) (tai : ℕ) (g : Gauge) (packets : List FlowPack
   pub added : g.added ≡ tai * 10 ^ 9
   pub come : HasCome m g.part (so_far_at packets tai 0 (length packets))
 
--- as many stamps it has at most
+-- a bound on the number of arrivals in the gauge
 abbrev pub count_gauged : Gauge → ℕ
 count_gauged g = count_kept g.part
 
--- whatever packets were passed, this one was passed then
+-- this packet was passed after those before
 abbrev pub Passes : FlowPacket → (old new : Gauge) → Type 0
 Passes p old new = (m : Media) (tai : ℕ) (packets : List FlowPacket) → IsGauged m tai old packets
     → IsGauged m tai new (packets ++ p ∷ [])

@@ -1,4 +1,4 @@
--- What the reading of a flow finds that is measured while it is judged. Packets count from 0.
+-- The reading of a flow that is measured while it is judged. Packets count from 0.
 use Rattle.std.specs.Prelude.{◌≡◌, ◌≤◌, ◌+◌, ◌^◌, ℕ, List, [], ◌∷◌, ◌++◌, IsSome, length, Option, None}
 use Rattle.std.specs.List.{cons_option}
 use Rattle.std.proofs.Common.{arith, sym, subst, append-nil, append_assoc, ap, ◌∙◌}
@@ -10,11 +10,10 @@ use Rattle.timing_base.specs.Verdicts.{Judged}
 use Rattle.timing_base.specs.declared.capture.FileNote.{FileNote}
 use Rattle.timing_base.specs.declared.key.FlowKey.{FlowKey}
 use Rattle.timing_base.specs.declared.packet.FlowPacket.{FlowPacket}
-use Rattle.timing_base.specs.declared.packet.Rtp.{Rtp}
 use Rattle.timing_base.specs.declared.row.Verdict.TheVariants as verdict
 use Rattle.fail_interval.specs.Row.{verdict_of}
-use Rattle.fail_interval.specs.Stands.{StandsFor, count_fed}
-use Rattle.fail_interval.specs.Taken.{IsExpected}
+use Rattle.fail_interval.specs.Meterings.{HasRoom as JudgeHasRoom, room_less as judge_less}
+use Rattle.fail_interval.specs.Stands.{StandsFor}
 use Rattle.pcap_reader.specs.Records.{Records}
 use Rattle.udp_rtp.specs.Flow.{flow, flow_packet}
 use Rattle.timing_reach.specs.window.Gauging.{AreWindowsIn, IsGauged, count_gauged}
@@ -23,39 +22,38 @@ use Rattle.timing_reach.specs.declared.window.reading.Reading.{Reading}
 
 -- the packets were passed to the judge of this media and to its gauge, and no others
 pub record IsReading (m : Media) (key : FlowKey) (tai : ℕ) (r : Reading) (packets : List FlowPacket) : Type 0 where
-  pub judge : StandsFor m key tai r.judge packets
+  pub judge : StandsFor m key tai r.judge.judge packets
   pub gauge : IsGauged m tai r.gauge packets
 
--- there is room for so many packets more
+-- `count` more packets can be passed
 pub record HasRoom (count : ℕ) (r : Reading) : Type 0 where
-  pub judge : count_fed r.judge + count ≤ 2 ^ 41
+  pub judge : JudgeHasRoom count r.judge
   pub gauge : count_gauged r.gauge + count ≤ 2 ^ 40
 
+-- if many more packets can be passed, so can fewer
 pub room_less : (few many : ℕ) (r : Reading) → few ≤ many → HasRoom many r → HasRoom few r
 room_less few many r less room = record {
-  judge = omega (arith, less, room.judge);
+  judge = judge_less few many r.judge less room.judge;
   gauge = omega (arith, less, room.gauge);
 }
 
--- whatever packets were passed, the judge expects this one then
-abbrev pub Expects : Rtp → Reading → Type 0
-Expects p r = IsExpected r.judge p
-
--- whatever packets were passed, the flow of this media in these records was passed then, and nothing else
+-- the flow of this media in these records was passed after the packets before, and nothing else
 abbrev pub ReadsOn : Media → (old new : Reading) → List Record → Type 0
 ReadsOn m old new more =
     (key : FlowKey) (tai : ℕ) (packets : List FlowPacket) → IsReading m key tai old packets
     → IsReading m key tai new (packets ++ flow more m)
 
--- no record, one that is no packet of the flow, and some records and then others
+-- reading no record changes nothing
 pub reads_none : (m : Media) (x : Reading) → ReadsOn m x x []
 reads_none m x key tai packets h = subst (IsReading m key tai x) (sym (append-nil packets)) h
 
+-- a record that is no packet of the flow changes nothing
 pub reads_other : (m : Media) (x : Reading) (r : Record) → flow_packet m r ≡ None → ReadsOn m x x (r ∷ [])
 reads_other m x r is key tai packets h =
     subst (λ (o : Option FlowPacket). IsReading m key tai x (packets ++ cons_option o [])) (sym is)
     (reads_none m x key tai packets h)
 
+-- reading some records and then others is reading both
 pub reads_more : (m : Media) (x y z : Reading) (a b : List Record) → ReadsOn m x y a → ReadsOn m y z b
     → ReadsOn m x z (a ++ b)
 reads_more m x y z a b first second key tai packets h =
@@ -63,18 +61,18 @@ reads_more m x y z a b first second key tai packets h =
     ∙ ap (λ l. packets ++ l) (sym (filter_map-append (flow_packet m) a b)))
     (second key tai (packets ++ flow a m) (first key tai packets h))
 
--- what is found where these packets are the flow
+-- the result of reading a flow of these packets
 pub record IsMeasured (m : Media) (tai : ℕ) (packets : List FlowPacket) (x : Measured) : Type 0 where
   pub verdict_is : x.verdict ≡ verdict_of m (judged packets m.pt tai)
   pub windows_are : AreWindowsIn m (run_outcome packets tai 0 (length packets)) x.windows
 
--- what is found of the flow of a media in a capture of this text
+-- the result of reading the flow of a media in a capture with these contents
 pub record IsMeasuredIn (m : Media) (tai : ℕ) (text : List ℕ) (x : Measured) : Type 0 where
   pub items : List Record
   pub note : FileNote
   pub records : Records text (2 ^ 40) items note
   pub measured_is : IsMeasured m tai (flow items m) x
 
--- where one run is judged, there are windows
+-- if the flow was judged in one run, there are windows
 abbrev pub HasWindows : Measured → Type 0
 HasWindows x = (j : Judged) → x.verdict ≡ verdict.Judged j → IsSome x.windows

@@ -1,4 +1,4 @@
-//! The records of the one capture of a job.
+//! Reads the one capture of a job.
 
 ghost use Rattle.std.specs.Prelude.{◌≡◌, ◌≤◌, ◌+◌, ◌^◌, ℕ, List, Some, IfOk, IfErr};
 ghost use Rattle.timing_outside.specs.Causes.{Rose};
@@ -14,8 +14,7 @@ use std::alloc::{AllocError as OutOfMemory, Global};
 use timing_outside::Shelf;
 use timing_report::Input;
 
-/// Takes the records of the one capture of a job, under this name: it is fetched for that, and goes back
-/// to the shelf.
+/// Opens the one capture of a job, takes all its packet records, and gives its source back to the shelf.
 pub fn take_capture<H: Shelf, T: Taker<Stop = OutOfMemory>>(
     alloc: Global,
     shelf: &mut H,

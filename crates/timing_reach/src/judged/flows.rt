@@ -1,215 +1,24 @@
-//! What takes the packets of a media's flow, one after the other, off the records of a capture: each frame is read
+//! Takes the packets of a media's flow from the packet records of a capture, in order. Each frame is parsed at most
 //! once.
 
-ghost use Rattle.std.specs.Prelude.{◌≡◌, ◌≤◌, ◌+◌, ◌++◌, ◌∷◌, ◌^◌, [], ℕ, List, None, Some, Ok, IfErr, IfOk, IfSome};
-ghost use Rattle.std.specs.Prelude.{IsOkAnd, length};
-ghost use Rattle.std.specs.Prelude.{true, false};
-ghost use Rattle.timing_base.specs.Captures.{IsStamp, Record};
-ghost use Rattle.timing_base.specs.Media.{Media as MediaValue};
-ghost use Rattle.fail_interval.specs.States.{IsReading};
+ghost use Rattle.std.specs.Prelude.{◌≡◌, ◌^◌, ℕ, List, Some, IfErr, IfOk};
 ghost use Rattle.timing_outside.specs.Causes.{Rose};
 ghost use Rattle.timing_outside.specs.Shelves.{StaysAs};
 ghost use Rattle.pcap_reader.specs.Taken.{TakesFew};
 ghost use Rattle.pcapng_reader.specs.Classic.{classic_texts};
 ghost use Rattle.timing_reach.specs.steps.Answers.{OnReadFault};
-ghost use Rattle.timing_base.specs.Targets.{target_of};
-ghost use Rattle.udp_rtp.specs.Carried.{carries};
-ghost use Rattle.udp_rtp.specs.Flow.{flow_packet};
-ghost use Rattle.timing_base.specs.declared.packet.Rtp.{Rtp as RtpValue};
 ghost use Rattle.timing_reach.specs.judged.Flows.{TakesIn};
 
 use crate::judged::captures::take_capture;
 use crate::steps::Failure;
-use pcap_reader::Taker;
-use std::alloc::{AllocError as OutOfMemory, Global};
-use timing_base::{FlowPacket, Media, Rtp};
+use flow_demux::{FlowTaker, MediaFlow};
+use std::alloc::Global;
+use timing_base::Media;
 use timing_outside::Shelf;
 use timing_report::Input;
-use udp_rtp::{carries, packet_of};
 
-/// What takes the packets of a flow, one after the other.
-pub trait FlowTaker {
-    /// By the flow of this media in these records, and by nothing else, the first became the second.
-    ghost takes: { MediaValue → Self → Self → List Record → Type 0 };
-
-    /// It has room for so many packets more.
-    ghost room: { (count : ℕ) → Self → Type 0 };
-
-    /// By what it took, the flow goes on with this packet in the frame or field of the last, if it goes on so.
-    ghost expects: { RtpValue → Self → Type 0 };
-
-    /// The packet with which the flow goes on, where it goes on as most do. `None` where what takes it doesn't know.
-    fn expected(&self) -> Option<Rtp>
-        ensures { IfSome result (λ p. expects p self.now) };
-
-    /// Takes the next packet, and the frame that carried it. `Err` is want of memory.
-    fn take(&mut self, packet: &FlowPacket, frame: &[u8]) -> Result<(), OutOfMemory>
-        requires stamp { IsStamp packet.now.at }
-        requires reading { IsReading packet.now.rtp }
-        requires short { length frame.now ≤ 262144 }
-        requires room { room 1 self.old }
-        ensures room { (count : ℕ) → IfOk result (λ _. room (count + 1) self.old → room count self.new) }
-        ensures takes { IfOk result (λ _. (m : MediaValue) (r : Record)
-            → flow_packet m r ≡ Some packet.now → r.bytes ≡ frame.now
-            → takes m self.old self.new (r ∷ [])) };
-
-    /// Takes the next packet as `take` does, where it is the one that is expected.
-    fn take_expected(&mut self, packet: &FlowPacket, frame: &[u8]) -> Result<(), OutOfMemory>
-        requires stamp { IsStamp packet.now.at }
-        requires reading { IsReading packet.now.rtp }
-        requires short { length frame.now ≤ 262144 }
-        requires room { room 1 self.old }
-        requires expected { IsOkAnd packet.now.rtp (λ p. expects p self.old) }
-        ensures room { (count : ℕ) → IfOk result (λ _. room (count + 1) self.old → room count self.new) }
-        ensures takes { IfOk result (λ _. (m : MediaValue) (r : Record)
-            → flow_packet m r ≡ Some packet.now → r.bytes ≡ frame.now
-            → takes m self.old self.new (r ∷ [])) };
-
-    /// No record changes nothing.
-    ghost none: { (m : MediaValue) (x : Self) → takes m x x [] };
-
-    /// Nor does one that is no packet of the flow.
-    ghost other: { (m : MediaValue) (x : Self) (r : Record) → flow_packet m r ≡ None
-        → takes m x x (r ∷ []) };
-
-    /// Some records, and then others.
-    ghost more: { (m : MediaValue) (x y z : Self) (a b : List Record) → takes m x y a
-        → takes m y z b → takes m x z (a ++ b) };
-
-    /// Room for many packets is room for few.
-    ghost less: { (few many : ℕ) (x : Self) → few ≤ many → room many x → room few x };
-}
-
-/// The flow of a media, and what takes it.
-#[derive(Drop)]
-pub struct FlowOf<F: Drop> {
-    pub media: Media,
-    pub taker: F,
-}
-
-impl<F: FlowTaker + Drop> FlowOf<F> {
-    ghost use Rattle.timing_reach.specs.judged.Flows.{GoesTo, TakesFlow};
-
-    /// Before the first record of a capture.
-    pub fn new(media: &Media, taker: F) -> FlowOf<F>
-        ensures media { result.media ≡ media.now }
-        ensures taker { result.taker ≡ taker }
-    {
-        FlowOf {
-            media: *media,
-            taker,
-        }
-    }
-
-    /// The packet that is expected, where the frame carries it: the frame is held against it before it is read, since
-    /// that is quicker.
-    #[inline(always)]
-    fn expected_in(&self, frame: &[u8]) -> Option<Rtp>
-        ensures carried { IfSome result (λ p. carries (target_of self.now.media) p frame.now ≡ true) }
-        ensures expected { IfSome result (λ p. F.expects p self.now.taker) }
-    {
-        let expected = self.taker.expected()?;
-        if !carries(frame, self.media.target(), expected) {
-            return None;
-        }
-        Some(expected)
-    }
-
-    /// Takes the next record where its frame carries the packet that is expected, and answers whether it does. Else
-    /// nothing changes.
-    #[inline(always)]
-    pub fn take_next(&mut self, number: u64, at: u64, frame: &[u8]) -> Result<bool, OutOfMemory>
-        requires stamp { IsStamp at }
-        requires short { length frame.now ≤ 262144 }
-        requires room { F.room 1 self.old.taker }
-        ensures other { result ≡ Ok false → self.new ≡ self.old }
-        ensures goes { result ≡ Ok true → GoesTo self.old.media frame.now }
-        ensures room { (count : ℕ) → result ≡ Ok true → F.room (count + 1) self.old.taker
-            → F.room count self.new.taker }
-        ensures takes { result ≡ Ok true → TakesFlow F.takes self.old self.new
-            (record { number = number; stamp = at; bytes = frame.now } ∷ []) }
-    {
-        let Some(expected) = self.expected_in(frame) else {
-            return Ok(false);
-        };
-        let packet = FlowPacket {
-            rec: number,
-            at,
-            rtp: Ok(expected),
-        };
-        self.taker.take_expected(&packet, frame)?;
-        Ok(true)
-    }
-
-    /// Takes the next packet of the flow, and the frame that carried it.
-    #[inline(always)]
-    pub fn take_packet(&mut self, packet: &FlowPacket, frame: &[u8]) -> Result<(), OutOfMemory>
-        requires stamp { IsStamp packet.now.at }
-        requires reading { IsReading packet.now.rtp }
-        requires short { length frame.now ≤ 262144 }
-        requires room { F.room 1 self.old.taker }
-        ensures room { (count : ℕ) → IfOk result (λ _. F.room (count + 1) self.old.taker
-            → F.room count self.new.taker) }
-        ensures takes { IfOk result (λ _. (r : Record) → flow_packet self.old.media r ≡ Some packet.now
-            → r.bytes ≡ frame.now → TakesFlow F.takes self.old self.new (r ∷ [])) }
-    {
-        self.taker.take(packet, frame)
-    }
-
-    /// Takes the next record, whatever its frame.
-    #[cold]
-    #[inline(never)]
-    fn take_read(&mut self, number: u64, at: u64, frame: &[u8]) -> Result<(), OutOfMemory>
-        requires stamp { IsStamp at }
-        requires short { length frame.now ≤ 262144 }
-        requires room { F.room 1 self.old.taker }
-        ensures room { (count : ℕ) → IfOk result (λ _. F.room (count + 1) self.old.taker
-            → F.room count self.new.taker) }
-        ensures takes { IfOk result (λ _. TakesFlow F.takes self.old self.new
-            (record { number = number; stamp = at; bytes = frame.now } ∷ [])) }
-    {
-        match packet_of(&self.media, number, at, frame) {
-            None => Ok(()),
-            Some(packet) => self.take_packet(&packet, frame),
-        }
-    }
-}
-
-impl<F: FlowTaker + Drop> Taker for FlowOf<F> {
-    ghost use Rattle.pcap_reader.specs.Taken.{StopsAnyhow};
-    ghost use Rattle.timing_reach.specs.judged.Flows.{TakesFlow, flow_more, flow_none};
-
-    /// Want of memory.
-    type Stop = OutOfMemory;
-
-    ghost takes = { λ old new items. TakesFlow F.takes old new items };
-
-    ghost stops = { StopsAnyhow };
-
-    ghost room = { λ number count x. F.room count x.taker };
-
-    ghost none = { λ x. flow_none F.takes F.none x };
-
-    ghost more = { λ x y z a b first second. flow_more F.takes F.more x y z a b first second };
-
-    ghost ends = { λ _ _ _ _ _ _ _ _. tt };
-
-    ghost halts = { λ _ _ _ _ _ _. tt };
-
-    ghost less = { λ number few many x le room. F.less few many x.taker le room };
-
-    #[inline(always)]
-    fn take(&mut self, number: u64, at: u64, frame: &[u8]) -> Result<(), OutOfMemory> {
-        if self.take_next(number, at, frame)? {
-            return Ok(());
-        }
-        self.take_read(number, at, frame)
-    }
-}
-
-/// Gives a taker the flow of a media in the one capture of a job, under this name: the capture is fetched for
-/// that, and goes back to the shelf.
-pub fn take_flow<H: Shelf, F: FlowTaker + Drop>(
+/// Opens the one capture of a job, gives the taker the flow of a media in it, and gives the source back to the shelf.
+pub fn take_flow<H: Shelf, F: FlowTaker>(
     alloc: Global,
     shelf: &mut H,
     name: &str,
@@ -226,11 +35,8 @@ pub fn take_flow<H: Shelf, F: FlowTaker + Drop>(
     ensures there { IfOk result (λ _. ¬ H.lacks shelf.old name.now) }
     ensures stays { StaysAs H.text H.lacks H.faults shelf.old shelf.new }
 {
-    let mut flow = FlowOf {
-        media: *media,
-        taker,
-    };
+    let mut flow = MediaFlow::new(media, taker);
     take_capture(alloc, shelf, name, &mut flow)?;
-    let FlowOf { taker, .. } = flow;
+    let MediaFlow { taker, .. } = flow;
     Ok(taker)
 }

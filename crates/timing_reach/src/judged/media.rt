@@ -1,4 +1,4 @@
-//! The media that a job asks for.
+//! Looks up the media that a job names.
 
 ghost use Rattle.std.specs.Prelude.{◌≡◌, ℕ, List, Some, Ok, IfOk, IfErr};
 ghost use Rattle.sdp_reader.specs.Session.{session};
@@ -15,7 +15,7 @@ use timing_base::{FlowJob, Media};
 use timing_outside::Shelf;
 use timing_report::{Input, Status};
 
-/// The media of this number, counted from 0, or the answer that it isn't there.
+/// Returns the media with this number, counted from 0, or the answer that there is none.
 fn find_in(
     alloc: Global,
     media: &[Media],
@@ -30,8 +30,8 @@ fn find_in(
     }
 }
 
-/// The media that a job asks for. `Ok(Err(_))` is the answer where its description is refused, or hasn't the
-/// media: then no capture is fetched.
+/// Returns the media that a job names. `Ok(Err(_))` is the answer of the job if its SDP is invalid, or doesn't have the
+/// media; then no capture is opened.
 pub fn find_media<H: Shelf>(
     alloc: Global,
     job: &FlowJob,

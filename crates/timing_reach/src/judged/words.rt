@@ -1,4 +1,4 @@
-//! What the commands print of a flow that they don't look into.
+//! The answers of the commands for a flow that they can't measure.
 
 ghost use Rattle.std.specs.Prelude.{◌≡◌, IfOk};
 ghost use Rattle.timing_reach.specs.Asked.{no_such_media, not_judged};
@@ -8,7 +8,7 @@ use std::alloc::{AllocError as OutOfMemory, Global};
 use timing_base::{Media, Verdict};
 use timing_report::{Status, verdict_of};
 
-/// The answer on a media that the description hasn't.
+/// Returns the answer if the SDP doesn't have the media. Returns `Err` if memory runs out.
 pub fn no_such_media(alloc: Global) -> Result<Answer, OutOfMemory>
     ensures { IfOk result (λ answer. answer ≡ no_such_media) }
 {
@@ -18,7 +18,7 @@ pub fn no_such_media(alloc: Global) -> Result<Answer, OutOfMemory>
     })
 }
 
-/// The answer on a flow that isn't judged in one run.
+/// Returns the answer for a flow that isn't judged in one run. Returns `Err` if memory runs out.
 pub fn not_judged(alloc: Global, media: &Media, verdict: &Verdict) -> Result<Answer, OutOfMemory>
     ensures { IfOk result (λ answer. answer ≡ not_judged media.now verdict.now) }
 {

@@ -1,4 +1,4 @@
-//! What holds of the definitions of `shape` themselves.
+//! Laws of the definitions of `shape`. Each function is a theorem: its clauses are proved.
 
 ghost use Rattle.std.specs.Prelude.{◌≡◌, ◌≤◌, ◌^◌, ◌++◌, ◌∷◌, [], ℕ, List, All, Bool, true, false, codes, length};
 ghost use Rattle.timing_base.specs.Captures.{Record};
@@ -17,7 +17,7 @@ ghost use Rattle.timing_reach.specs.WorkedShapes.{five_records, last_nanosecond,
 
 use flow_shaper::laws::burst_by_hand;
 
-/// A judged run of groups of 1 to 262,144 packets has one answer of `shape`.
+/// A judged run has exactly one answer of `shape`, if its frames or fields have 1 to 262,144 packets.
 pub fn one_shape_answer()
     ensures some { (list : Bool) (tai : ℕ) (kind : Kind) (m : Media) (items : List Record)
         (run : JudgedRun) → IsMedia m → 1 ≤ run.n → run.n ≤ 262144
@@ -27,9 +27,9 @@ pub fn one_shape_answer()
         → HasShape list tai kind m items run b → a ≡ b }
 {}
 
-/// The capture that `shape` writes, of at most 2^40 bytes, read again with the same seconds: it is whole, and the flow
-/// is judged in one run, of the same groups between the same packets, whose judged packets came as the plan lets them
-/// leave.
+/// A capture of at most 2^40 bytes that `shape` wrote is read again whole with the same `--tai`. The flow in it is
+/// judged in one run, with the same frames or fields between the same other packets, and its judged packets come when
+/// the plan lets them leave.
 pub fn shaped_is_read_back()
     ensures { (tai : ℕ) (kind : Kind) (m : Media) (items : List Record) (run : JudgedRun)
         (answer : Answer) → All CanBeHeld items
@@ -38,7 +38,7 @@ pub fn shaped_is_read_back()
         → IsJudgedAs tai m answer.text (came_at run plan.departures) }
 {}
 
-/// Of five packets at once the last one is delayed, at 50 frames per second with 20 packets per frame.
+/// Of five packets at once the last one is delayed, at 50 frames per second with 20 packets in a frame.
 #[tactic(auto, unfolding(timing_report::proofs::Numerals::numerals))]
 pub fn list_by_hand()
     ensures { (items : List Record) (answer : Answer)
@@ -52,7 +52,7 @@ pub fn list_by_hand()
     burst_by_hand();
 }
 
-/// Of five packets in the last nanosecond of a capture the last one is late: no plan lets it leave in time.
+/// Of five packets in the last nanosecond that a capture can have the last one is late: no plan lets it leave in time.
 #[tactic(auto, unfolding(timing_report::proofs::Numerals::numerals))]
 pub fn late_by_hand()
     ensures { (list : Bool) (items : List Record) (answer : Answer)
@@ -60,8 +60,8 @@ pub fn late_by_hand()
         → answer ≡ record { text = codes "not shaped: packet 4\n"; status = status.NotAllJudged } }
 {}
 
-/// A capture whose clock is a second behind: the packet before the judged ones keeps its stamp, each
-/// judged one leaves as planned, and of the two behind them the first no earlier than the last of them.
+/// A capture with a clock one second behind: the packet before the judged ones keeps its capture timestamp, each judged
+/// one leaves as planned, and of the two behind them the first leaves no earlier than the last judged one.
 pub fn capture_by_hand()
     ensures { shaped_capture 1 1 two_departures five_records ≡ file_head
         ++ (5 ∷ 0 ∷ 0 ∷ 0 ∷ 9 ∷ 0 ∷ 0 ∷ 0 ∷ 1 ∷ 0 ∷ 0 ∷ 0 ∷ 1 ∷ 0 ∷ 0 ∷ 0 ∷ 0xaa ∷ []

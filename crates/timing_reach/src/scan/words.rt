@@ -1,4 +1,4 @@
-//! What `scan` prints, and its status.
+//! The output of `scan`, and its status.
 
 ghost use Rattle.std.specs.Prelude.{◌≡◌, IfOk, true};
 ghost use Rattle.capture_scan.specs.report.Contents.{contents_of};
@@ -13,7 +13,7 @@ use std::alloc::{AllocError as OutOfMemory, Global};
 use timing_base::{FileNote, ScanForm, ScanJob};
 use timing_report::{Status, any_refused};
 
-/// The status beside so many streams, or videos of a draft, of a capture that ends so.
+/// Returns the status for this many streams, or videos of a draft, of a capture that ends in this way.
 fn status_of(note: FileNote, told: usize) -> Status
     ensures status { result ≡ scan_status note told }
     ensures ends { scan_ends result ≡ true }
@@ -25,7 +25,7 @@ fn status_of(note: FileNote, told: usize) -> Status
     }
 }
 
-/// The answer with the draft of the streams: nothing where it has no video.
+/// Returns the answer with the draft of the streams; without a video the output is empty.
 fn drafted(alloc: Global, note: FileNote, found: &Found) -> Result<Answer, OutOfMemory>
     ensures { IfOk result (λ answer. answer ≡ drafted note (videos_of found.now.streams.items)) }
 {
@@ -40,7 +40,7 @@ fn drafted(alloc: Global, note: FileNote, found: &Found) -> Result<Answer, OutOf
     })
 }
 
-/// The answer on a capture in which this was found, in the form of the job.
+/// Returns the answer for a capture with this result, in the form of the job. Returns `Err` if memory runs out.
 pub fn scanned(alloc: Global, job: &ScanJob, read: &Scanned) -> Result<Answer, OutOfMemory>
     ensures { IfOk result (λ answer. answer
         ≡ scanned job.now.form job.now.capture read.now.note (contents_of read.now.found)) }

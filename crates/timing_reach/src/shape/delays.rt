@@ -15,7 +15,7 @@ use timing_report::Status;
 pub struct Delays {
     /// A line for each delayed packet.
     pub lines: String,
-    /// How many packets are delayed.
+    /// The number of packets that are delayed.
     pub delayed: u64,
     /// The greatest delay, in nanoseconds.
     pub greatest: u64,
@@ -24,7 +24,7 @@ pub struct Delays {
 impl Delays {
     ghost use Rattle.std.specs.Prelude.{[]};
 
-    /// Before the first packet.
+    /// Returns the delays before the first packet.
     pub fn new(alloc: Global) -> Delays
         ensures lines { string_bytes result.lines ≡ [] }
         ensures delayed { result.delayed ≡ 0 }
@@ -37,7 +37,7 @@ impl Delays {
         }
     }
 
-    /// Adds a packet. The delay is in nanoseconds.
+    /// Adds a packet, counted from 0, with its delay in nanoseconds. Returns `Err` if memory runs out.
     #[inline(always)]
     pub fn add(&mut self, packet: u64, delay: u64, bound: Bound) -> Result<(), OutOfMemory>
         requires { self.old.delayed < 2 ^ 41 }
@@ -53,7 +53,7 @@ impl Delays {
         add_packet(&mut self.lines, packet, delay, bound)
     }
 
-    /// The list of so many packets, and status 0.
+    /// Returns the answer with the list of this many packets, and status 0. Returns `Err` if memory runs out.
     pub fn finish(self, packets: u64) -> Result<Answer, OutOfMemory>
         ensures { IfOk result (λ answer. answer ≡ record {
           text = string_bytes self.lines ++ delays_line self.delayed packets self.greatest;

@@ -1,4 +1,4 @@
-//! What is kept of a flow until it is known which of its packets are judged.
+//! Keeps the packets of a flow until it is known which of them are judged.
 
 ghost use Rattle.std.specs.Prelude.{◌≤◌, ◌++◌, ◌∷◌, [], List, IfOk, length};
 ghost use Rattle.timing_base.specs.Captures.{IsStamp, Record};
@@ -6,19 +6,19 @@ ghost use Rattle.timing_base.specs.Captures.{IsStamp, Record};
 use crate::shape::copy::{add_record, begin};
 use std::alloc::{AllocError as OutOfMemory, Global};
 
-/// The packets of a flow so far, each as it came.
+/// The packets of a flow so far, as they came.
 #[derive(Drop)]
 pub enum Kept {
-    /// For a list: their stamps, in nanoseconds, as the capture has them.
+    /// For a list: their capture timestamps in nanoseconds, as they stand in the capture.
     Stamps(Vec<u64>),
-    /// Else the flow as a capture.
+    /// For a capture: the packets as the bytes of a capture.
     Capture(Vec<u8>),
 }
 
 impl Kept {
     ghost use Rattle.timing_reach.specs.shape.Keeping.{AreKept, Keeps};
 
-    /// Before the first packet, for a list or for a capture.
+    /// Returns no packets, for a list or for a capture. Returns `Err` if memory runs out.
     pub fn new(alloc: Global, list: bool) -> Result<Kept, OutOfMemory>
         ensures { IfOk result (λ kept. AreKept list kept []) }
     {
@@ -28,7 +28,8 @@ impl Kept {
         Ok(Kept::Capture(begin(alloc)?))
     }
 
-    /// Keeps the next packet, which came at `at` in this frame.
+    /// Keeps the next packet, with this capture timestamp in nanoseconds and this frame. Returns `Err` if memory runs
+    /// out.
     #[inline(always)]
     pub fn keep(&mut self, at: u64, frame: &[u8]) -> Result<(), OutOfMemory>
         requires stamp { IsStamp at }

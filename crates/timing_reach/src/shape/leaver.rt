@@ -1,4 +1,4 @@
-//! When the judged packets of a flow leave.
+//! Computes when the judged packets of a flow leave.
 
 ghost use Rattle.std.specs.Prelude.{◌≡◌, ◌≤◌, ◌<◌, ◌+◌, ◌*◌, ◌^◌, [], ℕ, List, IfOk};
 ghost use Rattle.timing_base.specs.Captures.{IsStamp};
@@ -7,7 +7,7 @@ use flow_shaper::{Departure, Late, Shaper};
 use sender_params::Params;
 use timing_base::{Judged, Kind, Media};
 
-/// The instant from which on a capture has no stamp, in nanoseconds.
+/// The first instant that a capture can't have as a timestamp, 2^32 seconds, in nanoseconds.
 const END: u64 = 4_294_967_296_000_000_000;
 
 /// The judged packets of a flow, as far as they left.
@@ -15,7 +15,7 @@ const END: u64 = 4_294_967_296_000_000_000;
 pub struct Leaver {
     params: Params,
     shaper: Shaper,
-    /// What is added to the stamps, in nanoseconds.
+    /// The time that is added to every capture timestamp, in nanoseconds.
     pub added: u64,
     ghost added_small: { added ≤ 10 ^ 12 },
     ghost ends: { shaper.end ≡ 2 ^ 32 * 10 ^ 9 + added },
@@ -24,8 +24,8 @@ pub struct Leaver {
 impl Leaver {
     ghost use Rattle.timing_reach.specs.shape.Leaving.{HasLet, Leaves, Part, count_left};
 
-    /// Before the first packet of a run that was judged so, which came at `first`, in nanoseconds, as the capture has
-    /// it.
+    /// Returns a leaver before the first packet of a run that was judged with this result. `first` is the capture
+    /// timestamp of that packet in nanoseconds, as it stands in the capture.
     pub fn new(media: &Media, judged: &Judged, kind: Kind, first: u64, tai: u64) -> Leaver
         requires tai { tai ≤ 1000 }
         requires first { IsStamp first }
@@ -48,8 +48,8 @@ impl Leaver {
         }
     }
 
-    /// The next packet leaves, which came at `at`, in nanoseconds, as the capture has it: as early as in any plan, in
-    /// nanoseconds of TAI. `Err` is one that can't leave in time.
+    /// Lets the next packet leave as early as in any plan, and returns its departure in nanoseconds of TAI. `at` is its
+    /// capture timestamp in nanoseconds, as it stands in the capture. Returns `Err` if it can't leave in time.
     #[inline(always)]
     pub fn leave(&mut self, at: u64) -> Result<Departure, Late>
         requires stamp { IsStamp at }

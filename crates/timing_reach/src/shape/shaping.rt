@@ -1,4 +1,4 @@
-//! The judged packets of a kept flow leave as planned, and what is printed of them is made.
+//! Lets the judged packets of a kept flow leave as planned, and makes the output.
 
 ghost use Rattle.std.specs.Prelude.{◌≡◌, ◌≤◌, ◌+◌, ◌*◌, ◌^◌, [], List, All, IfOk, length};
 ghost use Rattle.timing_base.specs.Captures.{IsStamp};
@@ -20,7 +20,8 @@ use std::alloc::{AllocError as OutOfMemory, Global};
 use timing_base::{Judged, Kind, Media};
 use timing_report::Status;
 
-/// The list of judged packets that came so, in nanoseconds, as the capture has them.
+/// Returns the answer with the list of the delayed packets. `stamps` are the capture timestamps of the judged packets
+/// in nanoseconds, as they stand in the capture.
 fn list_delays(alloc: Global, mut leaver: Leaver, stamps: &[u64]) -> Result<Answer, OutOfMemory>
     requires none { count_left leaver ≡ 0 }
     requires stamps { All IsStamp stamps.now }
@@ -43,8 +44,8 @@ fn list_delays(alloc: Global, mut leaver: Leaver, stamps: &[u64]) -> Result<Answ
     delays.finish(stamps.len() as u64)
 }
 
-/// Lets so many packets leave, the next ones of a capture, and answers when the last one left, in nanoseconds, as the
-/// capture has it. `Err` is the first that can't leave in time.
+/// Lets the next `count` packets of a capture leave, and returns when the last one left, in nanoseconds of the
+/// capture's clock. Returns `Err` with the first packet that can't leave in time.
 fn depart(walk: &mut Walk, mut leaver: Leaver, count: u64) -> Result<u64, Late>
     requires none { count_left leaver ≡ 0 }
     requires few { count ≤ 2 ^ 41 }
@@ -63,7 +64,8 @@ fn depart(walk: &mut Walk, mut leaver: Leaver, count: u64) -> Result<u64, Late>
     Ok(left)
 }
 
-/// The list of the delayed packets of a flow that was judged so, of which the stamps are kept.
+/// Returns the list of the delayed packets of a flow that was judged with this result, from the capture timestamps of
+/// its packets.
 fn shape_list(
     alloc: Global,
     media: &Media,
@@ -83,7 +85,7 @@ fn shape_list(
     list_delays(alloc, leaver, judged_stamps)
 }
 
-/// The capture of a flow that was judged so, of which the packets are kept as they came.
+/// Returns the capture of a flow that was judged with this result, from its packets as the bytes of a capture.
 fn shape_capture(
     alloc: Global,
     media: &Media,
@@ -110,7 +112,7 @@ fn shape_capture(
     })
 }
 
-/// The answer on a flow that was judged so, of which the packets are kept.
+/// Returns the answer for a flow that was judged with this result, from its packets. Returns `Err` if memory runs out.
 pub fn shape_kept(
     alloc: Global,
     media: &Media,

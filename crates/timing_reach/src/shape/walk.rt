@@ -1,4 +1,4 @@
-//! The records of a capture in memory, one after the other, each of which may get another stamp.
+//! Goes through the packet records of a capture in memory, each of which can be given another capture timestamp.
 
 ghost use Rattle.std.specs.Prelude.{◌≡◌, ◌≤◌, ◌<◌, ◌^◌, ◌++◌, ◌∷◌, ℕ, List, All, length};
 ghost use Rattle.timing_base.specs.Captures.{IsStamp, Record};
@@ -8,18 +8,19 @@ ghost use Rattle.timing_reach.specs.shape.Keeping.{came_text, restamped, stamp_b
 
 use byteorder::{ByteOrder, LittleEndian};
 
-/// Bytes of the head of a capture.
+/// The bytes of the header of a capture.
 const FILE_HEAD: usize = 24;
 
-/// Bytes of the head of a record.
+/// The bytes of the header of a packet record.
 const RECORD_HEAD: usize = 16;
 
-/// Bytes of its stamp, with which it begins.
+/// The bytes of the capture timestamp, with which that header begins.
 const STAMP: usize = 8;
 
+/// The nanoseconds of a second.
 const NANOSECONDS: u64 = 1_000_000_000;
 
-/// Writes a stamp, in nanoseconds.
+/// Writes a capture timestamp, in nanoseconds.
 #[inline(always)]
 fn write_stamp(bytes: &mut [u8], at: u64)
     requires stamp { IsStamp at }
@@ -30,9 +31,10 @@ fn write_stamp(bytes: &mut [u8], at: u64)
     LittleEndian::write_u32(&mut bytes[4..], (at % NANOSECONDS) as u32);
 }
 
-/// A capture, and the place of its next record.
+/// A capture, and the place of its next packet record.
 #[derive(Drop)]
 pub struct Walk {
+    /// The bytes of the capture.
     pub bytes: Vec<u8>,
     place: usize,
 }
@@ -41,7 +43,7 @@ impl Walk {
     ghost use Rattle.timing_reach.specs.shape.Walking.{CanSkip, CanWalk, HasHead, IsBefore, PassesAll, PassesOne};
     ghost use Rattle.timing_reach.specs.shape.Walking.{HoldsAll};
 
-    /// Before the first record.
+    /// Returns a walk before the first packet record.
     pub fn new(bytes: Vec<u8>) -> Walk
         ensures { (records : List Record) → bytes.items ≡ file_head ++ came_text records
             → All CanBeHeld records → IsBefore result file_head records }
@@ -52,7 +54,7 @@ impl Walk {
         }
     }
 
-    /// The stamp of the next record, in nanoseconds.
+    /// Returns the capture timestamp of the next packet record, in nanoseconds.
     #[inline(always)]
     pub fn stamp(&self) -> u64
         requires { HasHead self.now }
@@ -65,7 +67,7 @@ impl Walk {
         u64::from(seconds) * NANOSECONDS + u64::from(nanos)
     }
 
-    /// How many bytes of the next record were captured.
+    /// Returns the number of captured bytes of the next packet record.
     #[inline(always)]
     fn captured(&self) -> u32
         requires { HasHead self.now }
@@ -75,7 +77,7 @@ impl Walk {
         LittleEndian::read_u32(&self.bytes[self.place + STAMP..])
     }
 
-    /// Gives the next record another stamp, in nanoseconds.
+    /// Gives the next packet record another capture timestamp, in nanoseconds.
     #[inline(always)]
     pub fn restamp(&mut self, at: u64)
         requires head { HasHead self.old }
@@ -89,7 +91,7 @@ impl Walk {
         write_stamp(&mut self.bytes[self.place..self.place + STAMP], at);
     }
 
-    /// Goes on behind the next record.
+    /// Goes behind the next packet record.
     #[inline(always)]
     pub fn pass(&mut self)
         requires { HasHead self.old }
@@ -100,7 +102,7 @@ impl Walk {
         self.place += RECORD_HEAD + self.captured() as usize;
     }
 
-    /// Goes on behind so many records.
+    /// Goes behind the next `count` packet records.
     pub fn skip(&mut self, count: u64)
         requires { CanSkip count self.old }
         ensures { PassesAll count self.old self.new }
@@ -110,7 +112,8 @@ impl Walk {
         }
     }
 
-    /// Gives each of the records to come a stamp of at least so many nanoseconds: its own, or this one.
+    /// Gives each of the remaining packet records a capture timestamp of at least `least` nanoseconds: its own, or
+    /// `least` if its own is earlier.
     pub fn hold_back(&mut self, least: u64)
         requires stamp { IsStamp least }
         requires can { CanWalk self.old }

@@ -1,4 +1,4 @@
-//! What `shape` prints of a flow.
+//! The lines that `shape` prints.
 
 ghost use Rattle.std.specs.Prelude.{◌≡◌, ◌++◌, IfOk, string_bytes};
 ghost use Rattle.timing_reach.specs.Shapes.{delays_line, not_shaped, packet_line, delayed_line};
@@ -9,7 +9,7 @@ use std::alloc::{AllocError as OutOfMemory, Global};
 use std::fmt;
 use timing_report::Status;
 
-/// What holds a packet back, as a line has it.
+/// The limit that holds a packet back, as a line has it.
 #[derive(Clone, Copy)]
 struct BoundWord {
     bound: Bound,
@@ -42,7 +42,7 @@ fn add_delayed(lines: &mut String, packet: u64, delay: u64, bound: Bound) -> Res
     writeln!(lines, "packet {packet} delayed {delay} ns by {word}")
 }
 
-/// Adds the line of a packet, where something holds it back. The delay is in nanoseconds.
+/// Adds the line of a packet, if something holds it back. The packet counts from 0, and the delay is in nanoseconds.
 #[inline(always)]
 pub fn add_packet(
     lines: &mut String,
@@ -59,7 +59,7 @@ pub fn add_packet(
     }
 }
 
-/// Adds the line over all packets: how many are delayed, how many there are, and the greatest delay, in
+/// Adds the line for all packets: the number of delayed packets, the number of packets, and the greatest delay in
 /// nanoseconds.
 pub fn add_delays(
     lines: &mut String,
@@ -73,7 +73,7 @@ pub fn add_delays(
     writeln!(lines, "delayed {delayed} of {packets}, greatest {most} ns")
 }
 
-/// The answer on a flow of which this packet can't leave in time.
+/// Returns the answer for a flow in which this packet, counted from 0, can't leave in time.
 pub fn not_shaped(alloc: Global, packet: u64) -> Result<Answer, OutOfMemory>
     ensures { IfOk result (λ answer. answer ≡ not_shaped packet) }
 {

@@ -1,4 +1,4 @@
-//! The captures of two flows, which are compared.
+//! Reads the captures of two flows, and compares these.
 
 ghost use Rattle.std.specs.Prelude.{◌≡◌, ◌≤◌, ◌<◌, ◌+◌, ◌*◌, ◌^◌, ℕ, List, All, Option, Some, IfOk, IfErr, length};
 ghost use Rattle.timing_outside.specs.Causes.{Rose};
@@ -19,23 +19,24 @@ use timing_base::{FileNote, Media, SkewJob};
 use timing_outside::{Shelf, Source};
 use timing_report::Input;
 
-/// How the captures of a job end, and what is told of two flows in them.
+/// The result of comparing two flows in the captures of a job.
 #[derive(Drop)]
 pub struct Compared {
-    /// One for each capture.
+    /// How each capture ends.
     pub notes: Vec<FileNote>,
+    /// The comparison of the two flows.
     pub row: SkewRow,
 }
 
 /// Two flows, as far as their captures were read.
 #[derive(Drop)]
 struct Comparing {
-    /// How the captures end that were read.
+    /// How each capture ends that was read.
     notes: Vec<FileNote>,
     pairing: Pairing,
 }
 
-/// Reads one capture more, of so many.
+/// Reads one more of `count` captures.
 fn read_next<H: Shelf>(
     alloc: Global,
     shelf: &mut H,
@@ -73,8 +74,8 @@ fn read_next<H: Shelf>(
     Ok(())
 }
 
-/// Reads the captures in order, and compares the flow of one media in the first with that of another in
-/// the last. After a capture that couldn't be read the sources of the others go back to the shelf.
+/// Reads the captures in order, and compares the flow of one media in the first with that of another in the last. After
+/// a capture that couldn't be read, the sources of the others go back to the shelf unread.
 fn read_each<H: Shelf>(
     alloc: Global,
     shelf: &mut H,
@@ -120,8 +121,8 @@ fn read_each<H: Shelf>(
     })
 }
 
-/// Compares the flows of these two media: the first in the first capture of a job, the second in the
-/// last. The captures are fetched in order, and then read in order.
+/// Compares the flow of the first media in the first capture of a job with that of the second media in the last. All
+/// captures are opened in order before the first one is read.
 pub fn compare<H: Shelf>(
     alloc: Global,
     job: &SkewJob,

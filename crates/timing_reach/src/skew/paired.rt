@@ -1,4 +1,4 @@
-//! One of two flows that are compared, and the packets that records are of it.
+//! One of two flows that are compared, and its packets in a capture.
 
 ghost use Rattle.std.specs.Prelude.{◌≡◌, ◌∷◌, [], None, IfSome};
 ghost use Rattle.std.specs.List.{cons_option};
@@ -14,10 +14,11 @@ use udp_rtp::{Awaited, packet_of};
 /// One of two flows that are compared.
 #[derive(Drop)]
 pub struct PairedFlow {
+    /// The media of the flow.
     pub media: Media,
-    /// Whether the flow is in the capture that is read.
+    /// Whether the flow is in the capture that is being read.
     pub is_here: bool,
-    /// The packet that is expected next, as the numbers of a frame that carries it; or nothing.
+    /// The packet that is expected next, as the bytes of a frame that carries it; or nothing.
     awaited: Awaited,
     ghost awaits: { AwaitsAt (target_of media) awaited },
 }
@@ -25,7 +26,7 @@ pub struct PairedFlow {
 impl PairedFlow {
     ghost use Rattle.timing_reach.specs.skew.Paired.{IsSameFlow, packets_in};
 
-    /// No packet of the flow, and no capture that has one.
+    /// Returns the flow without a packet, and without a capture that contains it.
     pub fn new(media: &Media) -> PairedFlow
         ensures { result.media ≡ media.now }
     {
@@ -36,7 +37,8 @@ impl PairedFlow {
         }
     }
 
-    /// The packet that a record is of the flow, read from its frame. What is expected next goes on from there.
+    /// Returns the packet of the flow that is in this packet record, from its frame. The next expected packet is then
+    /// the one after it.
     #[cold]
     #[inline(never)]
     fn read_packet(&mut self, number: u64, at: u64, frame: &[u8]) -> Option<FlowPacket>
@@ -51,8 +53,8 @@ impl PairedFlow {
         packet
     }
 
-    /// The packet that is expected next, where the flow is in this capture and the frame carries it: that isn't read
-    /// anew. Else nothing changes.
+    /// Returns the expected packet if the flow is in this capture and the frame carries it, without parsing the frame.
+    /// Otherwise nothing changes.
     #[inline(always)]
     pub fn next_packet(&mut self, number: u64, at: u64, frame: &[u8]) -> Option<FlowPacket>
         requires stamp { IsStamp at }
@@ -74,7 +76,8 @@ impl PairedFlow {
         Some(packet)
     }
 
-    /// The packet that a record is of the flow, where that is in this capture. Most are as is expected.
+    /// Returns the packet of the flow that is in this packet record, if the flow is in this capture. Most packets are
+    /// the expected ones.
     #[inline(always)]
     pub fn packet_in(&mut self, number: u64, at: u64, frame: &[u8]) -> Option<FlowPacket>
         requires stamp { IsStamp at }

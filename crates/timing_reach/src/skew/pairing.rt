@@ -1,4 +1,4 @@
-//! Two flows, packet number by packet number.
+//! Compares two flows, packet number by packet number.
 
 ghost use Rattle.std.specs.Prelude.{◌≡◌, ◌==◌, ◌≤◌, ◌<◌, ◌+◌, ◌^◌, ◌∷◌, [], ℕ, List, IfOk, Ok, true, false};
 ghost use Rattle.std.specs.List.{cons_option};
@@ -13,11 +13,14 @@ use pcap_reader::Taker;
 use std::alloc::{AllocError as OutOfMemory, Global};
 use timing_base::{FlowPacket, Media};
 
-/// Two flows, and which of them is in the capture that is read.
+/// Two flows, and which of them is in the capture that is being read.
 #[derive(Drop)]
 pub struct Pairing {
+    /// The first flow.
     pub first: PairedFlow,
+    /// The second flow.
     pub second: PairedFlow,
+    /// The comparison so far.
     pub skew: Skew,
 }
 
@@ -27,7 +30,7 @@ impl Pairing {
     ghost use Rattle.timing_base.specs.declared.packet.FlowPacket.{FlowPacket};
     ghost use Rattle.timing_reach.specs.skew.Pairs.{HasRoom, PairsOn, are_apart, pair_given};
 
-    /// No packet of either flow, and no capture that has one.
+    /// Returns two flows without a packet, and without a capture that contains them.
     pub fn new(alloc: Global, first: &Media, second: &Media) -> Pairing
         ensures first { result.first.media ≡ first.now }
         ensures second { result.second.media ≡ second.now }
@@ -41,8 +44,8 @@ impl Pairing {
         }
     }
 
-    /// The capture that is read next is this one of so many, counted from 0: the first has the first flow,
-    /// and the last has the second.
+    /// Begins the capture with this number, from 0, of `count` captures. The first capture contains the first flow, and
+    /// the last the second.
     pub fn turn(&mut self, number: usize, count: usize)
         requires { number < count }
         ensures first { self.new.first.media ≡ self.old.first.media }
@@ -55,7 +58,7 @@ impl Pairing {
         self.second.is_here = number + 1 == count;
     }
 
-    /// Whether no packet in this capture is of both flows.
+    /// Returns whether no packet of this capture can be of both flows.
     #[inline(always)]
     fn are_apart(&self) -> bool
         ensures { result ≡ are_apart self.now }
@@ -65,8 +68,8 @@ impl Pairing {
             || self.first.media.target() != self.second.media.target()
     }
 
-    /// Takes the next record where its frame carries the packet that is expected of the second flow and that can't be
-    /// of the first, and answers whether it does. Else nothing changes.
+    /// Takes the next packet record if its frame carries the expected packet of the second flow, and no packet can be
+    /// of both flows. Returns whether it did; otherwise nothing changes. Returns `Err` if memory runs out.
     #[inline(always)]
     fn take_second(&mut self, number: u64, at: u64, frame: &[u8]) -> Result<bool, OutOfMemory>
         requires stamp { IsStamp at }
@@ -88,7 +91,7 @@ impl Pairing {
         Ok(true)
     }
 
-    /// Takes the next record, whatever its frame.
+    /// Takes the next packet record, whatever its frame contains. Returns `Err` if memory runs out.
     #[inline(always)]
     fn take_any(&mut self, number: u64, at: u64, frame: &[u8]) -> Result<(), OutOfMemory>
         requires stamp { IsStamp at }
@@ -108,7 +111,7 @@ impl Pairing {
         put_second(&mut self.skew, second)
     }
 
-    /// What is told of the two flows, where they end here.
+    /// Returns the comparison of the two flows if they end here.
     pub fn finish(self) -> SkewRow
         ensures { (f g : List FlowPacket) → StandsFor self.skew f g → result ≡ skew f g }
     {
@@ -121,7 +124,7 @@ impl Taker for Pairing {
     ghost use Rattle.pcap_reader.specs.Taken.{StopsAnyhow};
     ghost use Rattle.timing_reach.specs.skew.Pairs.{HasRoom, PairsOn, pairs_more, pairs_none, room_less};
 
-    /// Want of memory.
+    /// Memory ran out.
     type Stop = OutOfMemory;
 
     ghost takes = { PairsOn };
@@ -149,7 +152,7 @@ impl Taker for Pairing {
     }
 }
 
-/// Puts a packet into the first flow, where there is one.
+/// Adds a packet to the first flow, if there is one.
 #[inline(always)]
 fn put_first(skew: &mut Skew, packet: Option<FlowPacket>) -> Result<(), OutOfMemory>
     requires stamp { ForSome packet (λ packet. IsStamp packet.at) }
@@ -164,7 +167,7 @@ fn put_first(skew: &mut Skew, packet: Option<FlowPacket>) -> Result<(), OutOfMem
     }
 }
 
-/// Puts a packet into the second flow, where there is one.
+/// Adds a packet to the second flow, if there is one.
 #[inline(always)]
 fn put_second(skew: &mut Skew, packet: Option<FlowPacket>) -> Result<(), OutOfMemory>
     requires stamp { ForSome packet (λ packet. IsStamp packet.at) }

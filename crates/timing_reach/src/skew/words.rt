@@ -1,4 +1,4 @@
-//! What `skew` prints.
+//! The lines that `skew` prints, and its status.
 
 ghost use Rattle.std.specs.Prelude.{◌≡◌, ◌++◌, IfOk, string_bytes};
 ghost use Rattle.std.specs.List.{list_any};
@@ -12,7 +12,7 @@ use std::alloc::{AllocError as OutOfMemory, Global};
 use timing_base::SkewJob;
 use timing_report::{Status, add_files, any_refused};
 
-/// Adds the front of the line of a pair.
+/// Adds the line of a pair up to its counts.
 fn add_head(text: &mut String, job: &SkewJob) -> Result<(), OutOfMemory>
     ensures { IfOk result (λ _. string_bytes text.new
         ≡ string_bytes text.old ++ pair_head job.now) }
@@ -23,7 +23,7 @@ fn add_head(text: &mut String, job: &SkewJob) -> Result<(), OutOfMemory>
     write!(text, "pair 1.{first} {file}.{second}: ")
 }
 
-/// Adds the rest of it.
+/// Adds the counts of a pair, and the newline.
 fn add_counts(text: &mut String, row: &SkewRow) -> Result<(), OutOfMemory>
     ensures { IfOk result (λ _. string_bytes text.new
         ≡ string_bytes text.old ++ counts_text row.now) }
@@ -42,7 +42,7 @@ fn add_counts(text: &mut String, row: &SkewRow) -> Result<(), OutOfMemory>
     )
 }
 
-/// Adds the line of an extreme, where there is one.
+/// Adds the line of the least or the greatest skew, if there is one.
 fn add_extreme(text: &mut String, word: &str, extreme: Option<Extreme>) -> Result<(), OutOfMemory>
     ensures { IfOk result (λ _. string_bytes text.new
         ≡ string_bytes text.old ++ extreme_line word.now extreme) }
@@ -67,7 +67,7 @@ fn add_row(text: &mut String, job: &SkewJob, row: &SkewRow) -> Result<(), OutOfM
     add_extreme(text, "greatest", row.greatest)
 }
 
-/// The status of a pair.
+/// Returns the status of a comparison.
 fn status_of(compared: &Compared) -> Status
     ensures { result ≡ skew_status (list_any is_refused compared.now.notes.items) compared.now.row }
 {
@@ -78,7 +78,7 @@ fn status_of(compared: &Compared) -> Status
     }
 }
 
-/// The lines of the captures and of the pair, and the status.
+/// Returns the answer with the lines of the captures and of the pair. Returns `Err` if memory runs out.
 pub fn skewed(alloc: Global, job: &SkewJob, compared: &Compared) -> Result<Answer, OutOfMemory>
     ensures { IfOk result (λ answer.
         answer ≡ skewed job.now compared.now.notes.items compared.now.row) }

@@ -1,15 +1,15 @@
-//! What the texts of a request define.
+//! The answer of a request.
 
 use std::alloc::Global;
 use std::marker::Model;
 use timing_report::Status;
 
-/// What the texts of a request define: the bytes on standard output, and the status. Contracts see
-/// the bytes.
+/// The answer of a request: the bytes on standard output, and the status. In contracts `text` is a list of bytes.
 #[derive(Drop)]
 pub struct Answer {
-    /// What is printed, whole.
+    /// The output, whole.
     pub text: Vec<u8>,
+    /// The status with which the program ends.
     pub status: Status,
 }
 
@@ -25,7 +25,7 @@ impl Answer {
     ghost use Rattle.std.specs.Prelude.{◌≡◌};
     ghost use Rattle.timing_reach.specs.steps.Answers.{silent};
 
-    /// Nothing on standard output, and this status.
+    /// Returns an answer without output.
     pub fn silent(alloc: Global, status: Status) -> Answer
         ensures { result ≡ silent status }
     {

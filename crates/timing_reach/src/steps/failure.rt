@@ -1,13 +1,13 @@
-//! Why a run has no answer.
+//! The reasons for which a run has no answer.
 
 use std::alloc::{AllocError, AllocFailed};
 use timing_outside::OpenFault;
 use timing_report::{Input, Status};
 
-/// Why a run has no answer, or not the whole of it on its output.
+/// The reason why a run has no answer, or only a prefix of it on its output.
 #[derive(Clone, Copy)]
 pub enum Failure {
-    /// This input couldn't be fetched, or a read of it failed.
+    /// This input couldn't be opened, or a read of it failed.
     ReadFault(Input),
     /// A write on standard output failed.
     WriteFault,
@@ -56,7 +56,7 @@ impl Failure {
     ghost use Rattle.std.specs.Prelude.{◌≡◌};
     ghost use Rattle.timing_reach.specs.steps.Fetched.{unread};
 
-    /// Why an input that couldn't be opened or read wasn't.
+    /// Returns the failure for an input that couldn't be opened or read.
     pub fn of_input(fault: OpenFault, input: Input) -> Failure
         ensures { result ≡ unread fault input }
     {

@@ -1,4 +1,4 @@
-//! The texts of a request's names: the session of a description, and the sources of captures.
+//! Opens the inputs of a request: reads an SDP as a session, and opens captures as sources.
 
 ghost use Rattle.std.specs.Prelude.{◌≡◌, ◌≤◌, ◌<◌, ℕ, List, All, Some, IfOk, IfErr, IsErrOf, length};
 ghost use Rattle.timing_base.specs.Targets.{HaveOwnTargets};
@@ -19,10 +19,10 @@ use timing_base::{FileName, Session};
 use timing_outside::{OpenFault, Shelf};
 use timing_report::Input;
 
-/// The bytes of a session description that are read: one more than it may have.
+/// The greatest number of bytes that are read of an SDP: one more than an SDP may have.
 const SDP_MOST: usize = 1_048_577;
 
-/// The session of the description of this name, or its first fault.
+/// Returns the session of the SDP with this name, or the first fault of the SDP.
 pub fn fetch_session<H: Shelf>(
     alloc: Global,
     shelf: &mut H,
@@ -47,7 +47,7 @@ pub fn fetch_session<H: Shelf>(
     }
 }
 
-/// Fetches a text, to be read as a classic capture: its source, at the start of its classic text.
+/// Opens an input as a classic capture, and returns its source at the start.
 pub fn fetch_classic<H: Shelf>(
     alloc: Global,
     shelf: &mut H,
@@ -72,8 +72,7 @@ pub fn fetch_classic<H: Shelf>(
     }
 }
 
-/// Gives a source back to the shelf that it is of. Where a read of it has failed, the count of its
-/// name rises.
+/// Gives a source back to its shelf. If a read of it failed, the count of faults of its name rises.
 pub fn give_back<H: Shelf>(shelf: &mut H, source: Classic<H::Source>)
     ensures raised { 0 < faults_of H.Source.faults source
         → Rose (H.faults shelf.old (name_of H.Source.name source))
@@ -83,8 +82,8 @@ pub fn give_back<H: Shelf>(shelf: &mut H, source: Classic<H::Source>)
     shelf.give_back(source.into_inner());
 }
 
-/// Fetches the captures of these names in order, and puts their sources at the end of a list. Where
-/// one can't be fetched, those before it stay there.
+/// Opens the captures with these names in order, and appends their sources to a list. If one can't be opened, those
+/// before it stay in the list.
 fn fetch_each<H: Shelf>(
     alloc: Global,
     shelf: &mut H,
@@ -115,8 +114,7 @@ fn fetch_each<H: Shelf>(
     Ok(())
 }
 
-/// Gives these sources back to the shelf that they are of. Where a read of one has failed, the count
-/// of its name rises.
+/// Gives these sources back to their shelf. For each with a failed read, the count of faults of its name rises.
 pub fn give_back_all<H: Shelf>(shelf: &mut H, sources: Vec<Classic<H::Source>>)
     ensures raised { All (λ source. 0 < faults_of H.Source.faults source
         → Rose (H.faults shelf.old (name_of H.Source.name source))
@@ -128,8 +126,10 @@ pub fn give_back_all<H: Shelf>(shelf: &mut H, sources: Vec<Classic<H::Source>>)
     }
 }
 
-/// The sources of the captures of these names, in order, each at the start of its classic text. The first
-/// that can't be fetched is named; then those before it go back to the shelf.
+/// Returns the sources of the captures with these names, in order, each at its start as a classic capture.
+///
+/// Returns `ReadFault` with the first one that can't be opened, and `OutOfMemory` if memory runs out. Then those before
+/// it go back to the shelf.
 pub fn fetch_captures<H: Shelf>(
     alloc: Global,
     shelf: &mut H,

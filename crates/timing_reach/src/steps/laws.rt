@@ -1,5 +1,4 @@
-//! What holds of the definitions themselves. Each function is a theorem: it does nothing, and its
-//! clauses are proved.
+//! Laws of the definitions. Each function is a theorem: it does nothing, and its clauses are proved.
 
 ghost use Rattle.std.specs.Prelude.{◌≡◌, ⊤, List, ℕ, Result, Ok, Err};
 ghost use Rattle.timing_report.specs.declared.status.Input.{Input};
@@ -10,10 +9,12 @@ ghost use Rattle.timing_reach.specs.steps.Ran.{Appended, Broke, HasCause, IsAnsw
 ghost use Rattle.timing_reach.specs.declared.steps.failure.Failure.{Failure};
 ghost use Rattle.timing_reach.specs.declared.steps.failure.Failure.TheVariants as failure;
 
-/// What the status of a run says, whatever its request is. A read fault is the outcome's own, so the
-/// count of the input rose that it names. After a write fault the count of standard output rose, and a
-/// front of the answer stands there that isn't the whole. After the status of an answer that answer is
-/// the outcome, and its whole text stands there.
+/// The meaning of the status of a run, for every request.
+///
+/// - `read`: after a read fault, the outcome is that read fault, so that the count of faults of the named input rose.
+/// - `write`: after a write fault, the count of faults of standard output rose, and a prefix of the answer stands there
+///   that isn't the whole.
+/// - `answered`: after the status of an answer, that answer is the outcome, and its whole text was printed.
 pub fn statuses_have_causes()
     ensures read { (o : Output) (outcome : Result Answer Failure) (ends : Status) (input : Input)
         → Leaves o outcome ends → HasCause outcome (λ i. ⊤) → ends ≡ status.ReadFault input

@@ -1,4 +1,4 @@
-//! How a run ends: its answer is printed, and standard error is told why there is none.
+//! Ends a run: prints its answer on standard output, or the reason why there is none on standard error.
 
 ghost use Rattle.std.specs.Prelude.{◌≡◌, ◌≤◌, Result};
 ghost use Rattle.timing_reach.specs.steps.Answers.{Answer as AnswerValue};
@@ -9,8 +9,8 @@ use crate::steps::failure::Failure;
 use timing_outside::{Sink, put_all};
 use timing_report::Status;
 
-/// Prints an answer, and answers its status. After a write that failed a front of it stands on the
-/// sink. Where there is no answer nothing is printed.
+/// Prints an answer, and returns its status. If a write fails, the sink has a prefix of the answer that isn't the
+/// whole. Without an answer nothing is printed.
 fn print<K: Sink>(out: &mut K, outcome: Result<Answer, Failure>) -> Status
     ensures printed { Leaves (output_of K.Sink out.old out.new) outcome result }
     ensures later { K.faults out.old ≤ K.faults out.new }
@@ -24,8 +24,7 @@ fn print<K: Sink>(out: &mut K, outcome: Result<Answer, Failure>) -> Status
     }
 }
 
-/// Tells on standard error why there is no report, where there is none. A write that fails there
-/// changes no answer.
+/// Prints the line of the status on standard error, if it has one. A write that fails there doesn't change the status.
 fn tell<K: Sink>(err: &mut K, status: &Status)
     ensures line { TellsLine (output_of K.Sink err.old err.new) status.now }
     ensures later { K.faults err.old ≤ K.faults err.new }
@@ -34,8 +33,8 @@ fn tell<K: Sink>(err: &mut K, status: &Status)
     let _ = put_all(err, line.as_str().as_bytes());
 }
 
-/// Ends a run: prints the answer on `out`, or tells on `err` why there is none, and answers the
-/// status. The text is written as one; a write that fails leaves a front of it that isn't the whole.
+/// Ends a run: prints the answer on `out`, or on `err` the reason why there is none, and returns the status. If a write
+/// on `out` fails, `out` has a prefix of the answer that isn't the whole, and the status is `WriteFault`.
 pub fn conclude<K: Sink>(out: &mut K, err: &mut K, outcome: Result<Answer, Failure>) -> Status
     ensures printed { Leaves (output_of K.Sink out.old out.new) outcome result }
     ensures told { TellsLine (output_of K.Sink err.old err.new) result }

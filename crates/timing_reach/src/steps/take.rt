@@ -1,4 +1,4 @@
-//! The records of a capture, taken from its source.
+//! Takes the packet records of a capture from its source.
 
 ghost use Rattle.std.specs.Prelude.{◌≡◌, ◌≢◌, ◌≤◌, ◌+◌, ◌^◌, ℕ, List, Some, IfOk, IfErr};
 ghost use Rattle.timing_base.specs.declared.capture.FileNote.TheVariants as file_note;
@@ -18,8 +18,10 @@ use std::alloc::{AllocError as OutOfMemory, Global};
 use timing_outside::{Shelf, Source};
 use timing_report::Input;
 
-/// Takes the records of a capture, the number of each raised by `before`, and gives the source back. The
-/// capture's number, from 0, is named where a read of it failed.
+/// Takes the packet records of a capture, with `before` added to their numbers, and gives the source back to the shelf.
+/// `number` is the number of the capture, from 0.
+///
+/// Returns `ReadFault` with that number if a read failed, and `OutOfMemory` if memory runs out.
 pub fn take_source<H: Shelf, T: Taker<Stop = OutOfMemory>>(
     alloc: Global,
     shelf: &mut H,

@@ -1,4 +1,4 @@
-//! Texts that are read whole, up to a limit.
+//! Reads inputs into memory, up to a limit.
 
 ghost use Rattle.std.specs.Prelude.{◌≡◌, ◌≤◌, ◌<◌, ◌++◌, ℕ, List, Some, IfOk, IsErrOf, length, take, vec_len};
 ghost use Rattle.std.specs.Io.KnownBytes.{Consumes, IsAtEnd};
@@ -8,18 +8,18 @@ ghost use Rattle.timing_outside.specs.Shelves.{StaysAs};
 use std::alloc::{AllocError as OutOfMemory, AllocFailed, Global};
 use timing_outside::{OpenFault, Shelf, Source};
 
-/// Bytes asked for in one read of a text.
+/// The bytes that one read asks for.
 const PIECE: usize = 65_536;
 
-/// So many bytes, all 0.
+/// Returns `size` bytes, all 0.
 fn blank(alloc: Global, size: usize) -> Result<Vec<u8>, OutOfMemory>
     ensures { IfOk result (λ v. vec_len v ≡ size) }
 {
     vec![in alloc; 0u8; size]
 }
 
-/// Reads once into `piece`, `room` bytes at most, and appends what came to `text`. Answers how many
-/// bytes came.
+/// Reads once into `piece`, at most `room` bytes, and appends them to `text`. Returns the number of bytes that were
+/// read.
 fn read_more<S: Source>(
     source: &mut S,
     piece: &mut [u8],
@@ -41,7 +41,7 @@ fn read_more<S: Source>(
     Ok(count)
 }
 
-/// The first bytes that the source has left, `most` of them at most.
+/// Returns the first bytes that the source has left, at most `most`.
 pub fn read_front<S: Source>(
     alloc: Global,
     source: &mut S,
@@ -64,8 +64,7 @@ pub fn read_front<S: Source>(
     Ok(text)
 }
 
-/// The first bytes of the text of this name, `most` of them at most. The source goes back to the
-/// shelf.
+/// Returns the first bytes of the input with this name, at most `most`, and gives its source back to the shelf.
 pub fn fetch_front<H: Shelf>(
     alloc: Global,
     shelf: &mut H,

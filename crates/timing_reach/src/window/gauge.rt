@@ -1,4 +1,4 @@
-//! The judged packets of a flow are measured while it comes.
+//! Measures the judged packets of a flow while it is read.
 
 ghost use Rattle.std.specs.Prelude.{◌≡◌, ◌≤◌, ◌<◌, ◌+◌, ◌*◌, ◌^◌, ◌++◌, ◌∷◌, [], ℕ, List, All, IfOk, length};
 ghost use Rattle.timing_base.specs.Captures.{IsStamp};
@@ -12,10 +12,10 @@ use sender_params::Params;
 use std::alloc::{AllocError as OutOfMemory, Global};
 use timing_base::{FlowPacket, Media};
 
-/// The most packets that a group may have (this project's profile).
+/// The greatest number of packets in a frame or field (this project's profile).
 const MOST: usize = 262_144;
 
-/// Whether a packet has the marker; one that wasn't read has none.
+/// Returns whether a packet has the marker. A packet that wasn't read as RTP has none.
 #[inline]
 fn is_last_of_group(packet: &FlowPacket) -> bool
     ensures { result ≡ (read_or_zeros packet.now.rtp).marker }
@@ -26,10 +26,10 @@ fn is_last_of_group(packet: &FlowPacket) -> bool
     }
 }
 
-/// The packets of a first group so far.
+/// The packets of a first frame or field so far.
 #[derive(Drop)]
 struct FirstGroup {
-    /// In nanoseconds of TAI.
+    /// Their arrivals, in nanoseconds of TAI.
     stamps: Vec<u64>,
     ghost most: { length stamps.items ≤ 262144 },
     ghost early: { All (λ at. at < 2 ^ 62) stamps.items },
@@ -38,7 +38,7 @@ struct FirstGroup {
 impl FirstGroup {
     ghost use Rattle.timing_reach.specs.window.Gauging.{HasPushed};
 
-    /// Before the first packet.
+    /// Returns no packets.
     fn new(alloc: Global) -> FirstGroup
         ensures { result.stamps.items ≡ [] }
     {
@@ -47,7 +47,8 @@ impl FirstGroup {
         }
     }
 
-    /// Takes the next packet, where a group may have so many, and answers whether it may.
+    /// Takes the next packet, and returns whether it did: it doesn't if there are `MOST` packets already. Returns `Err`
+    /// if memory runs out.
     #[cold]
     #[inline(never)]
     fn push(&mut self, at: u64) -> Result<bool, OutOfMemory>
@@ -62,20 +63,20 @@ impl FirstGroup {
     }
 }
 
-/// A flow with a whole group.
+/// A flow with a whole frame or field.
 #[derive(Clone, Copy)]
 struct GroupGauge {
     params: Params,
-    /// The meters of all packets behind the first marker.
+    /// The meters, with all packets behind the first marker.
     meters: WindowMeters,
-    /// The meters as they stood at the last marker.
+    /// The meters at the last marker.
     at_marker: WindowMeters,
 }
 
 impl GroupGauge {
     ghost use Rattle.timing_reach.specs.window.Gauging.{IsMetered, count_seen};
 
-    /// After the last packet of the first group.
+    /// Returns the gauge after the last packet of the first frame or field.
     #[cold]
     #[inline(never)]
     fn first(media: &Media, group: &FirstGroup) -> GroupGauge
@@ -109,24 +110,24 @@ impl GroupGauge {
     }
 }
 
-/// What of a flow is measured, as far as it has come.
+/// The part of a flow that is being measured.
 #[derive(Drop)]
 enum Part {
-    /// No packet has the marker yet.
+    /// No packet has had the marker yet.
     Head,
-    /// The first group goes on. Its size isn't known yet, so its stamps are kept.
+    /// The first frame or field isn't whole. Its size isn't known yet, so its arrivals are kept.
     First(FirstGroup),
-    /// The first group is whole.
+    /// The first frame or field is whole.
     Groups(GroupGauge),
-    /// The first group has more packets than a group may have, so the flow isn't judged.
+    /// The first frame or field has more than 262,144 packets, so that the flow isn't judged.
     TooLarge,
 }
 
 impl Part {
     ghost use Rattle.timing_reach.specs.window.Gauging.{AreWindowsIn, HasCome, count_kept};
 
-    /// Takes the next packet, which came at `at`, in nanoseconds of TAI, and is or isn't the last of a group. `Err` is
-    /// want of memory, for the stamps of the first group.
+    /// Takes the next packet, which came at `at`, in nanoseconds of TAI; `last` if it has the marker. Returns `Err` if
+    /// memory runs out, which it can only for the arrivals of the first frame or field.
     #[inline(always)]
     fn feed(&mut self, alloc: Global, media: &Media, at: u64, last: bool) -> Result<(), OutOfMemory>
         requires in_time { at < 2 ^ 62 }
@@ -154,7 +155,7 @@ impl Part {
         Ok(())
     }
 
-    /// The windows of the packets up to the last marker, where the flow has a whole group.
+    /// Returns the windows of the packets up to the last marker, if the flow has a whole frame or field.
     fn windows(&self) -> Option<Windows>
         ensures { (m : MediaValue) (so_far : SoFar) → HasCome m self.now so_far
             → AreWindowsIn m (outcome_of so_far) result }
@@ -166,12 +167,12 @@ impl Part {
     }
 }
 
-/// The gauge of a flow: it is passed the flow's packets, one by one and in order.
+/// The gauge of a flow, which is passed its packets in order.
 #[derive(Drop)]
 pub struct Gauge {
     alloc: Global,
     media: Media,
-    /// What is added to the stamps, in nanoseconds.
+    /// The time that is added to every capture timestamp, in nanoseconds.
     added: u64,
     part: Part,
     ghost added_small: { added ≤ 10 ^ 12 },
@@ -181,7 +182,7 @@ impl Gauge {
     ghost use Rattle.timing_base.specs.Judged.{run_outcome};
     ghost use Rattle.timing_reach.specs.window.Gauging.{AreWindowsIn, IsGauged, Passes, count_gauged};
 
-    /// The gauge of this media before the first packet. `tai` seconds are added to the stamps.
+    /// Returns the gauge of this media before the first packet. `tai` seconds are added to every capture timestamp.
     pub fn new(alloc: Global, media: &Media, tai: u64) -> Gauge
         requires { tai ≤ 1000 }
         ensures kept { count_gauged result ≡ 0 }
@@ -195,7 +196,7 @@ impl Gauge {
         }
     }
 
-    /// Passes the next packet of the flow. `Err` is want of memory.
+    /// Takes the next packet of the flow. Returns `Err` if memory runs out.
     #[inline(always)]
     pub fn pass(&mut self, packet: &FlowPacket) -> Result<(), OutOfMemory>
         requires stamp { IsStamp packet.now.at }
@@ -208,7 +209,7 @@ impl Gauge {
             .feed(self.alloc, &self.media, at, is_last_of_group(packet))
     }
 
-    /// The windows of the judged packets, where the flow has a whole group and ends here.
+    /// Returns the windows of the judged packets, if the flow ends here and has a whole frame or field.
     pub fn windows(&self) -> Option<Windows>
         ensures { (m : MediaValue) (tai : ℕ) (packets : List _) → IsGauged m tai self.now packets
             → AreWindowsIn m (run_outcome packets tai 0 (length packets)) result }

@@ -9,11 +9,14 @@ use offset_window::WindowMeter;
 use sender_params::Params;
 use timing_base::Kind;
 
-/// The windows of the packets so far of one flow, for each sender type.
+/// The windows of the packets of a flow so far, for each sender type.
 #[derive(Clone, Copy)]
 pub struct WindowMeters {
+    /// The meter of type N.
     pub narrow: WindowMeter,
+    /// The meter of type NL.
     pub narrow_linear: WindowMeter,
+    /// The meter of type W.
     pub wide: WindowMeter,
     ghost same_linear: { narrow_linear.seen ≡ narrow.seen },
     ghost same_wide: { wide.seen ≡ narrow.seen },
@@ -24,7 +27,7 @@ impl WindowMeters {
     ghost use Rattle.timing_reach.specs.window.Gauging.{AreFed, count_seen};
     ghost use Rattle.timing_reach.specs.Windows.{AreWindowsOf};
 
-    /// The meters of a flow whose first packet is of group `n0`, before that packet.
+    /// Returns the meters before the first packet of a flow; `n0` is the number of the frame or field of that packet.
     pub fn new(params: &Params, n0: i128) -> WindowMeters
         requires low { negsuc 479 ≤ℤ n0 }
         requires high { n0 ≤ℤ pos (2 ^ 42) }
@@ -38,7 +41,7 @@ impl WindowMeters {
         }
     }
 
-    /// The meters of a flow with these stamps, in nanoseconds of TAI.
+    /// Returns the meters of packets with these arrivals, in nanoseconds of TAI.
     pub fn of(params: &Params, stamps: &[u64]) -> WindowMeters
         requires some { 1 ≤ length stamps.now }
         requires few { length stamps.now < 2 ^ 40 }
@@ -54,7 +57,7 @@ impl WindowMeters {
         meters
     }
 
-    /// Puts in the packet that came at `at`, in nanoseconds of TAI.
+    /// Adds the packet that came at `at`, in nanoseconds of TAI.
     #[inline(always)]
     pub fn feed(&mut self, params: &Params, at: u64)
         requires in_time { at < 2 ^ 62 }
@@ -68,7 +71,7 @@ impl WindowMeters {
         self.wide.feed(params, at);
     }
 
-    /// The windows of the packets that were fed.
+    /// Returns the windows of the packets that were added.
     pub fn finish(&self) -> Windows
         ensures { (params : Params) (stamps : List ℕ)
             → AreFed params (anchor_of params.media (slice_index stamps 0)) self.now stamps

@@ -1,37 +1,38 @@
-//! The one reading of a flow: it is measured while it is judged.
+//! Reads a flow once: it is measured while it is judged.
 
 ghost use Rattle.std.specs.Prelude.{◌≡◌, ◌<◌, ◌≤◌, ◌^◌, [], ℕ, List, IfOk, Some};
 ghost use Rattle.timing_base.specs.Media.{Media as MediaValue};
 ghost use Rattle.timing_base.specs.declared.key.FlowKey.{FlowKey as KeyValue};
 ghost use Rattle.timing_base.specs.declared.packet.FlowPacket.{FlowPacket as PacketValue};
 
-use crate::judged::feeding::{expected_of, feed_expected};
-use crate::judged::flows::FlowTaker;
 use crate::window::gauge::Gauge;
 use crate::window::windows::Windows;
-use fail_interval::FlowJudge;
+use fail_interval::Metered;
+use flow_demux::FlowTaker;
 use std::alloc::{AllocError as OutOfMemory, Global};
 use timing_base::{FlowKey, FlowPacket, Media, Rtp, Verdict};
 
-/// What a reading comes to: the verdict on the flow, and the windows of its judged packets, where it is judged in one
-/// run.
+/// The result of reading a flow: the verdict on it, and the windows of its judged packets if it is judged in one run.
 #[derive(Drop)]
 pub struct Measured {
+    /// The verdict on the flow.
     pub verdict: Verdict,
+    /// The windows of the judged packets, in microseconds; present if the flow is judged in one run.
     pub windows: Option<Windows>,
 }
 
 /// The judge of a flow, and its gauge.
 #[derive(Drop)]
 pub struct Reading {
-    judge: FlowJudge<()>,
+    judge: Metered<(), ()>,
     gauge: Gauge,
 }
 
 impl Reading {
     ghost use Rattle.timing_reach.specs.window.Readings.{HasRoom, IsMeasured, IsReading};
 
-    /// Before the first record, of the flow of this media. `tai` seconds are added to the stamps.
+    /// Returns a reading of the flow of this media before the first packet record. `tai` seconds are added to every
+    /// capture timestamp.
     pub fn new(alloc: Global, media: &Media, number: u32, tai: u64) -> Reading
         requires { tai ≤ 1000 }
         ensures room { HasRoom (2 ^ 36) result }
@@ -42,33 +43,35 @@ impl Reading {
             media: number,
         };
         Reading {
-            judge: FlowJudge::new(alloc, media, key, tai),
+            judge: Metered::new(alloc, media, key, tai, ()),
             gauge: Gauge::new(alloc, media, tai),
         }
     }
 
-    /// What comes of the flow, where it ends here. `Err` is want of memory.
+    /// Returns the result if the flow ends here. Returns `Err` if memory runs out.
     pub fn finish(self) -> Result<Measured, OutOfMemory>
         ensures { IfOk result (λ measured. (m : MediaValue) (key : KeyValue) (tai : ℕ) (packets : List PacketValue)
             → IsReading m key tai self packets → IsMeasured m tai packets measured) }
     {
         let Reading { judge, gauge } = self;
+        let (row, _) = judge.finish()?;
         Ok(Measured {
-            verdict: judge.finish(&mut ())?.verdict,
+            verdict: row.verdict,
             windows: gauge.windows(),
         })
     }
 }
 
 impl FlowTaker for Reading {
-    ghost use Rattle.timing_reach.specs.window.Readings.{Expects, HasRoom, ReadsOn, reads_more, reads_none};
+    ghost use Rattle.fail_interval.specs.Meterings.{expected_next};
+    ghost use Rattle.timing_reach.specs.window.Readings.{HasRoom, ReadsOn, reads_more, reads_none};
     ghost use Rattle.timing_reach.specs.window.Readings.{reads_other, room_less};
 
     ghost takes = { ReadsOn };
 
     ghost room = { HasRoom };
 
-    ghost expects = { Expects };
+    ghost expects = { λ x. expected_next x.judge };
 
     ghost none = { reads_none };
 
@@ -80,18 +83,21 @@ impl FlowTaker for Reading {
 
     #[inline(always)]
     fn expected(&self) -> Option<Rtp> {
-        expected_of(&self.judge)
+        self.judge.expected()
     }
 
     #[inline(always)]
-    fn take(&mut self, packet: &FlowPacket, _frame: &[u8]) -> Result<(), OutOfMemory> {
-        self.judge.feed(packet.rec, packet.at, packet.rtp, &mut ())?;
-        self.gauge.pass(packet)
+    fn take_next(&mut self, packet: &FlowPacket, frame: &[u8]) -> Result<bool, OutOfMemory> {
+        if !self.judge.take_next(packet, frame)? {
+            return Ok(false);
+        }
+        self.gauge.pass(packet)?;
+        Ok(true)
     }
 
     #[inline(always)]
-    fn take_expected(&mut self, packet: &FlowPacket, _frame: &[u8]) -> Result<(), OutOfMemory> {
-        feed_expected(&mut self.judge, packet)?;
+    fn take(&mut self, packet: &FlowPacket, frame: &[u8]) -> Result<(), OutOfMemory> {
+        self.judge.take(packet, frame)?;
         self.gauge.pass(packet)
     }
 }

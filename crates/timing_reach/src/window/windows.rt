@@ -1,4 +1,4 @@
-//! What `window` prints.
+//! The lines that `window` prints.
 
 ghost use Rattle.std.specs.Prelude.{◌≡◌, ◌++◌, IfOk, string_bytes};
 ghost use Rattle.timing_report.specs.declared.status.Status.TheVariants as status;
@@ -11,18 +11,22 @@ use std::fmt;
 use timing_base::Kind;
 use timing_report::{Status, kind_name};
 
-/// The offsets that would keep the buffer of a flow, for each sender type.
+/// The offsets with which the receiver buffer would neither underflow nor overflow, for each sender type, in
+/// microseconds.
 #[derive(Clone, Copy)]
 pub struct Windows {
+    /// The window of type N.
     pub narrow: Window,
+    /// The window of type NL.
     pub narrow_linear: Window,
+    /// The window of type W.
     pub wide: Window,
 }
 
 /// The packet that binds an end, as a line has it.
 #[derive(Clone, Copy)]
 struct BindingWord {
-    /// Counted from 0.
+    /// The packet, counted from 0.
     packet: Option<u64>,
 }
 
@@ -74,7 +78,7 @@ fn add_line(text: &mut String, kind: Kind, window: Window) -> Result<(), OutOfMe
     writeln!(text, "{name} lower {lower}, upper {upper}")
 }
 
-/// The lines of the three types, and status 0.
+/// Returns the answer with the lines of the three types, and status 0. Returns `Err` if memory runs out.
 pub fn windowed(alloc: Global, windows: &Windows) -> Result<Answer, OutOfMemory>
     ensures { IfOk result (λ answer. answer
         ≡ record { text = windows_text windows.now; status = status.Pass }) }

@@ -1,6 +1,6 @@
--- The report as JSON (RFC 8259): one value without spaces, and a line end. An object has its members in the byte order
--- of their keys, in whatever order they are put in. Captures and media count from 1, as do records; packets count from
--- 0.
+-- The report as JSON (RFC 8259): one value without spaces, and a newline. The members of an object stand in the byte
+-- order of their keys, in whatever order they are put in. Captures, media and packet records count from 1, packets from
+-- 0. Counts and limits are packets.
 use Rattle.std.specs.Prelude.{ℕ, ◌+◌, Bool, true, false, List, [], ◌∷◌, ◌++◌, map, Option, Some, None, codes}
 use Rattle.serde_json.specs.Data.{Data, number, unsigned, boolean, string, array, object, Members, no_members, put}
 use Rattle.serde_json.specs.View.{items_of}
@@ -34,12 +34,12 @@ use Rattle.timing_report.specs.Words.{kind_name, declared_name, class_name, mode
 abbrev pub Member : Type 0
 Member = List ℕ × Data
 
--- the members of an object, with more put in
+-- the members of an object, after these were put in
 abbrev pub with_members : List Member → Members → Members
 with_members [] found = found
 with_members (m ∷ ms) found = with_members ms (put m.0 m.1 found)
 
--- the object with these members
+-- an object with these members
 abbrev pub object_of : List Member → Data
 object_of ms = object (with_members ms no_members)
 
@@ -47,11 +47,11 @@ object_of ms = object (with_members ms no_members)
 abbrev pub count : ℕ → Data
 count n = number (unsigned n)
 
--- a list
+-- an array
 abbrev pub list_of : List Data → Data
 list_of ds = array (items_of ds)
 
--- the members of a fail
+-- the members of a violation
 abbrev pub proof_members : FailProof → List Member
 proof_members proof =
     (codes "count", count proof.count)
@@ -60,16 +60,16 @@ proof_members proof =
     ∷ (codes "model", string (model_name proof.model))
     ∷ (codes "to", count proof.to) ∷ []
 
--- a fail
+-- a violation
 abbrev pub proof_data : FailProof → Data
 proof_data proof = object_of (proof_members proof)
 
--- whether a type passes, and what shows that it fails
+-- whether a type passes, and if it fails, the violation
 abbrev pub outcome_members : KindVerdict → List Member
 outcome_members kind_verdict.Pass = (codes "pass", boolean true) ∷ []
 outcome_members (kind_verdict.Fail proof) = (codes "pass", boolean false) ∷ (codes "proof", proof_data proof) ∷ []
 
--- the members of a type that comes to this
+-- the members of a sender type with this verdict
 abbrev pub type_members : Media → Judged → Kind → KindVerdict → List Member
 type_members media judged kind outcome =
     (codes "bucket_limit", count (c_max_of media judged.n kind))
@@ -78,15 +78,15 @@ type_members media judged kind outcome =
     ∷ (codes "buffer_peak", count (buffer_peak judged kind))
     ∷ (codes "type", string (kind_name kind)) ∷ outcome_members outcome
 
--- a type
+-- a sender type
 abbrev pub type_data : Media → Judged → Kind → Data
 type_data media judged kind = object_of (type_members media judged kind (verdict_on judged kind))
 
--- the types N, NL and W
+-- the sender types N, NL and W
 abbrev pub types_data : Media → Judged → Data
 types_data media judged = list_of (map (type_data media judged) (N ∷ NL ∷ W ∷ []))
 
--- of an interlaced media alone
+-- `interlaced`, which only an interlaced media has
 abbrev pub interlaced_members : Bool → List Member
 interlaced_members true = (codes "interlaced", boolean true) ∷ []
 interlaced_members false = []
@@ -100,7 +100,7 @@ judged_numbers judged =
     ∷ (codes "packets", count judged.packets)
     ∷ (codes "tail", count judged.tail) ∷ []
 
--- what a judged run says
+-- the class, the declared type and the results for each type of a judged run
 abbrev pub judged_words : Media → Judged → List Member
 judged_words media judged =
     (codes "class", string (class_name (first_passing judged)))
@@ -108,15 +108,15 @@ judged_words media judged =
     ∷ (codes "types", types_data media judged)
     ∷ (codes "verdict", string (codes "judged")) ∷ interlaced_members media.interlaced
 
--- a judged run
+-- the members of a judged run
 abbrev pub judged_members : Media → Judged → List Member
 judged_members media judged = judged_numbers judged ++ judged_words media judged
 
--- a run without a whole group
+-- the members of a run without a whole frame or field
 abbrev pub no_whole_frame_members : ℕ → List Member
 no_whole_frame_members head = (codes "head", count head) ∷ (codes "verdict", string (codes "no whole frame")) ∷ []
 
--- a flow without a verdict
+-- the members of a flow that was not judged
 abbrev pub unjudged_members : Unjudged → List Member
 unjudged_members unjudged.Absent = (codes "verdict", string (codes "absent")) ∷ []
 unjudged_members (unjudged.NoWholeFrame head) = no_whole_frame_members head
@@ -127,21 +127,21 @@ unjudged_members (unjudged.Gap rec expected got) =
     (codes "expected", count expected) ∷ (codes "got", count got) ∷ (codes "record", count rec)
     ∷ (codes "verdict", string (codes "gap")) ∷ []
 
--- the verdict on a run between gaps
+-- the members of the verdict on a run between gaps
 abbrev pub run_verdict_members : Media → RunVerdict → List Member
 run_verdict_members media (run_verdict.NoWholeFrame head) = no_whole_frame_members head
 run_verdict_members media (run_verdict.Judged judged) = judged_members media judged
 
--- the number that would have gone on from the run before, after the first run
+-- the extended sequence number that would have continued the run before; absent in the first run
 abbrev pub expected_members : Option ℕ → List Member
 expected_members None = []
 expected_members (Some expected) = (codes "expected", count expected) ∷ []
 
--- the first record and number of a run
+-- the first packet record and extended sequence number of a run, and the number that was expected there
 abbrev pub run_members : Run → List Member
 run_members run = (codes "number", count run.number) ∷ (codes "record", count run.rec) ∷ expected_members run.expected
 
--- the members of a run between gaps
+-- all members of a run between gaps
 abbrev pub whole_run_members : Media → Run → List Member
 whole_run_members media run = run_members run ++ run_verdict_members media run.verdict
 
@@ -149,14 +149,14 @@ whole_run_members media run = run_members run ++ run_verdict_members media run.v
 abbrev pub run_data : Media → Run → Data
 run_data media run = object_of (whole_run_members media run)
 
--- a verdict
+-- the members of a verdict
 abbrev pub verdict_members : Media → Verdict → List Member
 verdict_members media (verdict.Unjudged unjudged) = unjudged_members unjudged
 verdict_members media (verdict.Judged judged) = judged_members media judged
 verdict_members media (verdict.Runs runs) =
     (codes "runs", list_of (map (run_data media) runs)) ∷ (codes "verdict", string (codes "runs")) ∷ []
 
--- which flow
+-- the members that name the flow
 abbrev pub key_members : Media → FlowKey → List Member
 key_members media key =
     (codes "file", count (key.file + 1)) ∷ (codes "media", count (key.media + 1))
@@ -170,11 +170,11 @@ flow_members media key verdict = key_members media key ++ verdict_members media 
 abbrev pub flow_data : Media → Row → Data
 flow_data media row = object_of (flow_members media row.key row.verdict)
 
--- a flow
+-- the flow of a result
 abbrev pub row_data : List Media → Row → Data
 row_data session row = flow_data (media_of session row.key) row
 
--- the members of a capture: how it ends, and its name
+-- the members of a capture: how it ends, and its file name
 abbrev pub file_members : List ℕ → FileNote → List Member
 file_members name note = (codes "end", string (note_text note)) ∷ (codes "name", string name) ∷ []
 
@@ -182,7 +182,7 @@ file_members name note = (codes "end", string (note_text note)) ∷ (codes "name
 abbrev pub file_data : List ℕ → FileNote → Data
 file_data name note = object_of (file_members name note)
 
--- the captures
+-- the captures, by their names and how each ends
 abbrev pub files_data : List (List ℕ) → List FileNote → List Data
 files_data (name ∷ names) (note ∷ notes) = file_data name note ∷ files_data names notes
 files_data [] notes = []
@@ -195,10 +195,10 @@ report_members job session notes rows =
     ∷ (codes "flows", list_of (map (row_data session) rows))
     ∷ (codes "status", count (code_of (status_of session notes rows))) ∷ []
 
--- the report
+-- the report as a JSON value
 abbrev pub report_data : CheckJob → List Media → List FileNote → List Row → Data
 report_data job session notes rows = object_of (report_members job session notes rows)
 
--- the report as text
+-- the report as text, with its newline
 abbrev pub json_text : CheckJob → List Media → List FileNote → List Row → List ℕ
 json_text job session notes rows = compact_text (report_data job session notes rows) ++ codes "\n"

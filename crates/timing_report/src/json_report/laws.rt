@@ -1,5 +1,5 @@
-//! The JSON of reports tried by hand. Each function is a theorem: it does nothing, and its clauses
-//! are proved.
+//! Examples of JSON reports that are worked by hand, and the law that a report is read back. Each function is a
+//! theorem: it does nothing, and its clauses are proved.
 
 ghost use Rattle.std.specs.Prelude.{◌≡◌, ◌≤◌, ◌++◌, ◌∷◌, [], List, All, IsUtf8, length, None, true, codes};
 ghost use Rattle.serde_json.specs.Written.{compact_text};
@@ -21,7 +21,7 @@ ghost use Rattle.timing_report.specs.Worked.{check_of, fail, first_flow, narrow,
 ghost use Rattle.timing_base.specs.Examples.{plain_media as plain, video};
 ghost use Rattle.timing_report.specs.json_report.Json.{file_data, flow_data, json_text, object_of, type_data, unjudged_members};
 
-/// The entry of a type that fails in JSON.
+/// The JSON of a sender type that fails.
 #[tactic(auto, unfolding(crate::proofs::lemmas::json_report::Numerals::json_texts))]
 pub fn failing_type_by_hand()
     ensures { compact_text (type_data plain (two_frames 1 1 1 (fail model.Empty 1 1 1 2)
@@ -31,7 +31,7 @@ pub fn failing_type_by_hand()
         ++ codes "\"Empty\",\"to\":1},\"type\":\"N\"}") }
 {}
 
-/// A whole report in JSON, of a capture without packets.
+/// A whole JSON report, of a capture without packets.
 #[tactic(auto, unfolding(crate::proofs::lemmas::json_report::Numerals::json_texts))]
 pub fn json_absent_by_hand()
     ensures { json_text (check_of (codes "e.pcap")) (plain ∷ []) (note.End ∷ [])
@@ -41,7 +41,7 @@ pub fn json_absent_by_hand()
         ++ codes "\"status\":4}\n") }
 {}
 
-/// Flows without a verdict in JSON.
+/// The JSON of flows that were not judged.
 #[tactic(auto, unfolding(crate::proofs::lemmas::json_report::Numerals::json_texts))]
 pub fn unjudged_json_by_hand()
     ensures no_frame { compact_text (object_of (unjudged_members (unjudged.NoWholeFrame 5)))
@@ -53,15 +53,14 @@ pub fn unjudged_json_by_hand()
         ≡ codes "{\"expected\":2049,\"got\":2050,\"record\":1026,\"verdict\":\"gap\"}" }
 {}
 
-/// Names in JSON: quotes and backslashes.
+/// File names with quotes and backslashes in JSON.
 #[tactic(auto, unfolding(crate::proofs::lemmas::json_report::Numerals::json_texts))]
 pub fn names_by_hand()
     ensures { compact_text (file_data (codes "a \"b\" \\ c") (note.Cut 2904))
         ≡ codes "{\"end\":\"cut at 2904\",\"name\":\"a \\\"b\\\" \\\\ c\"}" }
 {}
 
-/// A flow of an interlaced video in JSON, in two runs: its keys are in byte order, and so are those of
-/// its runs.
+/// The JSON of an interlaced flow with two runs. Its keys and those of its runs are in byte order.
 #[tactic(auto, unfolding(crate::proofs::lemmas::json_report::Numerals::json_texts))]
 pub fn runs_json_by_hand()
     ensures { compact_text (flow_data (video true 25 None None) (first_flow
@@ -80,8 +79,8 @@ pub fn runs_json_by_hand()
         ++ codes "\"target\":\"239.0.0.1:50000\",\"verdict\":\"runs\"}")))))))))) }
 {}
 
-/// What is made of a report is read back as its own fails, in the order of its flows, where it is not
-/// too long. The numbers of the rows have 64 bits, as they have in the program.
+/// A JSON report that the program writes is read back as the violations of its flows, in their order, if it is not
+/// longer than 16,777,216 bytes. The numbers of the results have 64 bits, as all in the program have.
 pub fn fails_are_read_back()
     ensures { (job : CheckJob) (session : List Media) (notes : List FileNote) (rows : List Row)
         → IsCheckJob job → IsSession session → All IsMedia session → AreRowsOf job session rows

@@ -1,4 +1,4 @@
-//! An object of JSON that is put together member by member.
+//! A JSON object that is built member by member.
 
 ghost use Rattle.std.specs.Prelude.{◌≡◌, IfOk};
 ghost use Rattle.serde_json.specs.Data.{no_members, object, boolean, string, put as with_member};
@@ -18,7 +18,7 @@ pub struct Object {
 impl Object {
     ghost use Rattle.timing_report.specs.json_report.Members.{members};
 
-    /// An object without members.
+    /// Returns an object without members.
     pub fn new(alloc: Global) -> Object
         ensures { members result ≡ no_members }
     {
@@ -28,7 +28,7 @@ impl Object {
         }
     }
 
-    /// Puts a value in.
+    /// Adds a member. Returns `Err` if memory runs out.
     pub fn put(&mut self, key: &str, value: Value) -> Result<(), OutOfMemory>
         ensures { IfOk result
             (λ _. members self.new ≡ with_member key.now (view value) (members self.old)) }
@@ -36,7 +36,7 @@ impl Object {
         serde_json::put(&mut self.map, self.alloc, key, value)
     }
 
-    /// Puts a number in.
+    /// Adds a member with a number. Returns `Err` if memory runs out.
     pub fn put_count(&mut self, key: &str, number: u64) -> Result<(), OutOfMemory>
         ensures { IfOk result
             (λ _. members self.new ≡ with_member key.now (count number) (members self.old)) }
@@ -44,7 +44,7 @@ impl Object {
         self.put(key, Value::from(number))
     }
 
-    /// Puts a text in.
+    /// Adds a member with a string. Returns `Err` if memory runs out.
     pub fn put_text(&mut self, key: &str, text: &str) -> Result<(), OutOfMemory>
         ensures { IfOk result
             (λ _. members self.new ≡ with_member key.now (string text.now) (members self.old)) }
@@ -53,7 +53,7 @@ impl Object {
         self.put(key, value)
     }
 
-    /// Puts true or false in.
+    /// Adds a member that is true or false. Returns `Err` if memory runs out.
     pub fn put_flag(&mut self, key: &str, flag: bool) -> Result<(), OutOfMemory>
         ensures { IfOk result
             (λ _. members self.new ≡ with_member key.now (boolean flag) (members self.old)) }
@@ -61,7 +61,7 @@ impl Object {
         self.put(key, Value::from(flag))
     }
 
-    /// The object as a value.
+    /// Returns the object as a JSON value.
     pub fn into_value(self) -> Value
         ensures { view result ≡ object (members self) }
     {

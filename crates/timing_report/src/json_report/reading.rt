@@ -1,4 +1,4 @@
-//! The fails that a JSON report tells.
+//! Reads the violations of a JSON report.
 
 ghost use Rattle.std.specs.Prelude.{◌≡◌, ◌≤◌, ◌++◌, List, Some, None, IfOk, IsErrOf, option_map, length};
 ghost use Rattle.serde_json.specs.View.{view, items_view};
@@ -10,24 +10,25 @@ use serde_json::Value;
 use std::alloc::{AllocError, Global};
 use timing_base::{Broken, FailProof, FlowKey, Kind};
 
-/// A fail that a report tells.
+/// A violation in a report.
 #[derive(Clone, Copy, Debug, PartialEq, Eq)]
 pub struct ReportProof {
-    /// The flow, its capture and media counted from 0.
+    /// The flow; its capture and its media count from 0.
     pub key: FlowKey,
-    /// The run, counted from 0.
+    /// The run of the flow, counted from 0.
     pub run: u32,
-    /// The type that fails.
+    /// The sender type that fails.
     pub kind: Kind,
+    /// The violation.
     pub proof: FailProof,
 }
 
-/// Why nothing is read of a report.
+/// The reason why a report is not read.
 #[derive(Clone, Copy, Debug, PartialEq, Eq)]
 pub enum ReportError {
     /// The bytes are not in the form of a report.
     Refused,
-    /// Memory ran out; nothing is said of the bytes.
+    /// Memory ran out before it was known whether the bytes are a report.
     OutOfMemory,
 }
 
@@ -42,27 +43,27 @@ impl From<AllocError> for ReportError {
     }
 }
 
-/// The most bytes of a report.
+/// The greatest length of a report, in bytes.
 const MOST_BYTES: usize = 16_777_216;
 
-/// The most runs of a flow.
+/// The greatest number of runs of a flow: 1,024 gaps, and one.
 const MOST_RUNS: usize = 1025;
 
-/// A number of a member.
+/// Returns the number of a member.
 fn number_in(object: &Value, key: &str) -> Option<u64>
     ensures { result ≡ number_in key.now (view object.now) }
 {
     object.get(key)?.as_u64()
 }
 
-/// A text of a member.
+/// Returns the text of a member.
 fn text_in<'a>(object: &'a Value, key: &str) -> Option<&'a str>
     ensures { option_map (λ text. text.now) result ≡ text_in key.now (view object.now) }
 {
     object.get(key)?.as_str()
 }
 
-/// A place that a member counts from 1, counted from 0.
+/// Returns the position that a member gives: there from 1 to `most`, here from 0.
 fn place_in(object: &Value, key: &str, most: u32) -> Option<u32>
     ensures { result ≡ place_in key.now most (view object.now) }
 {
@@ -73,7 +74,7 @@ fn place_in(object: &Value, key: &str, most: u32) -> Option<u32>
     Some((number - 1) as u32)
 }
 
-/// The sender type of this name.
+/// Returns the sender type with this name.
 fn kind_named(name: &str) -> Option<Kind>
     ensures { result ≡ kind_named name.now }
 {
@@ -85,7 +86,7 @@ fn kind_named(name: &str) -> Option<Kind>
     }
 }
 
-/// The model of this name.
+/// Returns the model with this name.
 fn model_named(name: &str) -> Option<Broken>
     ensures { result ≡ model_named name.now }
 {
@@ -97,7 +98,7 @@ fn model_named(name: &str) -> Option<Broken>
     }
 }
 
-/// A fail.
+/// Returns the violation in an object.
 fn proof_of(object: &Value) -> Option<FailProof>
     ensures { result ≡ proof_of (view object.now) }
 {
@@ -115,7 +116,7 @@ fn proof_of(object: &Value) -> Option<FailProof>
     })
 }
 
-/// The fail of a type, if it has one.
+/// Returns the violation of a type, if it has one. The outer `None` stands for a malformed one.
 fn proof_in(object: &Value) -> Option<Option<FailProof>>
     ensures { result ≡ proof_in (view object.now) }
 {
@@ -125,7 +126,7 @@ fn proof_in(object: &Value) -> Option<Option<FailProof>>
     }
 }
 
-/// A type, and its fail, if it has one.
+/// Returns a type, and its violation, if it has one.
 fn type_of(object: &Value) -> Option<(Kind, Option<FailProof>)>
     ensures { result ≡ type_of (view object.now) }
 {
@@ -134,7 +135,7 @@ fn type_of(object: &Value) -> Option<(Kind, Option<FailProof>)>
     Some((kind, proof))
 }
 
-/// Which flow.
+/// Returns the flow that an object names.
 fn key_of(flow: &Value) -> Option<FlowKey>
     ensures { result ≡ key_of (view flow.now) }
 {
@@ -143,7 +144,7 @@ fn key_of(flow: &Value) -> Option<FlowKey>
     Some(FlowKey { file, media })
 }
 
-/// Adds what a type tells.
+/// Adds the violation of a type, if it has one.
 fn add_told(
     proofs: &mut Vec<ReportProof>,
     key: FlowKey,
@@ -164,7 +165,7 @@ fn add_told(
     }
 }
 
-/// Adds what a list of types tells.
+/// Adds the violations in an array of types.
 fn add_types(
     proofs: &mut Vec<ReportProof>,
     key: FlowKey,
@@ -184,7 +185,7 @@ fn add_types(
     Ok(())
 }
 
-/// Adds what the types of a flow or of a run tell.
+/// Adds the violations in the types of a flow or of a run.
 fn add_types_in(
     proofs: &mut Vec<ReportProof>,
     key: FlowKey,
@@ -204,7 +205,7 @@ fn add_types_in(
     add_types(proofs, key, run, types.as_slice())
 }
 
-/// Adds what a run tells.
+/// Adds the violations of a run, which has to be an object.
 fn add_run(
     proofs: &mut Vec<ReportProof>,
     key: FlowKey,
@@ -221,7 +222,7 @@ fn add_run(
     add_types_in(proofs, key, run, value)
 }
 
-/// Adds what a list of runs tells.
+/// Adds the violations in an array of runs.
 fn add_runs(proofs: &mut Vec<ReportProof>, key: FlowKey, runs: &[Value]) -> Result<(), ReportError>
     requires { length runs.now ≤ 1025 }
     ensures told { IfOk result (λ _. option_map (λ more. proofs.old.items ++ more)
@@ -234,7 +235,7 @@ fn add_runs(proofs: &mut Vec<ReportProof>, key: FlowKey, runs: &[Value]) -> Resu
     Ok(())
 }
 
-/// Adds what a list of runs tells, where there are not too many.
+/// Adds the violations in an array of runs, and refuses more than `MOST_RUNS` of them.
 #[tactic(auto, using(crate::proofs::lemmas::json_report::Items::items_counted))]
 fn add_runs_of(
     proofs: &mut Vec<ReportProof>,
@@ -251,7 +252,7 @@ fn add_runs_of(
     add_runs(proofs, key, runs)
 }
 
-/// Adds what the runs of a flow tell.
+/// Adds the violations in the runs of a flow.
 fn add_runs_in(proofs: &mut Vec<ReportProof>, key: FlowKey, flow: &Value) -> Result<(), ReportError>
     ensures told { IfOk result (λ _. option_map (λ more. proofs.old.items ++ more)
         (runs_in key (view flow.now)) ≡ Some proofs.new.items) }
@@ -266,7 +267,7 @@ fn add_runs_in(proofs: &mut Vec<ReportProof>, key: FlowKey, flow: &Value) -> Res
     add_runs_of(proofs, key, runs.as_slice())
 }
 
-/// Adds what a flow tells.
+/// Adds the violations of a flow.
 fn add_flow(proofs: &mut Vec<ReportProof>, flow: &Value) -> Result<(), ReportError>
     ensures told { IfOk result (λ _. option_map (λ more. proofs.old.items ++ more)
         (flow_of (view flow.now)) ≡ Some proofs.new.items) }
@@ -279,7 +280,7 @@ fn add_flow(proofs: &mut Vec<ReportProof>, flow: &Value) -> Result<(), ReportErr
     add_runs_in(proofs, key, flow)
 }
 
-/// Adds what a list of flows tells.
+/// Adds the violations in an array of flows.
 fn add_flows(proofs: &mut Vec<ReportProof>, flows: &[Value]) -> Result<(), ReportError>
     ensures told { IfOk result (λ _. option_map (λ more. proofs.old.items ++ more)
         (flows_from (items_view flows.now)) ≡ Some proofs.new.items) }
@@ -291,9 +292,10 @@ fn add_flows(proofs: &mut Vec<ReportProof>, flows: &[Value]) -> Result<(), Repor
     Ok(())
 }
 
-/// The fails that a JSON report tells: flow by flow, in each the fails of its own types and then
-/// those of its runs, as they stand. `Refused` comes exactly where the bytes are not in the form of a
-/// report.
+/// Returns the violations in a JSON report, flow by flow: first those in the types of the flow, then those in its runs,
+/// in the order of the text.
+///
+/// Returns `Refused` if the bytes are not in the form of a report, and `OutOfMemory` if memory runs out.
 pub fn read_json(alloc: Global, bytes: &[u8]) -> Result<Vec<ReportProof>, ReportError>
     ensures told { IfOk result (λ proofs. IsReport bytes.now proofs.items) }
     ensures refused { IsErrOf result Refused

@@ -1,4 +1,4 @@
-//! The report as JSON: a value for each capture and each flow, and their text.
+//! Writes the report as JSON: a value for each capture and each flow, and the text of all of them.
 
 ghost use Rattle.std.specs.Prelude.{◌≡◌, ◌++◌, IfOk, map, codes, string_bytes, false};
 ghost use Rattle.serde_json.specs.View.{view, items_of};
@@ -23,7 +23,7 @@ use timing_base::{
     PacketFault, Row, Run, RunVerdict, Session, Unjudged, Verdict,
 };
 
-/// A fail.
+/// Returns the JSON of a violation.
 fn proof_value(alloc: Global, proof: &FailProof) -> Result<Value, OutOfMemory>
     ensures { IfOk result (λ value. view value ≡ proof_data proof.now) }
 {
@@ -36,7 +36,7 @@ fn proof_value(alloc: Global, proof: &FailProof) -> Result<Value, OutOfMemory>
     Ok(object.into_value())
 }
 
-/// Whether a type passes, and what shows that it fails.
+/// Adds whether a type passes, and if it fails, the violation.
 fn put_outcome(object: &mut Object, alloc: Global, verdict: KindVerdict) -> Result<(), OutOfMemory>
     ensures { IfOk result (λ _. Puts (outcome_members verdict) object.old object.new) }
 {
@@ -49,7 +49,7 @@ fn put_outcome(object: &mut Object, alloc: Global, verdict: KindVerdict) -> Resu
     }
 }
 
-/// A type.
+/// Returns the JSON of a sender type.
 fn type_value(
     alloc: Global,
     params: &Params,
@@ -69,7 +69,7 @@ fn type_value(
     Ok(object.into_value())
 }
 
-/// The types N, NL and W.
+/// Returns the JSON of the types N, NL and W.
 fn types_value(alloc: Global, params: &Params, judged: &Judged) -> Result<Value, OutOfMemory>
     requires { params.now.n ≡ judged.now.n }
     ensures { IfOk result (λ value. view value ≡ types_data params.now.media judged.now) }
@@ -81,7 +81,7 @@ fn types_value(alloc: Global, params: &Params, judged: &Judged) -> Result<Value,
     Ok(Value::Array(types))
 }
 
-/// The numbers of a judged run.
+/// Adds the numbers of a judged run.
 fn put_judged_numbers(object: &mut Object, judged: &Judged) -> Result<(), OutOfMemory>
     ensures { IfOk result (λ _. Puts (judged_numbers judged.now) object.old object.new) }
 {
@@ -92,7 +92,7 @@ fn put_judged_numbers(object: &mut Object, judged: &Judged) -> Result<(), OutOfM
     object.put_count("tail", judged.tail)
 }
 
-/// What a judged run says.
+/// Adds the class, the declared type and the results for each type of a judged run.
 fn put_judged_words(
     object: &mut Object,
     alloc: Global,
@@ -109,7 +109,7 @@ fn put_judged_words(
     put_interlaced(object, media.interlaced)
 }
 
-/// Of an interlaced media alone.
+/// Adds `interlaced` if the media is interlaced.
 fn put_interlaced(object: &mut Object, interlaced: bool) -> Result<(), OutOfMemory>
     ensures { IfOk result (λ _. Puts (interlaced_members interlaced) object.old object.new) }
 {
@@ -120,7 +120,7 @@ fn put_interlaced(object: &mut Object, interlaced: bool) -> Result<(), OutOfMemo
     }
 }
 
-/// A judged run.
+/// Adds the members of a judged run.
 fn put_judged(
     object: &mut Object,
     alloc: Global,
@@ -133,7 +133,7 @@ fn put_judged(
     put_judged_words(object, alloc, media, judged)
 }
 
-/// A run without a whole group.
+/// Adds the members of a run without a whole frame or field.
 fn put_no_whole_frame(object: &mut Object, head: u64) -> Result<(), OutOfMemory>
     ensures { IfOk result (λ _. Puts (no_whole_frame_members head) object.old object.new) }
 {
@@ -141,7 +141,7 @@ fn put_no_whole_frame(object: &mut Object, head: u64) -> Result<(), OutOfMemory>
     object.put_text("verdict", "no whole frame")
 }
 
-/// Puts the verdict on a flow that isn't judged in, with the keys that belong to it: those that the JSON report has.
+/// Adds the members of a flow that was not judged, as the JSON report has them. Returns `Err` if memory runs out.
 pub fn put_unjudged(
     object: &mut Object,
     alloc: Global,
@@ -181,7 +181,7 @@ fn put_gap(object: &mut Object, rec: u64, expected: u32, got: u32) -> Result<(),
     object.put_text("verdict", "gap")
 }
 
-/// The verdict on a run between gaps.
+/// Adds the members of the verdict on a run between gaps.
 fn put_run_verdict(
     object: &mut Object,
     alloc: Global,
@@ -196,7 +196,7 @@ fn put_run_verdict(
     }
 }
 
-/// The number that would have gone on from the run before, after the first run.
+/// Adds the extended sequence number that would have continued the run before. The first run has none.
 fn put_expected(object: &mut Object, expected: Option<u32>) -> Result<(), OutOfMemory>
     ensures { IfOk result (λ _. Puts (expected_members expected) object.old object.new) }
 {
@@ -206,7 +206,7 @@ fn put_expected(object: &mut Object, expected: Option<u32>) -> Result<(), OutOfM
     }
 }
 
-/// The first record and number of a run.
+/// Adds the first packet record and extended sequence number of a run, and the number that was expected there.
 fn put_run(object: &mut Object, run: &Run) -> Result<(), OutOfMemory>
     ensures { IfOk result (λ _. Puts (run_members run.now) object.old object.new) }
 {
@@ -215,7 +215,7 @@ fn put_run(object: &mut Object, run: &Run) -> Result<(), OutOfMemory>
     put_expected(object, run.expected)
 }
 
-/// A run between gaps.
+/// Returns the JSON of a run between gaps.
 fn run_value(alloc: Global, media: &Media, run: &Run) -> Result<Value, OutOfMemory>
     ensures { IfOk result (λ value. view value ≡ run_data media.now run.now) }
 {
@@ -225,7 +225,7 @@ fn run_value(alloc: Global, media: &Media, run: &Run) -> Result<Value, OutOfMemo
     Ok(object.into_value())
 }
 
-/// The runs between gaps.
+/// Returns the JSON of the runs between gaps.
 fn runs_value(alloc: Global, media: &Media, runs: &[Run]) -> Result<Value, OutOfMemory>
     ensures { IfOk result (λ value. view value ≡ list_of (map (run_data media.now) runs.now)) }
 {
@@ -236,7 +236,7 @@ fn runs_value(alloc: Global, media: &Media, runs: &[Run]) -> Result<Value, OutOf
     Ok(Value::Array(values))
 }
 
-/// A verdict.
+/// Adds the members of a verdict.
 fn put_verdict(
     object: &mut Object,
     alloc: Global,
@@ -255,7 +255,7 @@ fn put_verdict(
     }
 }
 
-/// Which flow.
+/// Adds the members that name a flow.
 fn put_key(
     object: &mut Object,
     alloc: Global,
@@ -271,7 +271,7 @@ fn put_key(
     object.put("target", Value::from(target))
 }
 
-/// A flow of this media.
+/// Returns the JSON of a flow of this media.
 fn flow_value(alloc: Global, media: &Media, row: &Row) -> Result<Value, OutOfMemory>
     ensures { IfOk result (λ value. view value ≡ flow_data media.now row.now) }
 {
@@ -281,7 +281,7 @@ fn flow_value(alloc: Global, media: &Media, row: &Row) -> Result<Value, OutOfMem
     Ok(object.into_value())
 }
 
-/// A capture.
+/// Returns the JSON of a capture.
 fn file_value(alloc: Global, name: &str, note: &FileNote) -> Result<Value, OutOfMemory>
     ensures { IfOk result (λ value. view value ≡ file_data name.now note.now) }
 {
@@ -293,7 +293,7 @@ fn file_value(alloc: Global, name: &str, note: &FileNote) -> Result<Value, OutOf
     Ok(object.into_value())
 }
 
-/// The captures.
+/// Returns the JSON of the captures.
 fn files_value(
     alloc: Global,
     captures: &[FileName],
@@ -311,8 +311,10 @@ fn files_value(
     Ok(Value::Array(values))
 }
 
-/// The report of a job as JSON. `notes` says how each capture ends, and `rows` are the flows, in
-/// their order. `Err` is want of memory; each flow takes some for itself, and gives it back.
+/// Returns the report of a job as JSON, with its newline. `notes` has how each capture ends, and `rows` the results of
+/// the flows, in their order.
+///
+/// Returns `Err` if memory runs out. The value of each flow is freed before the next one is made.
 pub fn json_of(
     alloc: Global,
     job: &CheckJob,
@@ -333,7 +335,7 @@ pub fn json_of(
     Ok(text)
 }
 
-/// Adds what stands after the flows.
+/// Adds the text after the flows.
 fn add_status(text: &mut String, status: Status) -> Result<(), OutOfMemory>
     ensures { IfOk result (λ _. string_bytes text.new ≡ string_bytes text.old
         ++ (codes "]" ++ (codes ",\"status\":"
@@ -356,7 +358,7 @@ fn add_files(
     add_value(text, alloc, &files)
 }
 
-/// Adds the text of a value that has no float. `Err` is want of memory.
+/// Adds the text of a JSON value without floating-point numbers. Returns `Err` if memory runs out.
 pub fn add_value(text: &mut String, alloc: Global, value: &Value) -> Result<(), OutOfMemory>
     requires { has_float (view value.now) ≡ false }
     ensures { IfOk result (λ _. string_bytes text.new
@@ -366,7 +368,7 @@ pub fn add_value(text: &mut String, alloc: Global, value: &Value) -> Result<(), 
     text.push_str(piece.as_str())
 }
 
-/// Adds the text of the flows, but for the bracket at their end.
+/// Adds the text of the flows, without the bracket at their end.
 fn add_flows(
     text: &mut String,
     alloc: Global,
@@ -384,7 +386,7 @@ fn add_flows(
     Ok(())
 }
 
-/// A comma, where something stands before.
+/// Returns a comma if another value stands before, else an empty string.
 pub fn comma_if(later: bool) -> &'static str
     ensures { result.now ≡ comma_if later }
 {

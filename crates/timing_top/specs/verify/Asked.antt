@@ -1,4 +1,5 @@
--- What the texts of `verify` and of `verify-report` define, in the order in which they are read.
+-- The output and status of `verify` and of `verify-report`, by the contents of their inputs, in the order in which
+-- these are read.
 use Rattle.std.specs.Prelude.{◌≡◌, ◌⊎◌, ℕ, nat_lt, if◌then◌else◌, Bool, false, List, [], ◌∷◌, length, map, slice_get}
 use Rattle.std.specs.Prelude.{slice_index_or, All, Contains, Option, Some, None, Result, Ok, Err}
 use Rattle.timing_base.specs.Jobs.{ReportJob, VerifyJob}
@@ -19,86 +20,87 @@ use Rattle.timing_top.specs.verify.Findings.{Finds}
 use Rattle.timing_top.specs.verify.Verified.{reported, verified}
 use Rattle.timing_top.specs.declared.verify.checked.Checked.{Checked}
 
--- the fail that `verify` asks about: one of run 0 of its media
+-- the violation that `verify` checks: one of run 0 of its media in file 0
 abbrev pub claim_of : VerifyJob → ReportProof
 claim_of job = record { key = record { file = 0; media = job.media }; run = 0; kind = job.kind; proof = job.proof }
 
--- the answer of `verify` on this media, over captures of these texts
+-- the answer of `verify` for this media, over captures with these contents
 pub record HasVerified (job : VerifyJob) (media : Media) (texts : List (List ℕ)) (answer : Answer) : Type 0 where
   pub finding : Result Bool Unjudged
   pub finds : Finds media (claim_of job) job.tai texts finding
   pub answer_is : answer ≡ verified finding
 
--- a media that the description hasn't confirms nothing, and no capture is read for it; else the captures lead on
+-- if the SDP doesn't have the media, the violation is not confirmed, and no capture is read; else the captures are read
 abbrev pub ReadsMedia : Inputs → Result Answer Failure → VerifyJob → Option Media → Type 0
 ReadsMedia i outcome job None = Gives outcome (λ answer. answer ≡ verified (Ok false))
 ReadsMedia i outcome job (Some media) = ReadsCaptures i outcome job.captures
     (λ texts. Gives outcome (HasVerified job media texts))
 
--- `verify`: the description, then the captures
+-- `verify` reads the SDP, then the captures
 abbrev pub FollowsVerify : VerifyJob → Inputs → Result Answer Failure → Type 0
 FollowsVerify job i outcome =
     Yields outcome (ReadsSession i outcome job.sdp (λ media. ReadsMedia i outcome job (slice_get media job.media)))
 
--- the count of the name of this input of `verify` rose
+-- the count of faults of the name of this input of `verify` rose
 abbrev pub VerifyInputRose : VerifyJob → Inputs → Input → Type 0
 VerifyInputRose job i input.Sdp = HasRisen i job.sdp
 VerifyInputRose job i input.Report = ⊥
 VerifyInputRose job i (input.Capture number) = CaptureRose i.before i.now job.captures number
 
--- how many files the flows of a job may be of: joined captures are one
+-- the number of files that flows of the job can belong to; joined captures are one file
 abbrev pub file_count : ReportJob → ℕ
 file_count job = if job.joined then 1 else length job.captures
 
--- the media of a flow, where the job has its file and the description has the media
+-- the media of a flow, if the job has its file and the SDP its media
 abbrev pub media_for : ReportJob → List Media → FlowKey → Option Media
 media_for job media key = if nat_lt key.file (file_count job) then slice_get media key.media else None
 
--- the captures of a flow: that of its file, or all where they are joined
+-- the captures of a flow: that of its file, or all if they are joined
 abbrev pub captures_of : ReportJob → FlowKey → List (List ℕ)
 captures_of job key = if job.joined then job.captures else slice_index_or job.captures key.file [] ∷ []
 
--- the captures that are read for a flow: none where it isn't there
+-- the captures that are read for a flow; none if the flow doesn't exist
 abbrev pub captures_for : Option Media → ReportJob → FlowKey → List (List ℕ)
 captures_for None job key = []
 captures_for (Some media) job key = captures_of job key
 
--- the captures that are read for a fail of a report
+-- the captures that are read for a violation of a report
 abbrev pub needed : ReportJob → List Media → ReportProof → List (List ℕ)
 needed job media claim = captures_for (media_for job media claim.key) job claim.key
 
--- what is found of a fail of a report in captures of these texts; one whose flow isn't there is not confirmed
+-- the finding on a violation of a report, in captures with these contents; if its flow doesn't exist, it is not
+-- confirmed
 abbrev pub FindsOf : Option Media → ReportJob → ReportProof → (List ℕ → List ℕ) → Result Bool Unjudged → Type 0
 FindsOf None job claim text finding = finding ≡ Ok false
 FindsOf (Some media) job claim text finding = Finds media claim job.tai (map text (captures_of job claim.key)) finding
 
--- each fail of a report, in its order, with what is found of it
+-- the violations of a report in their order, each with its finding
 pub record AreChecked (job : ReportJob) (media : List Media) (text : List ℕ → List ℕ) (claims : List ReportProof)
     (checked : List Checked) : Type 0 where
   pub claims_are : map (λ c. c.claim) checked ≡ claims
   pub each : All (λ c. FindsOf (media_for job media c.claim.key) job c.claim text c.finding) checked
 
--- the answer of `verify-report` on a report of these fails
+-- the answer of `verify-report` on a report with these violations
 pub record HasReported (job : ReportJob) (media : List Media) (claims : List ReportProof) (text : List ℕ → List ℕ)
     (answer : Answer) : Type 0 where
   pub checked : List Checked
   pub are : AreChecked job media text claims checked
   pub answer_is : answer ≡ reported checked
 
--- the text of a report leads on with its fails; where it is none, that is the answer
+-- if the contents are a report, what follows depends on its violations; if not, the answer is status 9
 abbrev pub OnReport : List ℕ → Result Answer Failure → (List ReportProof → Type 0) → Type 0
 OnReport text outcome next =
     (((claims : List ReportProof) → ¬ IsReport text claims)
     × Gives outcome (λ answer. answer ≡ silent status.ReportRefused))
     ⊎ ((claims : List ReportProof) × IsReport text claims × next claims)
 
--- the report is read: that failed, as it does where the shelf lacks it, or what its text leads to
+-- the report is read; this fails if the shelf lacks it
 abbrev pub ReadsReport : Inputs → Result Answer Failure → List ℕ → (List ReportProof → Type 0) → Type 0
 ReadsReport i outcome name next =
     ((outcome ≡ Err (failure.ReadFault input.Report)) × HasRisen i name)
     ⊎ (¬ i.lacks name × ((text : List ℕ) → i.texts name ≡ Some text → OnReport text outcome next))
 
--- the count of a capture rose that is read for some fail of the report
+-- the count of faults of a capture rose that is read for a violation of the report
 pub record NeededRose (i : Inputs) (job : ReportJob) (media : List Media) (claims : List ReportProof) (number : ℕ) :
     Type 0 where
   pub claim : ReportProof
@@ -106,12 +108,11 @@ pub record NeededRose (i : Inputs) (job : ReportJob) (media : List Media) (claim
   pub needs : Contains (needed job media claim) (slice_index_or job.captures number [])
   pub rose : CaptureRose i.before i.now job.captures number
 
--- the names have these texts
+-- the names have these contents
 abbrev pub AreTexts : (List ℕ → Option (List ℕ)) → (List ℕ → List ℕ) → List (List ℕ) → Type 0
 AreTexts texts text names = All (λ name. texts name ≡ Some (text name)) names
 
--- the captures of the fails are read: that failed for one of them, as it does where the shelf lacks one, or what their
--- texts as classic captures lead to
+-- the captures of the violations are read, as classic captures; this fails if the shelf lacks one
 abbrev pub ReadsNeeded : Inputs → Result Answer Failure → ReportJob → List Media → List ReportProof
     → ((List ℕ → List ℕ) → Type 0) → Type 0
 ReadsNeeded i outcome job media claims next =
@@ -120,13 +121,13 @@ ReadsNeeded i outcome job media claims next =
     × ((text : List ℕ → List ℕ) → All (λ claim. AreTexts i.texts text (needed job media claim)) claims
     → next (λ name. classic (text name))))
 
--- `verify-report`: the description, then the report, then the captures of its fails
+-- `verify-report` reads the SDP, then the report, then the captures of its violations
 abbrev pub FollowsReport : ReportJob → Inputs → Result Answer Failure → Type 0
 FollowsReport job i outcome = Yields outcome (ReadsSession i outcome job.sdp (λ media.
     ReadsReport i outcome job.report (λ claims.
     ReadsNeeded i outcome job media claims (λ text. Gives outcome (HasReported job media claims text)))))
 
--- the count of the name of this input of `verify-report` rose
+-- the count of faults of the name of this input of `verify-report` rose
 abbrev pub ReportInputRose : ReportJob → Inputs → Input → Type 0
 ReportInputRose job i input.Sdp = HasRisen i job.sdp
 ReportInputRose job i input.Report = HasRisen i job.report

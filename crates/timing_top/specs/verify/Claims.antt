@@ -1,4 +1,4 @@
--- The claims of a report, as they are checked one after the other.
+-- The claims of a report, which are checked one after the other.
 use Rattle.std.specs.Prelude.{ℕ, List, Option}
 use Rattle.timing_outside.specs.Shelves.{StaysAs}
 use Rattle.pcapng_reader.specs.Classic.{classic_texts}
@@ -6,12 +6,12 @@ use Rattle.timing_top.specs.verify.Found.{AreServed}
 use Rattle.timing_top.specs.declared.verify.needs.Claims.{Claims}
 use Rattle.timing_top.specs.declared.verify.read.FileRead.{FileRead}
 
--- each of these files was read for all claims, over the shelf that told these texts and lacked these names
+-- each of these files was read for all claims, over a shelf with these contents that lacks these names
 abbrev pub AreServedFor : (texts : List ℕ → Option (List ℕ)) → (lacks : List ℕ → Type 0) → Claims → List FileRead
     → Type 0
 AreServedFor texts lacks claims reads = AreServed texts lacks claims.job.now claims.media.now claims.list.now reads
 
--- this is said of the texts of each shelf that stays as it was up to this one, where the files were read over it
+-- `Says` holds of every shelf that stayed the same up to this one, if the files were read over it
 abbrev pub Since : {H : Type 0} → (text : H → List ℕ → Option (List ℕ)) → (lacks : H → List ℕ → Type 0)
     → (faults : H → List ℕ → ℕ)
     → H → Claims → List FileRead → ((List ℕ → Option (List ℕ)) → (List ℕ → Type 0) → Type 0) → Type 0

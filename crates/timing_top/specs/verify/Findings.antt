@@ -1,6 +1,5 @@
--- What captures say of a fail that is claimed of a run of a flow: that its interval breaks the limit that it names
--- (SMPTE
--- ST 2110-21), that it doesn't, or why the flow, or the run, isn't judged.
+-- The finding on a claimed violation of a run: its interval breaks the limit that it names (SMPTE ST 2110-21), it
+-- doesn't, or the flow or the run isn't judged.
 use Rattle.std.specs.Prelude.{ℕ, Bool, List, Result}
 use Rattle.timing_base.specs.Captures.{Record, joined}
 use Rattle.timing_base.specs.Judged.{judged}
@@ -12,7 +11,8 @@ use Rattle.udp_rtp.specs.Flow.{flow}
 use Rattle.interval_checker.specs.Checked.{Says}
 use Rattle.timing_report.specs.declared.json_report.reading.ReportProof.{ReportProof}
 
--- captures of these texts, as one capture, say this of a fail that is claimed of a media; `tai` is in seconds
+-- captures with these contents, as one capture, have this finding on a violation that is claimed of a media; `tai` is
+-- in seconds
 pub record Finds (media : Media) (claim : ReportProof) (tai : ℕ) (texts : List (List ℕ))
     (finding : Result Bool Unjudged) : Type 0 where
   pub files : List (List Record)

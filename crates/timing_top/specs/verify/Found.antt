@@ -1,4 +1,4 @@
--- What the steps that check fails say to each other.
+-- The conditions between the steps that check violations.
 use Rattle.std.specs.Prelude.{◌≡◌, ◌+◌, ℕ, ⊤, Bool, List, [], ◌∷◌, map, slice_index_or, All, Contains, IfErr, IfOk}
 use Rattle.std.specs.Prelude.{Option, Result, Ok, Err}
 use Rattle.timing_base.specs.Captures.{Record, joined}
@@ -25,30 +25,29 @@ use Rattle.timing_top.specs.verify.Findings.{Finds}
 use Rattle.timing_top.specs.declared.verify.checked.Checked.{Checked}
 use Rattle.timing_top.specs.declared.verify.read.FileRead.{FileRead}
 
--- why captures weren't read
+-- the failure that a fault of reading captures is
 abbrev pub failure_of : CheckFault → Failure
 failure_of (check_fault.ReadFault source) = failure.ReadFault (input.Capture source)
 failure_of check_fault.OutOfMemory = failure.OutOfMemory
 
--- the failure of a read of one capture, under its number
+-- the failure of reading one capture, under its number in the job
 abbrev pub numbered : ℕ → Failure → Failure
 numbered number (failure.ReadFault x) = failure.ReadFault (input.Capture number)
 numbered number failure.WriteFault = failure.WriteFault
 numbered number failure.OutOfMemory = failure.OutOfMemory
 
--- one of the captures of these names couldn't be read: its number among them is this
+-- if the failure is a read fault, it names one of the captures with these names, by its number among them, from 0
 abbrev pub FailedAmong : (before now : List ℕ → ℕ) → List (List ℕ) → Failure → Type 0
 FailedAmong before now names e =
     OnReadFault e (λ i. (number : ℕ) × (i ≡ input.Capture number) × CaptureRose before now names number)
 
--- one of the captures of a job couldn't be read, and it is one of these
+-- if the failure is a read fault, it names a capture of the job that is one of these names
 abbrev pub FailedNeeded : (before now : List ℕ → ℕ) → ReportJob → List (List ℕ) → Failure → Type 0
 FailedNeeded before now job names e = OnReadFault e (λ i. (number : ℕ) × (i ≡ input.Capture number)
     × CaptureRose before now job.captures number × Contains names (slice_index_or job.captures number []))
 
--- what comes of reading these captures of a job: where their texts are told, this is said, and they are all there.
--- Where
--- nothing comes of it, memory ran out, or one of them couldn't be read
+-- the outcome of reading these captures of a job. If it is `Ok`, none of them is lacking, and `Says` holds of its value
+-- and the contents. If it is `Err`, memory ran out, or one of the captures couldn't be read
 pub record Tells {A : Type 0} (i : Inputs) (job : ReportJob) (names : List (List ℕ))
     (Says : (List ℕ → List ℕ) → A → Type 0)
     (outcome : Result A Failure) : Type 0 where
@@ -56,12 +55,13 @@ pub record Tells {A : Type 0} (i : Inputs) (job : ReportJob) (names : List (List
   pub cause : IfErr outcome (FailedNeeded i.before i.now job names)
   pub there : IfOk outcome (λ _. AreThere i.lacks names)
 
--- the readings have read the captures of these texts, as one capture
+-- the readings have read the captures with these contents, as one capture
 abbrev pub ReadAs : List Reading → List (List ℕ) → Type 0
 ReadAs readings texts = (files : List (List Record)) (notes : List FileNote) → AreRecords texts files notes
     → HaveRead readings (joined files)
 
--- the reading is of this media, and has read the captures of these texts, as one capture, with what the claim needs
+-- the reading is of this media, with what the claim asks for, and has read the captures with these contents, as one
+-- capture
 pub record IsReadFor (m : Media) (tai : ℕ) (texts : List (List ℕ)) (claim : ReportProof) (r : Reading) : Type 0 where
   pub media : media_of r ≡ m
   pub late : tai_of r ≡ tai
@@ -69,17 +69,17 @@ pub record IsReadFor (m : Media) (tai : ℕ) (texts : List (List ℕ)) (claim : 
   pub read : (files : List (List Record)) (notes : List FileNote) → AreRecords texts files notes
       → HasRead r (joined files)
 
--- a claim's needs are asked, where it is one on this flow
+-- if the claim is on this flow, what it needs was asked for
 abbrev pub Asks : Asked → (file media : ℕ) → ReportProof → Type 0
 Asks asked file media claim = claim.key.file ≡ file → claim.key.media ≡ media → IsAsked asked claim.run claim.proof
 
--- the reading is of this media in this file, and what the claims on its flow need is asked
+-- the reading is of this media in this file, and everything that the claims on its flow need was asked for
 pub record IsAskedAll (tai : ℕ) (claims : List ReportProof) (file number : ℕ) (m : Media) (r : Reading) : Type 0 where
   pub media : media_of r ≡ m
   pub late : tai_of r ≡ tai
   pub asks : All (Asks (asked_by r) file number) claims
 
--- the readings are of these media, the first of them with this number
+-- the readings are of these media, the first of which has this number
 abbrev pub AreAsked : (tai : ℕ) → List ReportProof → (file number : ℕ) → List Media → List Reading → Type 0
 AreAsked tai claims file number [] [] = ⊤
 AreAsked tai claims file number [] (r ∷ rs) = ⊥
@@ -87,17 +87,17 @@ AreAsked tai claims file number (m ∷ ms) [] = ⊥
 AreAsked tai claims file number (m ∷ ms) (r ∷ rs) = IsAskedAll tai claims file number m r
     × AreAsked tai claims file (number + 1) ms rs
 
--- some flow of this file
+-- a flow of this file
 abbrev pub key_at : ℕ → FlowKey
 key_at file = record { file = file; media = 0 }
 
--- a file of a job was read for all claims, and its captures have these texts
+-- a file of a job was read for all claims, from captures with these contents
 pub record Serves (job : ReportJob) (media : List Media) (claims : List ReportProof) (text : List ℕ → List ℕ)
     (read : FileRead) : Type 0 where
   pub readings : ReadAs read.readings.items (map text (captures_of job (key_at read.file)))
   pub asked : AreAsked job.tai claims read.file 0 media read.readings.items
 
--- it was read over the shelf that told these texts and lacked these names
+-- the file was read over a shelf with these contents that lacks these names
 pub record IsServed (texts : List ℕ → Option (List ℕ)) (lacks : List ℕ → Type 0) (job : ReportJob) (media : List Media)
     (claims : List ReportProof)
     (read : FileRead) : Type 0 where
@@ -105,12 +105,12 @@ pub record IsServed (texts : List ℕ → Option (List ℕ)) (lacks : List ℕ �
   pub serves : (text : List ℕ → List ℕ) → AreTexts texts text (captures_of job (key_at read.file))
       → Serves job media claims text read
 
--- each file that was read
+-- each of the files was read over such a shelf
 abbrev pub AreServed : (List ℕ → Option (List ℕ)) → (List ℕ → Type 0) → ReportJob → List Media → List ReportProof
     → List FileRead → Type 0
 AreServed texts lacks job media claims reads = All (IsServed texts lacks job media claims) reads
 
--- what was found of a fail whose flow is of this media, over that shelf
+-- the finding on a violation of a flow of this media, over such a shelf
 pub record IsFound (texts : List ℕ → Option (List ℕ)) (lacks : List ℕ → Type 0) (job : ReportJob) (m : Media)
     (claim : ReportProof)
     (finding : Result Bool Unjudged) : Type 0 where
@@ -118,7 +118,7 @@ pub record IsFound (texts : List ℕ → Option (List ℕ)) (lacks : List ℕ �
   pub finds : (text : List ℕ → List ℕ) → AreTexts texts text (captures_of job claim.key)
       → Finds m claim job.tai (map text (captures_of job claim.key)) finding
 
--- a fail was checked over the shelf that told these texts and lacked these names
+-- a violation was checked over a shelf with these contents that lacks these names
 pub record IsChecked (texts : List ℕ → Option (List ℕ)) (lacks : List ℕ → Type 0) (job : ReportJob) (media : List Media)
     (checked : Checked) : Type 0 where
   pub there : AreThere lacks (needed job media checked.claim)

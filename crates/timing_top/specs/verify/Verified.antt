@@ -1,4 +1,4 @@
--- What `verify` and `verify-report` print of what was found, and their statuses. Captures, media and runs count from 0
+-- The output and the statuses of `verify` and `verify-report`, by their findings. Captures, media and runs count from 0
 -- in a claim, and from 1 in the text. This project's profile.
 use Rattle.std.specs.Prelude.{ℕ, ◌+◌, ◌==◌, if◌then◌else◌, Bool, true, false, List, [], ◌++◌, Result, Ok, Err, codes}
 use Rattle.std.specs.Fmt.{decimal}
@@ -12,13 +12,13 @@ use Rattle.timing_report.specs.declared.status.Status.TheVariants as status
 use Rattle.timing_reach.specs.steps.Answers.{Answer}
 use Rattle.timing_top.specs.declared.verify.checked.Checked.{Checked}
 
--- `confirmed`, `not confirmed` or `not judged: VERDICT`, with the end of the line
+-- `confirmed`, `not confirmed` or `not judged: VERDICT`, with the newline
 abbrev pub finding_line : Result Bool Unjudged → List ℕ
 finding_line (Ok true) = codes "confirmed\n"
 finding_line (Ok false) = codes "not confirmed\n"
 finding_line (Err why) = codes "not judged: " ++ (unjudged_text why ++ codes "\n")
 
--- the status of one fail
+-- the status for one violation
 abbrev pub finding_status : Result Bool Unjudged → Status
 finding_status (Ok true) = status.Pass
 finding_status (Ok false) = status.Fail
@@ -28,17 +28,17 @@ finding_status (Err why) = status.NotAllJudged
 abbrev pub verified : Result Bool Unjudged → Answer
 verified finding = record { text = finding_line finding; status = finding_status finding }
 
--- what was found, in the line of a report's fail
+-- the finding, as the line of a violation of a report has it
 abbrev pub finding_word : Result Bool Unjudged → List ℕ
 finding_word (Ok true) = codes "confirmed"
 finding_word (Ok false) = codes "not confirmed"
 finding_word (Err why) = codes "not judged"
 
--- ` run R` of a run after the first
+-- ` run R` for a run after the first
 abbrev pub run_word : ℕ → List ℕ
 run_word run = if run == 0 then [] else codes " run " ++ decimal (run + 1)
 
--- `F.M K FOUND`, or `F.M run R K FOUND` of a run after the first, with the end of the line
+-- `F.M K FINDING`, or `F.M run R K FINDING` for a run after the first, with the newline
 abbrev pub checked_line : Checked → List ℕ
 checked_line checked =
     decimal (checked.claim.key.file + 1) ++ (codes "." ++ (decimal (checked.claim.key.media + 1)
@@ -50,18 +50,18 @@ abbrev pub is_unjudged : Result Bool Unjudged → Bool
 is_unjudged (Ok confirmed) = false
 is_unjudged (Err why) = true
 
--- whether a fail is confirmed
+-- whether a violation is confirmed
 abbrev pub is_confirmed : Result Bool Unjudged → Bool
 is_confirmed (Ok confirmed) = confirmed
 is_confirmed (Err why) = false
 
--- the status of the fails of a report: some flow wasn't judged; else all are confirmed, or some isn't
+-- the status for the violations of a report: 4 if a flow or run wasn't judged, else 0 if all are confirmed, else 1
 abbrev pub status_of : List Checked → Status
 status_of checked =
     if list_any (λ c. is_unjudged c.finding) checked then status.NotAllJudged
     else (if list_all (λ c. is_confirmed c.finding) checked then status.Pass else status.Fail)
 
--- the lines of the fails of a report, and `status S`
+-- the lines of the violations of a report, and `status S`
 abbrev pub checked_text : List Checked → List ℕ
 checked_text checked =
     flat_map checked_line checked ++ (codes "status " ++ (decimal (code_of (status_of checked)) ++ codes "\n"))

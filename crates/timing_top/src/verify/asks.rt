@@ -1,4 +1,4 @@
-//! The flows of a file, with what the claims of a report ask of them.
+//! The readings of a file's flows, with what the claims of a report need.
 
 ghost use Rattle.std.specs.Prelude.{◌≡◌, ◌≤◌, ◌<◌, ◌^◌, [], List, All, IfOk, OnOk, length};
 ghost use Rattle.interval_checker.specs.Asking.{AsksNoLess};
@@ -10,7 +10,7 @@ use std::alloc::{AllocError as OutOfMemory, Global};
 use timing_base::Media;
 use timing_report::json_report::ReportProof;
 
-/// Asks what a claim asks, where it is one on this flow.
+/// Asks for what a claim needs, if it is on this flow.
 fn ask_claim(
     asked: &mut Asked,
     claim: &ReportProof,
@@ -29,7 +29,7 @@ fn ask_claim(
     asked.ask(u64::from(claim.run), &claim.proof)
 }
 
-/// What the claims on a flow ask.
+/// Returns what the claims on a flow need.
 fn asked_of(
     alloc: Global,
     claims: &[ReportProof],
@@ -45,7 +45,7 @@ fn asked_of(
     Ok(asked)
 }
 
-/// A reading of the flow of each media in this file, none of them begun, with what the claims ask.
+/// Returns a reading for the flow of each media in this file, not yet begun, with what the claims need.
 pub fn readings_of(
     alloc: Global,
     media: &[Media],

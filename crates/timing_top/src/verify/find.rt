@@ -1,4 +1,4 @@
-//! One claim, checked over captures that are read for it.
+//! Checks one claim over captures that are read for it.
 
 ghost use Rattle.std.specs.Prelude.{◌≡◌, ◌≤◌, ℕ, List, IfOk, IfErr, length};
 ghost use Rattle.timing_outside.specs.Shelves.{StaysAs};
@@ -16,9 +16,9 @@ use timing_outside::Shelf;
 use timing_reach::steps::Failure;
 use timing_report::json_report::ReportProof;
 
-/// What the captures of these names, as one classic capture, say of a claim. Each is fetched for it, in
-/// order, and goes back to the shelf; one that couldn't be read is named by its number among them,
-/// from 0.
+/// Returns the finding on a claim, in the captures with these names as one classic capture. The captures are opened in
+/// order, and their sources go back to the shelf. `ReadFault` names a capture that couldn't be read by its number among
+/// these, from 0.
 pub fn find<H: Shelf>(
     alloc: Global,
     shelf: &mut H,

@@ -1,5 +1,4 @@
-//! What holds of the definitions themselves. Each function is a theorem: it does nothing, and its
-//! clauses are proved.
+//! Laws of the definitions. Each function is a theorem: it does nothing, and its clauses are proved.
 
 ghost use Rattle.std.specs.Prelude.{◌≡◌, ℕ, Bool, List, All, Ok, Result, true, map};
 ghost use Rattle.timing_base.specs.Jobs.{ReportJob, VerifyJob};
@@ -12,7 +11,7 @@ ghost use Rattle.timing_top.specs.verify.Asked.{FindsOf, HasReported, HasVerifie
 ghost use Rattle.timing_top.specs.verify.Findings.{Finds};
 ghost use Rattle.timing_top.specs.verify.Verified.{reported};
 
-/// Captures say one thing of a claim: there is one, and there are not two.
+/// Captures have exactly one finding on a claim.
 pub fn one_finding()
     ensures some { (media : Media) (claim : ReportProof) (tai : ℕ) (texts : List (List ℕ))
         → (finding : Result Bool Unjudged) × Finds media claim tai texts finding }
@@ -21,7 +20,7 @@ pub fn one_finding()
         → Finds media claim tai texts a → Finds media claim tai texts b → a ≡ b }
 {}
 
-/// The texts of `verify` have one answer.
+/// The contents of the inputs of `verify` have exactly one answer.
 pub fn one_verified()
     ensures some { (job : VerifyJob) (media : Media) (texts : List (List ℕ))
         → (answer : Answer) × HasVerified job media texts answer }
@@ -29,7 +28,7 @@ pub fn one_verified()
         → HasVerified job media texts a → HasVerified job media texts b → a ≡ b }
 {}
 
-/// The texts of `verify-report` have one answer.
+/// The contents of the inputs of `verify-report` have exactly one answer.
 pub fn one_reported()
     ensures some { (job : ReportJob) (media : List Media) (claims : List ReportProof)
         (text : List ℕ → List ℕ) → (answer : Answer) × HasReported job media claims text answer }
@@ -38,8 +37,7 @@ pub fn one_reported()
         → HasReported job media claims text a → HasReported job media claims text b → a ≡ b }
 {}
 
-/// Where each fail of a report is confirmed, the answer has a line for each that says so, and the
-/// status 0.
+/// If every violation of a report is confirmed, the answer has a line `confirmed` for each, and the status 0.
 pub fn confirmed_report()
     ensures lines { (job : ReportJob) (media : List Media) (claims : List ReportProof)
         (text : List ℕ → List ℕ) (answer : Answer)

@@ -1,4 +1,4 @@
-//! The captures that the fails of a report need.
+//! The captures that the violations of a report need.
 
 ghost use Rattle.std.specs.Prelude.{◌≡◌, ◌<◌, ℕ, List, All, Contains, IfOk, IfErr, IfSome, Some, map, option_map, slice_get};
 ghost use Rattle.timing_outside.specs.Shelves.{StaysAs};
@@ -20,14 +20,14 @@ use timing_reach::steps::Failure;
 use timing_report::Input;
 use timing_report::json_report::ReportProof;
 
-/// How many files the flows of a job may be of: joined captures are one.
+/// Returns the number of files that flows of a job can belong to. Joined captures are one file.
 fn file_count(job: &ReportJob) -> usize
     ensures { result ≡ file_count job.now }
 {
     if job.joined { 1 } else { job.captures.len() }
 }
 
-/// The media of a flow, where the job has its file and the description has the media.
+/// Returns the media of a flow, if the job has its file and the SDP its media.
 fn media_for<'a>(job: &ReportJob, media: &'a [Media], key: FlowKey) -> Option<&'a Media>
     ensures { option_map (λ m. m.now) result ≡ media_for job.now media.now key }
 {
@@ -38,7 +38,7 @@ fn media_for<'a>(job: &ReportJob, media: &'a [Media], key: FlowKey) -> Option<&'
     }
 }
 
-/// The file of this number, if it was read.
+/// Returns the file with this number, if it was read.
 fn read_of(reads: &[FileRead], file: u32) -> Option<&FileRead>
     ensures there { IfSome result (λ read. Contains reads.now read.now) }
     ensures file { IfSome result (λ read. read.now.file ≡ file) }
@@ -46,7 +46,7 @@ fn read_of(reads: &[FileRead], file: u32) -> Option<&FileRead>
     reads.iter().find(|read| read.file == file)
 }
 
-/// What a file that was read says of a claim on one of its flows.
+/// Returns the finding on a claim in a file that was read.
 fn answer(read: &FileRead, claim: &ReportProof) -> Finding
     ensures { (job : JobValue) (media : List MediaValue) (claims : List Claim) (text : List ℕ → List ℕ)
         (m : MediaValue) → Serves job media claims text read.now → claim.now.key.file ≡ read.now.file
@@ -56,7 +56,7 @@ fn answer(read: &FileRead, claim: &ReportProof) -> Finding
     answer_of(&read.readings, claim.key.media as usize, claim)
 }
 
-/// The claims of a report, and what they are about.
+/// The claims of a report, with the job and the media that they are about.
 #[derive(Clone, Copy)]
 struct Claims<'a> {
     alloc: Global,
@@ -68,7 +68,8 @@ struct Claims<'a> {
 impl Claims<'_> {
     ghost use Rattle.timing_top.specs.verify.Claims.{AreServedFor, Since};
 
-    /// What the captures of a claim's file say of it, which are read for all claims where they weren't yet.
+    /// Returns the finding on a claim in the captures of its file. If the file wasn't read yet, it is read now for all
+    /// claims.
     fn find_there<H: Shelf>(
         &self,
         shelf: &mut H,
@@ -102,8 +103,7 @@ impl Claims<'_> {
         Ok(finding)
     }
 
-    /// What the captures that a claim needs say of it. One whose flow isn't there is not confirmed, and
-    /// nothing is read for it.
+    /// Returns the finding on a claim. If its flow doesn't exist, it is not confirmed, and nothing is read for it.
     fn find<H: Shelf>(
         &self,
         shelf: &mut H,
@@ -127,8 +127,7 @@ impl Claims<'_> {
     }
 }
 
-/// Checks the claims of a report, one after the other. Each file is read once, for the first claim that
-/// needs it.
+/// Checks the claims of a report one after the other. Each file is read once, for the first claim that needs it.
 pub fn check_each<H: Shelf>(
     alloc: Global,
     job: &ReportJob,

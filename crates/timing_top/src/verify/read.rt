@@ -1,4 +1,4 @@
-//! Captures that are read once, for all claims on them.
+//! Reads captures once for all claims on them.
 
 ghost use Rattle.std.specs.Prelude.{◌≡◌, ◌≤◌, ◌<◌, ◌^◌, [], ℕ, List, IfOk, IfErr, Some, false, length, map, option_map, slice_get};
 ghost use Rattle.timing_base.specs.Media.{Media as MediaValue};
@@ -22,7 +22,7 @@ use timing_reach::steps::{Failure, fetch_captures, give_back_all};
 use timing_report::Input;
 use timing_report::json_report::ReportProof;
 
-/// Why captures weren't read; one that couldn't be is named by its number among them.
+/// Returns the failure for a fault of reading captures. A capture that couldn't be read has its number among them.
 fn failure_of(fault: CheckFault) -> Failure
     ensures { result ≡ failure_of fault }
 {
@@ -32,9 +32,9 @@ fn failure_of(fault: CheckFault) -> Failure
     }
 }
 
-/// Reads the captures of these names, as one classic capture, once for all readings, which aren't begun.
-/// Each is fetched, in order, and goes back to the shelf; one that couldn't be read is named by its
-/// number among them, from 0.
+/// Reads the captures with these names, as one classic capture, once for all readings, which must not have begun. The
+/// captures are opened in order, and their sources go back to the shelf. `ReadFault` names a capture that couldn't be
+/// read by its number among these, from 0.
 pub fn read_captures<H: Shelf>(
     alloc: Global,
     shelf: &mut H,
@@ -61,14 +61,14 @@ pub fn read_captures<H: Shelf>(
     }
 }
 
-/// The reading of this number.
+/// Returns the reading with this number, from 0.
 fn reading_at(readings: &[Reading], number: usize) -> Option<&Reading>
     ensures { option_map (λ reading. reading.now) result ≡ slice_get readings.now number }
 {
     readings.get(number)
 }
 
-/// What the reading of this number says of a claim.
+/// Returns the finding on a claim in the reading with this number, from 0.
 pub fn answer_of(readings: &[Reading], number: usize, claim: &ReportProof) -> Finding
     ensures { (m : MediaValue) (tai : ℕ) (texts : List (List ℕ)) (r : _)
         → slice_get readings.now number ≡ Some r → IsReadFor m tai texts claim.now r
@@ -80,7 +80,7 @@ pub fn answer_of(readings: &[Reading], number: usize, claim: &ReportProof) -> Fi
     }
 }
 
-/// The failure of a read of one capture, under its number.
+/// Returns the failure of reading one capture, under its number in the job.
 fn numbered(number: u32, failure: Failure) -> Failure
     ensures { result ≡ numbered number failure }
 {
@@ -90,7 +90,7 @@ fn numbered(number: u32, failure: Failure) -> Failure
     }
 }
 
-/// Reads a file of a job: one capture, or all where they are joined.
+/// Reads a file of a job: one capture, or all captures if they are joined.
 fn read_there<H: Shelf>(
     alloc: Global,
     job: &ReportJob,
@@ -117,12 +117,12 @@ fn read_there<H: Shelf>(
     }
 }
 
-/// A file of a job that was read, for all claims of a report.
+/// A file of a job that was read for all claims of a report.
 #[derive(Drop)]
 pub struct FileRead {
-    /// Counted from 0.
+    /// The number of the file, from 0.
     pub file: u32,
-    /// The flows of the description's media.
+    /// The readings of the flows, one for each media of the SDP.
     pub readings: Vec<Reading>,
 }
 

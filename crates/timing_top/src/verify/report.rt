@@ -1,4 +1,4 @@
-//! `verify-report`: each fail that a JSON report tells, checked from the captures alone.
+//! `verify-report`: checks each violation in a JSON report from the captures alone.
 
 ghost use Rattle.std.specs.Prelude.{◌≡◌, ℕ, List, Some, IfOk, IfErr, MatchOption};
 ghost use Rattle.timing_report.specs.json_report.Reading.{IsReport};
@@ -19,10 +19,10 @@ use timing_reach::steps::{Answer, Failure, conclude, fetch_front, fetch_session}
 use timing_report::json_report::{ReportError, ReportProof, read_json};
 use timing_report::{Input, Status};
 
-/// The bytes of a report that are read: one more than it may have.
+/// The greatest number of bytes that are read of a report: one more than a report may have.
 const REPORT_MOST: usize = 16_777_217;
 
-/// The fails that the report of this name tells, or nothing where it isn't in its form.
+/// Returns the violations in the report with this name, or `None` if it isn't in the form of a report.
 fn fetch_report<H: Shelf>(
     alloc: Global,
     shelf: &mut H,
@@ -47,7 +47,7 @@ fn fetch_report<H: Shelf>(
     }
 }
 
-/// The answer on the fails of a report.
+/// Returns the answer on the violations of a report.
 fn answer_on<H: Shelf>(
     alloc: Global,
     job: &ReportJob,
@@ -65,7 +65,7 @@ fn answer_on<H: Shelf>(
     Ok(reported(alloc, &checked)?)
 }
 
-/// The answer over a session of these media.
+/// Returns the answer over a session of these media.
 fn answer_over<H: Shelf>(
     alloc: Global,
     job: &ReportJob,
@@ -84,8 +84,9 @@ fn answer_over<H: Shelf>(
     }
 }
 
-/// The answer of a job, or why there is none. For each fail of the report, in its order, the captures
-/// of its flow are fetched anew; nothing is fetched for one whose flow isn't there.
+/// Returns the answer of a job, or the reason why there is none. The violations of the report are checked in their
+/// order. The captures of a file are read once, for the first violation that needs them; none is read for a violation
+/// with a flow that doesn't exist.
 fn answer_report<H: Shelf>(alloc: Global, job: &ReportJob, shelf: &mut H) -> Result<Answer, Failure>
     ensures follows { FollowsReport job.now (seen_of H.Shelf shelf.old shelf.new) result }
     ensures answers { IfOk result (HasStatus report_ends) }
@@ -98,8 +99,8 @@ fn answer_report<H: Shelf>(alloc: Global, job: &ReportJob, shelf: &mut H) -> Res
     }
 }
 
-/// Checks each fail of a job's report, and prints on `out` which its captures confirm. On `err` it
-/// tells why there is no answer.
+/// Runs `verify-report`: checks each violation of the report, and prints on `out` which of them the captures confirm.
+/// Prints on `err` the reason if there is no output.
 pub fn verify_all<H: Shelf, K: Sink>(
     alloc: Global,
     job: &ReportJob,

@@ -1,4 +1,4 @@
-//! `verify`: one fail, checked from the captures alone.
+//! `verify`: checks one violation from the captures alone.
 
 ghost use Rattle.std.specs.Prelude.{◌≡◌, IfOk, slice_get};
 ghost use Rattle.timing_outside.specs.Shelves.{StaysAs};
@@ -16,7 +16,7 @@ use timing_reach::steps::{Answer, Failure, conclude, fetch_session};
 use timing_report::Status;
 use timing_report::json_report::ReportProof;
 
-/// The fail that a job asks about: one of run 0 of its media.
+/// Returns the violation that a job asks about: one of run 0 of its media in file 0.
 fn claim_of(job: &VerifyJob) -> ReportProof
     ensures { result ≡ claim_of job.now }
 {
@@ -31,7 +31,7 @@ fn claim_of(job: &VerifyJob) -> ReportProof
     }
 }
 
-/// The answer on this media.
+/// Returns the answer for this media.
 fn answer_on<H: Shelf>(
     alloc: Global,
     job: &VerifyJob,
@@ -49,7 +49,7 @@ fn answer_on<H: Shelf>(
     Ok(verified(alloc, media, finding)?)
 }
 
-/// The answer over a session of these media.
+/// Returns the answer over a session of these media.
 fn answer_over<H: Shelf>(
     alloc: Global,
     job: &VerifyJob,
@@ -67,8 +67,8 @@ fn answer_over<H: Shelf>(
     }
 }
 
-/// The answer of a job, or why there is none. Where the description hasn't the media, the fail is not
-/// confirmed, and no capture is fetched.
+/// Returns the answer of a job, or the reason why there is none. If the SDP doesn't have the media, the violation is
+/// not confirmed, and no capture is read.
 fn answer_verify<H: Shelf>(alloc: Global, job: &VerifyJob, shelf: &mut H) -> Result<Answer, Failure>
     ensures follows { FollowsVerify job.now (seen_of H.Shelf shelf.old shelf.new) result }
     ensures answers { IfOk result (HasStatus check_ends) }
@@ -81,8 +81,8 @@ fn answer_verify<H: Shelf>(alloc: Global, job: &VerifyJob, shelf: &mut H) -> Res
     }
 }
 
-/// Checks the fail of a job, and prints on `out` whether its captures confirm it. On `err` it tells
-/// why there is no answer.
+/// Runs `verify`: checks the violation, and prints on `out` whether the captures confirm it. Prints on `err` the reason
+/// if there is no output.
 pub fn verify_one<H: Shelf, K: Sink>(
     alloc: Global,
     job: &VerifyJob,

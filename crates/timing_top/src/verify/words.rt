@@ -1,4 +1,4 @@
-//! What the two commands print, and their statuses.
+//! The output of `verify` and `verify-report`, and their statuses.
 
 ghost use Rattle.std.specs.Prelude.{◌≡◌, ◌++◌, false, IfOk, string_bytes};
 ghost use Rattle.std.specs.List.{flat_map, list_all, list_any};
@@ -11,7 +11,7 @@ use timing_base::{Media, Unjudged, Verdict};
 use timing_reach::steps::Answer;
 use timing_report::{Status, kind_name, verdict_of};
 
-/// The status of one fail.
+/// Returns the status for one violation.
 fn finding_status(finding: Finding) -> Status
     ensures { result ≡ finding_status finding }
 {
@@ -22,7 +22,7 @@ fn finding_status(finding: Finding) -> Status
     }
 }
 
-/// The line of one fail of a flow of this media.
+/// Returns the line for one violation of a flow of this media.
 fn finding_line(alloc: Global, media: &Media, finding: Finding) -> Result<String, OutOfMemory>
     ensures { IfOk result (λ s. string_bytes s ≡ finding_line finding) }
 {
@@ -36,7 +36,7 @@ fn finding_line(alloc: Global, media: &Media, finding: Finding) -> Result<String
     }
 }
 
-/// The answer of `verify` on what was found in a flow of this media.
+/// Returns the answer of `verify` for a finding in a flow of this media.
 pub fn verified(alloc: Global, media: &Media, finding: Finding) -> Result<Answer, OutOfMemory>
     ensures { IfOk result (λ answer. answer ≡ verified finding) }
 {
@@ -46,7 +46,7 @@ pub fn verified(alloc: Global, media: &Media, finding: Finding) -> Result<Answer
     })
 }
 
-/// The answer of `verify` where the description hasn't the media.
+/// Returns the answer of `verify` if the SDP doesn't have the media.
 pub fn unconfirmed(alloc: Global) -> Result<Answer, OutOfMemory>
     ensures { IfOk result (λ answer. answer ≡ verified (Ok false)) }
 {
@@ -56,7 +56,7 @@ pub fn unconfirmed(alloc: Global) -> Result<Answer, OutOfMemory>
     })
 }
 
-/// What was found, as the line of a report's fail has it.
+/// Returns the finding as a word in the line of a violation of a report.
 fn finding_word(finding: Finding) -> &'static str
     ensures { result.now ≡ finding_word finding }
 {
@@ -67,10 +67,10 @@ fn finding_word(finding: Finding) -> &'static str
     }
 }
 
-/// A run after the first, as the line of a report's fail has it.
+/// A run after the first, as the line of a violation of a report has it; nothing for the first run.
 #[derive(Clone, Copy)]
 struct RunWord {
-    /// Counted from 0.
+    /// The number of the run, from 0.
     run: u32,
 }
 
@@ -88,7 +88,7 @@ impl fmt::Display for RunWord {
     }
 }
 
-/// Adds the line of a report's fail.
+/// Adds the line of a violation of a report.
 fn add_checked(text: &mut String, checked: Checked) -> Result<(), OutOfMemory>
     ensures { IfOk result (λ _. string_bytes text.new
         ≡ string_bytes text.old ++ checked_line checked) }
@@ -103,7 +103,7 @@ fn add_checked(text: &mut String, checked: Checked) -> Result<(), OutOfMemory>
     writeln!(text, "{file}.{media}{run} {kind} {word}")
 }
 
-/// Adds the lines of a report's fails.
+/// Adds the lines of the violations of a report.
 fn add_each(text: &mut String, checked: &[Checked]) -> Result<(), OutOfMemory>
     ensures { IfOk result (λ _. string_bytes text.new
         ≡ string_bytes text.old ++ flat_map checked_line checked.now) }
@@ -126,8 +126,8 @@ fn all_confirmed(checked: &[Checked]) -> bool
     checked.iter().all(|item| matches!(item.finding, Ok(true)))
 }
 
-/// The status of the fails of a report: 4 where some flow wasn't judged, else 0 where each is
-/// confirmed, else 1.
+/// Returns the status for the violations of a report: `NotAllJudged` if a flow or run wasn't judged, else `Pass` if all
+/// are confirmed, else `Fail`.
 fn status_of(checked: &[Checked]) -> Status
     ensures { result ≡ status_of checked.now }
 {
@@ -140,7 +140,7 @@ fn status_of(checked: &[Checked]) -> Status
     }
 }
 
-/// The lines of the fails of a report, and its status.
+/// Returns the lines of the violations of a report, and its status.
 fn checked_text(alloc: Global, checked: &[Checked]) -> Result<String, OutOfMemory>
     ensures { IfOk result (λ s. string_bytes s ≡ checked_text checked.now) }
 {
@@ -150,7 +150,7 @@ fn checked_text(alloc: Global, checked: &[Checked]) -> Result<String, OutOfMemor
     Ok(text)
 }
 
-/// The answer of `verify-report`.
+/// Returns the answer of `verify-report`.
 pub fn reported(alloc: Global, checked: &[Checked]) -> Result<Answer, OutOfMemory>
     ensures { IfOk result (λ answer. answer ≡ reported checked.now) }
 {

@@ -25,7 +25,8 @@ use Rattle.sdp_reader.specs.Session.{target_at, target_faults, too_many_faults, 
 use Rattle.sdp_reader.specs.declared.fault.SdpCause.TheVariants.{BadAddress, BadLine, BadMedia, BadParameter, BadRate, MissingParameter, NotText}
 use Rattle.sdp_reader.specs.declared.fault.SdpCause.TheVariants.{SameTarget, TooLarge}
 use Rattle.sdp_reader.specs.declared.fault.SdpFault.{SdpFault}
-use Rattle.capture_scan.specs.report.Draft.{connection_line, draft_text, guess_line, has_target, interlace_text, is_multicast, map_line, media_line, octets_text}
+use Rattle.capture_scan.specs.report.Draft.{connection_line, draft_text, guess_line, has_target, interlace_text, is_multicast, map_line, media_line}
+use Rattle.capture_scan.specs.report.Draft.{octets_text}
 use Rattle.capture_scan.specs.report.Draft.{parameter_line, session_text, video_text}
 use Rattle.capture_scan.specs.report.Rates.{ratio_text}
 use Rattle.capture_scan.specs.report.ReadBack.{HaveOwnTargets, IsDrafted, media_at, media_from, media_of}
@@ -33,9 +34,11 @@ use Rattle.capture_scan.specs.declared.report.draft.DraftVideo.{DraftVideo}
 use Rattle.capture_scan.specs.declared.report.rate.Ratio.{Ratio}
 use Rattle.capture_scan.proofs.lemmas.report.Cutting.{both_true}
 use Rattle.capture_scan.proofs.lemmas.report.Decimals.{at_most}
-use Rattle.capture_scan.proofs.lemmas.report.DraftLines.{IsLimited, body_lines, connection_text, ends-guess, guess_piece, inner-parameter, is_inner, limited-of, line_at, lines-draft, list_text, map_text}
+use Rattle.capture_scan.proofs.lemmas.report.DraftLines.{IsLimited, body_lines, connection_text, ends-guess, guess_piece, inner-parameter, is_inner, limited-of}
+use Rattle.capture_scan.proofs.lemmas.report.DraftLines.{line_at, lines-draft, list_text, map_text}
 use Rattle.capture_scan.proofs.lemmas.report.DraftLines.{media_text}
-use Rattle.capture_scan.proofs.lemmas.report.DraftLines.{others_text, parameter_text, reads-connection, reads-guess, reads-map, reads-media, session_lines, video_lines}
+use Rattle.capture_scan.proofs.lemmas.report.DraftLines.{others_text, parameter_text, reads-connection, reads-guess, reads-map, reads-media, session_lines}
+use Rattle.capture_scan.proofs.lemmas.report.DraftLines.{video_lines}
 use Rattle.capture_scan.proofs.lemmas.report.DraftParts.{ExactFrameRate, Given, Height, Interlace, Rate, Video, Width, fields_text, interlace_items, item_with}
 use Rattle.capture_scan.proofs.lemmas.report.DraftParts.{items_found, parameters-are, rate_found, read-address, read-video}
 use Rattle.capture_scan.proofs.lemmas.report.DraftParts.{reads-raw, value-height, value-ratio, value-width, video_found}

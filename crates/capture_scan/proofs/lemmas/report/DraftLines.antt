@@ -9,7 +9,8 @@ use Rattle.std.proofs.lemmas.Fmt.{decimal_nonempty}
 use Rattle.sdp_reader.specs.Bytes.{is_blank, onto_trimmed, trim_end}
 use Rattle.sdp_reader.specs.Lines.{TextLine, lines, numbered, without_cr}
 use Rattle.sdp_reader.proofs.Numbering.{numbered-line}
-use Rattle.capture_scan.specs.report.Draft.{connection_line, draft_text, guess_line, guess_text, interlace_text, is_multicast, map_line, media_line, octets_text, parameter_line}
+use Rattle.capture_scan.specs.report.Draft.{connection_line, draft_text, guess_line, guess_text, interlace_text, is_multicast, map_line, media_line}
+use Rattle.capture_scan.specs.report.Draft.{octets_text, parameter_line}
 use Rattle.capture_scan.specs.report.Draft.{video_text}
 use Rattle.capture_scan.specs.report.Rates.{ratio_text}
 use Rattle.capture_scan.specs.report.ReadBack.{IsDrafted}

@@ -22,7 +22,8 @@ use Rattle.capture_scan.specs.declared.report.draft.DraftVideo.{DraftVideo}
 use Rattle.capture_scan.specs.declared.report.rate.Ratio.{Ratio}
 use Rattle.capture_scan.proofs.lemmas.report.Cutting.{after-at, all-append, before-at, before-lacks, holds-at, holds-lacks, lacks, split-at}
 use Rattle.capture_scan.proofs.lemmas.report.Decimals.{above-digits, at_most, below-digits, read-digits, read-number, read-within, within-is}
-use Rattle.capture_scan.proofs.lemmas.report.DraftLines.{IsLimited, Stays, body_lines, limited-of, list_text, parameter_text, map_text, stays-after, stays-decimal, tail_text}
+use Rattle.capture_scan.proofs.lemmas.report.DraftLines.{IsLimited, Stays, body_lines, limited-of, list_text, parameter_text, map_text, stays-after}
+use Rattle.capture_scan.proofs.lemmas.report.DraftLines.{stays-decimal, tail_text}
 
 -- ---- types of the reader, by the definitions that give them
 
@@ -262,7 +263,10 @@ stays-ratio r few = by-test (r.q == 1)
   where
     by-test : (b : Bool) → Stays (if b then decimal r.p else decimal r.p ++ (codes "/" ++ decimal r.q))
     by-test true = stays-decimal r.p (omega (arith, few.most, few.seconds))
-    by-test false = stays-after (decimal r.p) (codes "/" ++ decimal r.q) (stays-after (codes "/") (decimal r.q) (stays-decimal r.q (omega (arith, few.seconds))))
+    by-test false = stays-after (decimal r.p) (codes "/" ++ decimal r.q) (stays-after (codes "/") (decimal r.q) (stays-decimal r.q (omega (
+      arith,
+      few.seconds,
+    ))))
 
 rate-item : (line : ℕ) (r : Ratio) → IsLimited r → item_at line (codes " exactframerate=" ++ ratio_text r)
     ≡ Some (item_with line ExactFrameRate (ratio_text r))

@@ -9,7 +9,8 @@ use Rattle.capture_scan.specs.declared.stream.Lines.{Lines}
 use Rattle.capture_scan.specs.declared.stream.Pace.{Pace}
 use Rattle.capture_scan.specs.declared.stream.Rate.{Rate}
 use Rattle.capture_scan.specs.declared.stream.Stream.{Stream}
-use Rattle.capture_scan.specs.report.Draft.{are_of_fields, can_be_drafted, has_target, height_of, is_added, is_near, is_raw, near_height, near_or, rate_of, seen_height}
+use Rattle.capture_scan.specs.report.Draft.{are_of_fields, can_be_drafted, has_target, height_of, is_added, is_near, is_raw, near_height, near_or, rate_of}
+use Rattle.capture_scan.specs.report.Draft.{seen_height}
 use Rattle.capture_scan.specs.report.Draft.{video_of, videos_of, width_of, with_stream}
 use Rattle.capture_scan.specs.report.Rates.{denominator_from, exact, faster, frames_in, is_known, is_slow, is_whole_in, limited, limited_by, measured}
 use Rattle.capture_scan.specs.report.Rates.{measured_or, nearest, nearest_from, ratio_of, ratio_with, slowed, slowest}

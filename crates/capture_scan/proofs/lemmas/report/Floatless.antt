@@ -27,7 +27,8 @@ pace-floatless (Some pace) = rate-floatless pace.rate
 lines-floatless : (lines : Option Lines) → any_float (lines_members lines) ≡ false
 lines-floatless None = refl
 lines-floatless (Some lines) =
-    elim lines.fits as (λ b. any_float (if b then (codes "line", count lines.greatest) ∷ (codes "second_field", boolean lines.second_field) ∷ [] else []) ≡ false)
+    elim lines.fits as (λ b. any_float (if b then (codes "line", count lines.greatest) ∷ (codes "second_field", boolean lines.second_field) ∷ [] else []) ≡
+    false)
     [ true ↦ refl | false ↦ refl ]
 
 stream-floatless : (s : Stream) → has_float (stream_data s) ≡ false

@@ -6,7 +6,8 @@ use Rattle.std.proofs.lemmas.Bool.Decides.{nat_tests}
 use Rattle.capture_scan.specs.declared.stream.Lines.{Lines}
 use Rattle.capture_scan.specs.declared.stream.Pace.{Pace}
 use Rattle.capture_scan.specs.declared.stream.Stream.{Stream}
-use Rattle.capture_scan.specs.report.Draft.{has_fields, has_target, height_of, is_added, is_height_guessed, is_in_use, is_rate_guessed, is_raw, near_height, near_or, seen_height}
+use Rattle.capture_scan.specs.report.Draft.{has_fields, has_target, height_of, is_added, is_height_guessed, is_in_use, is_rate_guessed, is_raw, near_height}
+use Rattle.capture_scan.specs.report.Draft.{near_or, seen_height}
 use Rattle.capture_scan.specs.report.Draft.{video_of}
 use Rattle.capture_scan.specs.declared.report.draft.DraftVideo.{DraftVideo}
 use Rattle.capture_scan.specs.report.Rates.{faster, is_within, slowest}

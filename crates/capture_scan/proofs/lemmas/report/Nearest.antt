@@ -30,7 +30,8 @@ below : (m x : ℕ) → 200 * x < 99 * m → within m x ≡ false
 below m x h = let e : nat_le (99 * m) (200 * x) ≡ false = grind (arith, nat_tests) in ap (λ b. b && nat_le (200 * x) (101 * m)) e
 
 above : (m x : ℕ) → 101 * m < 200 * x → within m x ≡ false
-above m x h = let e : nat_le (200 * x) (101 * m) ≡ false = grind (arith, nat_tests) in ap (λ b. nat_le (99 * m) (200 * x) && b) e ∙ and_no (nat_le (99 * m) (200 * x))
+above m x h = let e : nat_le (200 * x) (101 * m) ≡ false = grind (arith, nat_tests) in ap (λ b. nat_le (99 * m) (200 * x) && b) e ∙ and_no (nat_le (99 * m)
+    (200 * x))
 
 -- where the mean is half-way between two steps or greater, and the longer isn't within, no shorter one is
 slow-none : (m x y z : ℕ) → z ≤ y → y ≤ x → x + y ≤ m → within m x ≡ false → within m z ≡ false

@@ -1,4 +1,4 @@
-use Rattle.flow_measure.proofs.Agrees.{bins-agree, broken-agrees, classes-agree, columns-agree, summary-agrees}
+use Rattle.flow_measure.proofs.Agrees.{bins-agree, broken-agrees, classes-agree, curve-agrees, eye-agrees, summary-agrees}
 use Rattle.flow_measure.proofs.laws.what_was_fed_decides.Goals as goal
 
 pub returns-clause-summary : goal.returns-clause-summary
@@ -10,8 +10,11 @@ returns-clause-bins c = bins-agree
 pub returns-clause-classes : goal.returns-clause-classes
 returns-clause-classes c = classes-agree
 
-pub returns-clause-columns : goal.returns-clause-columns
-returns-clause-columns c = columns-agree
+pub returns-clause-curve : goal.returns-clause-curve
+returns-clause-curve c = curve-agrees (λ x. x)
+
+pub returns-clause-eye : goal.returns-clause-eye
+returns-clause-eye c = eye-agrees (λ x. x)
 
 pub returns-clause-broken : goal.returns-clause-broken
 returns-clause-broken c = broken-agrees

@@ -3,42 +3,39 @@ use Rattle.std.proofs.Common.{◌≡◌, ◌≤◌, ◌<◌, ◌+◌, ◌-◌, �
 use Rattle.std.proofs.Common.{cond, Option, Some, None, inl, inr, refl, ap, ap₂, ◌∙◌, sym, subst, arith, length-append}
 use Rattle.std.specs.Prelude.{◌⊎◌, ◌==◌}
 use Rattle.std.proofs.Math.Dec.{ltb}
-use Rattle.std.proofs.Math.Nat.{add-mul, mul-le-mul_right, zero-div, zero-mod}
+use Rattle.std.proofs.Math.Nat.{add-mul, mul-le-mul_right}
 use Rattle.std.proofs.Math.Seq.{get_or-append_seam}
 use Rattle.std.proofs.lemmas.Bool.{cases_lt, cond-false, cond-true, le-ltb, lt-ltb}
 use Rattle.std.proofs.lemmas.Bool.Decides.{nat_tests}
 use Rattle.std.proofs.lemmas.Int.{clamps, ints}
-use Rattle.std.proofs.lemmas.List.{get_or_append_left, length-map, map-append}
+use Rattle.std.proofs.lemmas.List.{get_or_append_left, length-map}
 use Rattle.std.proofs.lemmas.Nat.{div-add-mod'}
 use Rattle.std.specs.Int.{int_max, int_min}
-use Rattle.fraction128.specs.Fractions.{whole}
-use Rattle.drain_bucket.specs.Word.{bucket_of}
-use Rattle.sender_params.specs.Reads.{AreDue, anchor_of}
-use Rattle.sender_params.specs.Ticks.{NeverFall}
+use Rattle.sender_params.specs.Reads.{anchor_of}
 use Rattle.timing_base.specs.Flows.{no_packet, read_or_zeros}
 use Rattle.timing_base.specs.Judged.{stamp_of}
 use Rattle.timing_base.specs.Media.{Media}
 use Rattle.timing_base.specs.declared.packet.FlowPacket.{FlowPacket}
+use Rattle.vrx_buffer.specs.Occupancy.{IsOccupancy}
+use Rattle.run_meter.specs.Runs.{stamps_of}
+use Rattle.run_meter.specs.declared.level.Level.{Level}
+use Rattle.run_meter.specs.declared.run.RunPacket.{RunPacket}
 use Rattle.flow_measure.specs.Frames.{after_start, timestamp_latency, timestamp_offset, timestamp_step}
 use Rattle.flow_measure.specs.Groups.{firsts_of}
-use Rattle.flow_measure.specs.Occupancy.{AreOccupancies, IsOccupancy, buckets_of}
+use Rattle.flow_measure.specs.Occupancy.{AreOccupancies, buckets_of}
+use Rattle.flow_measure.specs.Packets.{timestamps_of}
 use Rattle.flow_measure.specs.Run.{anchor_in}
-use Rattle.flow_measure.specs.RunStands.{IsLatest}
 use Rattle.flow_measure.specs.Summary.{IsGreatest, IsLeast}
-use Rattle.flow_measure.proofs.Bounds.{IsGreatest-more, IsGreatest-same, IsLeast-more, IsLeast-same}
-use Rattle.flow_measure.proofs.Breaks.{end-of-group, within-group}
-use Rattle.flow_measure.proofs.Filled.{bucket-front}
-use Rattle.flow_measure.proofs.Followed.{front-is, last-is}
 use Rattle.flow_measure.specs.declared.report.rows.GroupRow.{GroupRow}
-use Rattle.flow_measure.specs.rows.Packets.{stamps_of}
-use Rattle.flow_measure.specs.rows.Packets.{timestamps_of}
 use Rattle.flow_measure.specs.rows.Rows.{IsGroupRow, IsOfGroup, IsRowOf, ends_group, step_before, step_from}
 use Rattle.flow_measure.specs.rows.making.Groups.{Begins, BeginsRow, EndsRow, KeepsPlace, KeepsRest, Widens}
-use Rattle.flow_measure.specs.rows.making.Levels.{StandsFor as LevelsStandFor}
-use Rattle.flow_measure.specs.rows.making.Stands.{IsBegun, OfFront, StandsForGroups, last_of, records_in, ticks_in}
-use Rattle.flow_measure.specs.declared.rows.groups.GroupRows.{GroupRows}
-use Rattle.flow_measure.specs.declared.rows.levels.Level.{Level}
-use Rattle.flow_measure.proofs.lemmas.rows.Filling.{latest-of, stamps-long, stamps-more}
+use Rattle.flow_measure.specs.rows.making.Stands.{IsBegun, IsKept, OfFront, StandsFor, last_of, records_in, ticks_in}
+use Rattle.flow_measure.specs.declared.rows.maker.Kept.{Kept}
+use Rattle.flow_measure.specs.declared.rows.maker.RowMaker.{RowMaker}
+use Rattle.flow_measure.proofs.Bounds.{IsGreatest-more, IsGreatest-same, IsLeast-more, IsLeast-same}
+use Rattle.flow_measure.proofs.Breaks.{end-of-group, within-group}
+use Rattle.flow_measure.proofs.Fronts.{bucket-front, front-is, last-is, occupancy-later}
+use Rattle.flow_measure.proofs.Judging.{stamps-long, stamps-more, timestamps-more}
 
 -- the numbers of so many packets, and those of one more
 pub record Extends {A : Type 0} (count : ℕ) (old new : ℕ → A) (x : A) : Type 0 where
@@ -49,27 +46,27 @@ pub record Extends {A : Type 0} (count : ℕ) (old new : ℕ → A) (x : A) : Ty
 list-extends : (xs : List ℕ) (x : ℕ) → Extends (length xs) (slice_index xs) (slice_index (xs ++ x ∷ [])) x
 list-extends xs x = record { front = λ i few. front-is xs x i few; last = last-is xs x }
 
-stamps-extend : (tai : ℕ) (before : List FlowPacket) (p : FlowPacket) (at : ℕ) → stamp_of tai p ≡ at
-    → Extends (length before) (slice_index (stamps_of tai before)) (slice_index (stamps_of tai (before ++ p ∷ []))) at
-stamps-extend tai before p at is =
+stamps-extend : (tai : ℕ) (before : List FlowPacket) (p : FlowPacket)
+    → Extends (length before) (slice_index (stamps_of tai before)) (slice_index (stamps_of tai (before ++ p ∷ []))) (stamp_of tai p)
+stamps-extend tai before p =
     let old = stamps_of tai before in
-    subst (λ l. Extends (length before) (slice_index old) (slice_index l) at) (sym (stamps-more tai before p at is))
+    let at = stamp_of tai p in
+    subst (λ l. Extends (length before) (slice_index old) (slice_index l) at) (sym (stamps-more tai before p))
     (subst (λ k. Extends k (slice_index old) (slice_index (old ++ at ∷ [])) at) (stamps-long tai before) (list-extends old at))
 
-ticks-extend : (before : List FlowPacket) (p : FlowPacket) (t : ℕ) → (read_or_zeros p.rtp).timestamp ≡ t
-    → Extends (length before) (ticks_in before) (ticks_in (before ++ p ∷ [])) t
-ticks-extend before p t is =
+ticks-extend : (before : List FlowPacket) (p : FlowPacket)
+    → Extends (length before) (ticks_in before) (ticks_in (before ++ p ∷ [])) (read_or_zeros p.rtp).timestamp
+ticks-extend before p =
     let of = λ (q : FlowPacket). (read_or_zeros q.rtp).timestamp in
     let old = timestamps_of before in
-    let more : timestamps_of (before ++ p ∷ []) ≡ old ++ t ∷ [] = map-append of before (p ∷ []) ∙ ap (λ x. old ++ x ∷ []) is in
-    subst (λ l. Extends (length before) (slice_index old) (slice_index l) t) (sym more)
+    let t = of p in
+    subst (λ l. Extends (length before) (slice_index old) (slice_index l) t) (sym (timestamps-more before p))
     (subst (λ k. Extends k (slice_index old) (slice_index (old ++ t ∷ [])) t) (length-map before of) (list-extends old t))
 
-records-extend : (before : List FlowPacket) (p : FlowPacket) (rec : ℕ) → p.rec ≡ rec
-    → Extends (length before) (records_in before) (records_in (before ++ p ∷ [])) rec
-records-extend before p rec is = record {
+records-extend : (before : List FlowPacket) (p : FlowPacket) → Extends (length before) (records_in before) (records_in (before ++ p ∷ [])) p.rec
+records-extend before p = record {
   front = λ i few. ap (λ (q : FlowPacket). q.rec) (get_or_append_left before (p ∷ []) no_packet i few);
-  last = ap (λ (q : FlowPacket). q.rec) (get_or-append_seam before p [] no_packet) ∙ is;
+  last = ap (λ (q : FlowPacket). q.rec) (get_or-append_seam before p [] no_packet);
 }
 
 buckets-extend : (m : Media) (n : ℕ) (stamps : List ℕ) (at bucket : ℕ) → buckets_of m n (stamps ++ at ∷ []) (length stamps) ≡ pos bucket
@@ -88,20 +85,6 @@ extends-with count old x = record {
   front = λ i few. cond-true (ltb i count) (old i) x (lt-ltb i count few);
   last = cond-false (ltb count count) (old count) x (le-ltb count count (omega arith));
 }
-
--- what the buffer holds at a packet is so still once another came
-occupancy-later : (m : Media) (n : ℕ) (stamps : List ℕ) (gapped : Bool) (at i : ℕ) (x : ℤ) → i < length stamps
-    → IsOccupancy m n stamps gapped i x → IsOccupancy m n (stamps ++ at ∷ []) gapped i x
-occupancy-later m n stamps gapped at i x few o =
-    let new = stamps ++ at ∷ [] in
-    let first : slice_index new 0 ≡ slice_index stamps 0 = front-is stamps at 0 (omega (arith, few)) in
-    let here : slice_index new i ≡ slice_index stamps i = front-is stamps at i few in
-    record {
-      reads = o.reads;
-      due = subst (λ t. AreDue m n (anchor_of m (slice_index new 0)) gapped (whole t) o.reads) (sym here)
-          (subst (λ f. AreDue m n (anchor_of m f) gapped (whole (slice_index stamps i)) o.reads) (sym first) o.due);
-      is = o.is;
-    }
 
 occupancies-more : (m : Media) (n : ℕ) (stamps : List ℕ) (gapped : Bool) (at : ℕ) (old : ℕ → ℤ) (x : ℤ) → AreOccupancies m n stamps gapped old
     → IsOccupancy m n (stamps ++ at ∷ []) gapped (length stamps) x
@@ -196,21 +179,23 @@ anchor-begun m (suc j) n count before n0 new f stamp more at whole some e is fir
 
 -- the packets of a run and one more: their numbers
 pub record IsNext (count : ℕ) (stamp more_stamp records more_records timestamp more_timestamp : ℕ → ℕ)
-    (bucket more_bucket gapped more_gapped linear more_linear : ℕ → ℤ) (at rec t : ℕ) (level : Level) : Type 0 where
-  pub stamps : Extends count stamp more_stamp at
-  pub recs : Extends count records more_records rec
-  pub ticks : Extends count timestamp more_timestamp t
-  pub buckets : Extends count bucket more_bucket (pos level.bucket)
-  pub gapped_next : Extends count gapped more_gapped level.gapped
-  pub linear_next : Extends count linear more_linear level.linear
+    (bucket more_bucket gapped more_gapped linear more_linear : ℕ → ℤ) (kept : Kept) : Type 0 where
+  pub stamps : Extends count stamp more_stamp kept.packet.at
+  pub recs : Extends count records more_records kept.packet.rec
+  pub ticks : Extends count timestamp more_timestamp kept.packet.timestamp
+  pub buckets : Extends count bucket more_bucket (pos kept.level.bucket)
+  pub gapped_next : Extends count gapped more_gapped kept.level.gapped.occupancy
+  pub linear_next : Extends count linear more_linear kept.level.linear.occupancy
 
 -- a group begins with it
-row-begins : (m : Media) (n k count : ℕ) (n0 anchor : ℤ) (before : Option ℕ) (s s2 r r2 ts ts2 : ℕ → ℕ) (b b2 g g2 l l2 : ℕ → ℤ) (at rec t : ℕ)
-    (level : Level) (old new : GroupRow) → k * n ≡ count → 1 ≤ n → old.group ≡ k → n0 ≡ anchor → before ≡ last_of (firsts_of n ts) k
-    → IsNext count s s2 r r2 ts ts2 b b2 g g2 l l2 at rec t level
-    → BeginsRow m n0 before rec at t level old new
+row-begins : (m : Media) (n k count : ℕ) (n0 anchor : ℤ) (before : Option ℕ) (s s2 r r2 ts ts2 : ℕ → ℕ) (b b2 g g2 l l2 : ℕ → ℤ) (kept : Kept)
+    (old new : GroupRow) → k * n ≡ count → 1 ≤ n → old.group ≡ k → n0 ≡ anchor → before ≡ last_of (firsts_of n ts) k
+    → IsNext count s s2 r r2 ts ts2 b b2 g g2 l l2 kept
+    → BeginsRow m n0 before kept old new
     → IsBegun m n k (count + 1) anchor s2 r2 ts2 b2 g2 l2 new
-row-begins m n k count n0 anchor before s s2 r r2 ts ts2 b b2 g g2 l l2 at rec t level old new whole some group same is e h =
+row-begins m n k count n0 anchor before s s2 r r2 ts ts2 b b2 g g2 l l2 kept old new whole some group same is e h =
+    let at = kept.packet.at in
+    let t = kept.packet.timestamp in
     let here_at : s2 (k * n) ≡ at = ap s2 whole ∙ e.stamps.last in
     let here_t : ts2 (k * n) ≡ t = ap ts2 whole ∙ e.ticks.last in
     let front : (j : ℕ) → j < k → firsts_of n ts2 j ≡ firsts_of n ts j =
@@ -233,13 +218,14 @@ row-begins m n k count n0 anchor before s s2 r r2 ts ts2 b b2 g g2 l l2 at rec t
     }
 
 -- it is another one of its group
-row-widens : (m : Media) (n k count : ℕ) (anchor : ℤ) (s s2 r r2 ts ts2 : ℕ → ℕ) (b b2 g g2 l l2 : ℕ → ℤ) (at rec t : ℕ)
-    (level : Level) (old new : GroupRow) → k * n < count → 1 ≤ n
-    → IsNext count s s2 r r2 ts ts2 b b2 g g2 l l2 at rec t level
+row-widens : (m : Media) (n k count : ℕ) (anchor : ℤ) (s s2 r r2 ts ts2 : ℕ → ℕ) (b b2 g g2 l l2 : ℕ → ℤ) (kept : Kept)
+    (old new : GroupRow) → k * n < count → 1 ≤ n
+    → IsNext count s s2 r r2 ts ts2 b b2 g g2 l l2 kept
     → IsBegun m n k count anchor s r ts b g l old
-    → Widens level old new
+    → Widens kept.level old new
     → IsBegun m n k (count + 1) anchor s2 r2 ts2 b2 g2 l2 new
-row-widens m n k count anchor s s2 r r2 ts ts2 b b2 g g2 l l2 at rec t level old new behind some e o w =
+row-widens m n k count anchor s s2 r r2 ts ts2 b b2 g g2 l l2 kept old new behind some e o w =
+    let level = kept.level in
     let p = w.place in
     let from : k * n ≤ count = omega (arith, behind) in
     let here_at : s (k * n) ≡ s2 (k * n) = sym (e.stamps.front (k * n) behind) in
@@ -256,10 +242,10 @@ row-widens m n k count anchor s s2 r r2 ts ts2 b b2 g g2 l l2 at rec t level old
       offset = p.offset ∙ o.offset ∙ ap (timestamp_offset m anchor k) here_t;
       latency = p.latency ∙ o.latency ∙ ap₂ (λ (a x : ℕ). timestamp_latency a x) here_at here_t;
       bucket_is = greatest-more b b2 n k count (pos level.bucket) (pos old.bucket) (pos new.bucket) from e.buckets o.bucket_is high;
-      gapped_least = least-more g g2 n k count level.gapped old.gapped_least new.gapped_least from e.gapped_next o.gapped_least w.gapped_least;
-      gapped_is = greatest-more g g2 n k count level.gapped old.gapped new.gapped from e.gapped_next o.gapped_is w.gapped;
-      linear_least = least-more l l2 n k count level.linear old.linear_least new.linear_least from e.linear_next o.linear_least w.linear_least;
-      linear_is = greatest-more l l2 n k count level.linear old.linear new.linear from e.linear_next o.linear_is w.linear;
+      gapped_least = least-more g g2 n k count level.gapped.occupancy old.gapped_least new.gapped_least from e.gapped_next o.gapped_least w.gapped_least;
+      gapped_is = greatest-more g g2 n k count level.gapped.occupancy old.gapped new.gapped from e.gapped_next o.gapped_is w.gapped;
+      linear_least = least-more l l2 n k count level.linear.occupancy old.linear_least new.linear_least from e.linear_next o.linear_least w.linear_least;
+      linear_is = greatest-more l l2 n k count level.linear.occupancy old.linear new.linear from e.linear_next o.linear_is w.linear;
     }
   where
     step-same : (f g : ℕ → ℕ) (k : ℕ) → ((j : ℕ) → j < k → g j ≡ f j) → g k ≡ f k → step_before f k ≡ step_before g k
@@ -269,10 +255,9 @@ row-widens m n k count anchor s s2 r r2 ts ts2 b b2 g g2 l l2 at rec t level old
         ap₂ (λ (a b : ℕ). Some (timestamp_step a b)) (sym (same j (omega arith))) (ap f (sym e) ∙ sym here ∙ ap g e)
 
 -- the packets came, of which the last is of group k, and its row has all of it that came
-pub record IsTaken (m : Media) (tai run n k : ℕ) (x : GroupRows) (packets : List FlowPacket) : Type 0 where
+pub record IsTaken (m : Media) (tai run n k : ℕ) (x : RowMaker) (packets : List FlowPacket) : Type 0 where
   pub run_is : x.row.run ≡ run
   pub group_is : x.row.group ≡ k
-  pub levels_are : LevelsStandFor m n x.levels (stamps_of tai packets)
   pub anchor_is : x.n0 ≡ anchor_in m (stamps_of tai packets)
   pub before_is : x.before ≡ Some (firsts_of n (ticks_in packets) k)
   pub gapped : ℕ → ℤ
@@ -282,50 +267,61 @@ pub record IsTaken (m : Media) (tai run n k : ℕ) (x : GroupRows) (packets : Li
   pub begun : IsBegun m n k (length packets) (anchor_in m (stamps_of tai packets)) (slice_index (stamps_of tai packets)) (records_in packets)
       (ticks_in packets) (buckets_of m n (stamps_of tai packets)) gapped linear x.row
 
--- what is held at a packet more, in words of the packets
-record IsHeldAt (m : Media) (tai n : ℕ) (before : List FlowPacket) (p : FlowPacket) (at : ℕ) (level : Level) : Type 0 where
-  pub bucket : pos level.bucket ≡ buckets_of m n (stamps_of tai before ++ at ∷ []) (length (stamps_of tai before))
-  pub gapped : IsOccupancy m n (stamps_of tai before ++ at ∷ []) true (length (stamps_of tai before)) level.gapped
-  pub linear : IsOccupancy m n (stamps_of tai before ++ at ∷ []) false (length (stamps_of tai before)) level.linear
-
 -- the numbers of a packet more
-next-of : (m : Media) (tai n : ℕ) (before : List FlowPacket) (p : FlowPacket) (rec at t : ℕ) (level : Level) (gapped linear : ℕ → ℤ) → p.rec ≡ rec
-    → stamp_of tai p ≡ at → (read_or_zeros p.rtp).timestamp ≡ t → IsHeldAt m tai n before p at level
+next-of : (m : Media) (tai n : ℕ) (before : List FlowPacket) (p : FlowPacket) (kept : Kept) (gapped linear : ℕ → ℤ)
+    → IsKept m tai n before p kept
     → IsNext (length before) (slice_index (stamps_of tai before)) (slice_index (stamps_of tai (before ++ p ∷ []))) (records_in before)
     (records_in (before ++ p ∷ [])) (ticks_in before) (ticks_in (before ++ p ∷ [])) (buckets_of m n (stamps_of tai before))
-    (buckets_of m n (stamps_of tai (before ++ p ∷ []))) gapped (extended (length (stamps_of tai before)) gapped level.gapped) linear
-    (extended (length (stamps_of tai before)) linear level.linear) at rec t level
-next-of m tai n before p rec at t level gapped linear same came ticks held =
+    (buckets_of m n (stamps_of tai (before ++ p ∷ []))) gapped (extended (length before) gapped kept.level.gapped.occupancy) linear
+    (extended (length before) linear kept.level.linear.occupancy) kept
+next-of m tai n before p kept gapped linear is =
     let old = stamps_of tai before in
-    let long = stamps-long tai before in
+    let new = stamps_of tai (before ++ p ∷ []) in
+    let q = is.packet_is in
     record {
-      stamps = stamps-extend tai before p at came;
-      recs = records-extend before p rec same;
-      ticks = ticks-extend before p t ticks;
-      buckets = subst (λ l. Extends (length before) (buckets_of m n old) (buckets_of m n l) (pos level.bucket)) (sym (stamps-more tai before p at came))
-          (subst (λ k. Extends k (buckets_of m n old) (buckets_of m n (old ++ at ∷ [])) (pos level.bucket)) long
-          (buckets-extend m n old at level.bucket (sym held.bucket)));
-      gapped_next = subst (λ k. Extends k gapped (extended (length old) gapped level.gapped) level.gapped) long
-          (extends-with (length old) gapped level.gapped);
-      linear_next = subst (λ k. Extends k linear (extended (length old) linear level.linear) level.linear) long
-          (extends-with (length old) linear level.linear);
+      stamps = subst (Extends (length before) (slice_index old) (slice_index new)) (sym (ap (λ (x : RunPacket). x.at) q)) (stamps-extend tai before p);
+      recs = subst (Extends (length before) (records_in before) (records_in (before ++ p ∷ []))) (sym (ap (λ (x : RunPacket). x.rec) q))
+          (records-extend before p);
+      ticks = subst (Extends (length before) (ticks_in before) (ticks_in (before ++ p ∷ []))) (sym (ap (λ (x : RunPacket). x.timestamp) q))
+          (ticks-extend before p);
+      buckets = subst (λ l. Extends (length before) (buckets_of m n old) (buckets_of m n l) (pos kept.level.bucket)) (sym (stamps-more tai before p))
+          (subst (λ k. Extends k (buckets_of m n old) (buckets_of m n (old ++ stamp_of tai p ∷ [])) (pos kept.level.bucket)) (stamps-long tai before)
+          (buckets-extend m n old (stamp_of tai p) kept.level.bucket
+          (ap (λ k. buckets_of m n (old ++ stamp_of tai p ∷ []) k) (stamps-long tai before)
+          ∙ ap (λ l. buckets_of m n l (length before)) (sym (stamps-more tai before p)) ∙ ap (λ b. pos b) (sym is.level_is.bucket))));
+      gapped_next = extends-with (length before) gapped kept.level.gapped.occupancy;
+      linear_next = extends-with (length before) linear kept.level.linear.occupancy;
     }
 
+-- what the buffer holds at the packets, and at one more
+occupancies-next : (m : Media) (tai n : ℕ) (before : List FlowPacket) (p : FlowPacket) (gapped : Bool) (numbers : ℕ → ℤ) (x : ℤ)
+    → AreOccupancies m n (stamps_of tai before) gapped numbers
+    → IsOccupancy m n (stamps_of tai (before ++ p ∷ [])) gapped (length before) x
+    → AreOccupancies m n (stamps_of tai (before ++ p ∷ [])) gapped (extended (length before) numbers x)
+occupancies-next m tai n before p gapped numbers x are here =
+    let old = stamps_of tai before in
+    let at = stamp_of tai p in
+    let more = stamps-more tai before p in
+    let long = stamps-long tai before in
+    let last : IsOccupancy m n (old ++ at ∷ []) gapped (length old) x =
+    subst (λ k. IsOccupancy m n (old ++ at ∷ []) gapped k x) (sym long) (subst (λ l. IsOccupancy m n l gapped (length before) x) more here) in
+    subst (λ l. AreOccupancies m n l gapped (extended (length before) numbers x)) (sym more)
+    (subst (λ k. AreOccupancies m n (old ++ at ∷ []) gapped (extended k numbers x)) long (occupancies-more m n old gapped at numbers x are last))
+
 -- a packet more came, and the row says so
-row-taken : (m : Media) (tai run n k : ℕ) (x : GroupRows) (before : List FlowPacket) (p : FlowPacket) (gapped linear : ℕ → ℤ)
-    → LevelsStandFor m n x.levels (stamps_of tai (before ++ p ∷ [])) → AreOccupancies m n (stamps_of tai (before ++ p ∷ [])) true gapped
+row-taken : (m : Media) (tai run n k : ℕ) (x : RowMaker) (before : List FlowPacket) (p : FlowPacket) (gapped linear : ℕ → ℤ)
+    → AreOccupancies m n (stamps_of tai (before ++ p ∷ [])) true gapped
     → AreOccupancies m n (stamps_of tai (before ++ p ∷ [])) false linear → x.row.run ≡ run → x.row.group ≡ k
     → x.n0 ≡ anchor_in m (stamps_of tai (before ++ p ∷ [])) → x.before ≡ Some (firsts_of n (ticks_in (before ++ p ∷ [])) k)
     → IsBegun m n k (length before + 1) (anchor_in m (stamps_of tai (before ++ p ∷ []))) (slice_index (stamps_of tai (before ++ p ∷ [])))
     (records_in (before ++ p ∷ [])) (ticks_in (before ++ p ∷ [])) (buckets_of m n (stamps_of tai (before ++ p ∷ []))) gapped linear x.row
     → IsTaken m tai run n k x (before ++ p ∷ [])
-row-taken m tai run n k x before p gapped linear levels gapped_are linear_are run_is group_is anchor_is before_is begun =
+row-taken m tai run n k x before p gapped linear gapped_are linear_are run_is group_is anchor_is before_is begun =
     let all = before ++ p ∷ [] in
     let now = stamps_of tai all in
     record {
       run_is = run_is;
       group_is = group_is;
-      levels_are = levels;
       anchor_is = anchor_is;
       before_is = before_is;
       gapped = gapped;
@@ -336,99 +332,76 @@ row-taken m tai run n k x before p gapped linear levels gapped_are linear_are ru
           (sym (length-append before (p ∷ []))) begun;
     }
 
--- so with a packet more
-taken : (m : Media) (tai run n : ℕ) (old mid new : GroupRows) (before : List FlowPacket) (p : FlowPacket) (rec at t : ℕ) (level : Level)
-    → (mid.place ≡ 0 → Begins rec at t level mid new)
-    → (0 < mid.place → KeepsRest mid new × Widens level mid.row new.row)
-    → mid.row ≡ old.row → mid.n0 ≡ old.n0 → mid.place ≡ old.place → mid.before ≡ old.before → old.place < n
-    → LevelsStandFor m n mid.levels (stamps_of tai (before ++ p ∷ [])) → new.levels ≡ mid.levels
-    → p.rec ≡ rec → stamp_of tai p ≡ at → (read_or_zeros p.rtp).timestamp ≡ t
-    → IsHeldAt m tai n before p at level
-    → StandsForGroups m tai run n old before
-    → IsTaken m tai run n (length before / n) new (before ++ p ∷ [])
-taken m tai run n old mid new before p rec at t level begins widens row_same n0_same place_same before_same within fed levels same came ticks held h =
+-- the place of the next packet among the groups
+pub record IsPlaced (n count : ℕ) (x : RowMaker) : Type 0 where
+  pub place : x.walk.place ≡ count % n
+  pub within : x.walk.place < n
+  pub group : x.walk.group ≡ count / n
+  pub parts : x.walk.group * n + x.walk.place ≡ count
+
+pub placed : (m : Media) (tai run n : ℕ) (x : RowMaker) (before : List FlowPacket) → StandsFor m tai run n x before → IsPlaced n (length before) x
+placed m tai run n x before h =
+    let w = x.walk in
     let count = length before in
-    let k = count / n in
+    let place : w.place ≡ count % n = w.place_is ∙ ap (λ s. s % w.n) h.seen ∙ ap (λ k. count % k) h.n_is in
+    let group : w.group ≡ count / n = w.group_is ∙ ap (λ s. s / w.n) h.seen ∙ ap (λ k. count / k) h.n_is in
+    let same : w.group * n ≡ count / n * n = ap (λ g. g * n) group in
+    record {
+      place = place;
+      within = omega (arith, w.place_within, h.n_is);
+      group = group;
+      parts = omega (arith, same, place, div-add-mod' count n);
+    }
+
+-- so with a packet more
+pub taken : (m : Media) (tai run n : ℕ) (old new : RowMaker) (before : List FlowPacket) (p : FlowPacket) (kept : Kept)
+    → (old.walk.place ≡ 0 → Begins m kept old new)
+    → (0 < old.walk.place → KeepsRest old new × Widens kept.level old.row new.row)
+    → IsKept m tai n before p kept
+    → StandsFor m tai run n old before
+    → IsTaken m tai run n old.walk.group new (before ++ p ∷ [])
+taken m tai run n old new before p kept begins widens is h =
+    let count = length before in
+    let k = old.walk.group in
     let all = before ++ p ∷ [] in
     let past = stamps_of tai before in
     let now = stamps_of tai all in
-    let more = stamps-more tai before p at came in
-    let parts : k * n + count % n ≡ count = div-add-mod' count n in
-    let gapped = extended (length past) h.gapped level.gapped in
-    let linear = extended (length past) h.linear level.linear in
-    let gapped_are : AreOccupancies m n now true gapped = subst (λ l. AreOccupancies m n l true gapped) (sym more)
-    (occupancies-more m n past true at h.gapped level.gapped h.gapped_are held.gapped) in
-    let linear_are : AreOccupancies m n now false linear = subst (λ l. AreOccupancies m n l false linear) (sym more)
-    (occupancies-more m n past false at h.linear level.linear h.linear_are held.linear) in
-    let so = row-taken m tai run n k new before p gapped linear (subst (λ l. LevelsStandFor m n l now) (sym levels) fed) gapped_are linear_are in
-    let e = next-of m tai n before p rec at t level h.gapped h.linear same came ticks held in
-    let media : mid.levels.params.media ≡ m = fed.media_is in
-    let some : 1 ≤ n = omega (arith, within) in
-    elim (cases_lt 0 old.place) as (λ _. IsTaken m tai run n k new all) [
+    let at = placed m tai run n old before h in
+    let gapped = extended count h.gapped kept.level.gapped.occupancy in
+    let linear = extended count h.linear kept.level.linear.occupancy in
+    let gapped_are = occupancies-next m tai n before p true h.gapped kept.level.gapped.occupancy h.gapped_are is.level_is.gapped.occupancy in
+    let linear_are = occupancies-next m tai n before p false h.linear kept.level.linear.occupancy h.linear_are is.level_is.linear.occupancy in
+    let so = row-taken m tai run n k new before p gapped linear gapped_are linear_are in
+    let e = next-of m tai n before p kept h.gapped h.linear is in
+    let some : 1 ≤ n = omega (arith, at.within) in
+    let row_group : old.row.group ≡ k = old.group_is in
+    elim (cases_lt 0 old.walk.place) as (λ _. IsTaken m tai run n k new all) [
       | inl inside ↦
-          let w = widens (omega (arith, inside, place_same)) in
-          let behind : k * n < count = omega (arith, parts, inside, h.place_is) in
+          let w = widens inside in
+          let behind : k * n < count = omega (arith, at.parts, inside) in
           let few : 0 < count = omega (arith, behind) in
           let anchors : anchor_in m past ≡ anchor_in m now = ap (anchor_of m) (sym (e.stamps.front 0 few)) in
-          so (w.1.place.run ∙ ap (λ (r : GroupRow). r.run) row_same ∙ h.run_is)
-          (w.1.place.group ∙ ap (λ (r : GroupRow). r.group) row_same ∙ h.group_is)
-          (w.0.n0_is ∙ n0_same ∙ h.anchor_is few ∙ anchors)
-          (w.0.before_is ∙ before_same ∙ h.goes_on inside ∙ ap (λ (x : ℕ). Some x) (sym (e.ticks.front (k * n) behind)))
+          so (w.1.place.run ∙ h.run_is) (w.1.place.group ∙ row_group) (w.0.n0_is ∙ h.anchor_is few ∙ anchors)
+          (w.0.before_is ∙ h.goes_on inside ∙ ap (λ (x : ℕ). Some x) (sym (e.ticks.front (k * n) behind)))
           (row-widens m n k count (anchor_in m now) (slice_index past) (slice_index now) (records_in before) (records_in all) (ticks_in before)
-          (ticks_in all) (buckets_of m n past) (buckets_of m n now) h.gapped gapped h.linear linear at rec t level mid.row new.row behind some e
-          (subst (λ a. IsBegun m n k count a (slice_index past) (records_in before) (ticks_in before) (buckets_of m n past) h.gapped h.linear mid.row)
-          anchors
-          (subst (λ r. IsBegun m n k count (anchor_in m past) (slice_index past) (records_in before) (ticks_in before) (buckets_of m n past) h.gapped
-          h.linear r) (sym row_same) (h.begun inside)))
+          (ticks_in all) (buckets_of m n past) (buckets_of m n now) h.gapped gapped h.linear linear kept old.row new.row behind some e
+          (subst (λ a. IsBegun m n k count a (slice_index past) (records_in before) (ticks_in before) (buckets_of m n past) h.gapped h.linear old.row)
+          anchors (h.begun inside))
           w.1)
       | inr outside ↦
-          let zero_place : old.place ≡ 0 = omega (arith, outside) in
-          let b = begins (omega (arith, zero_place, place_same)) in
-          let whole : k * n ≡ count = omega (arith, parts, zero_place, h.place_is) in
-          let is : mid.before ≡ last_of (firsts_of n (ticks_in before)) k = before_same ∙ h.over zero_place in
-          let group : mid.row.group ≡ k = ap (λ (r : GroupRow). r.group) row_same ∙ h.group_is in
-          let here_t : ticks_in all (k * n) ≡ t = ap (ticks_in all) whole ∙ e.ticks.last in
+          let zero_place : old.walk.place ≡ 0 = omega (arith, outside) in
+          let b = begins zero_place in
+          let whole : k * n ≡ count = omega (arith, at.parts, zero_place) in
+          let before_is : old.before ≡ last_of (firsts_of n (ticks_in before)) k = h.over zero_place in
+          let here_t : ticks_in all (k * n) ≡ kept.packet.timestamp = ap (ticks_in all) whole ∙ e.ticks.last in
           let anchor : new.n0 ≡ anchor_in m now =
-          anchor-begun m k n count mid.before mid.n0 new.n0 (firsts_of n (ticks_in before)) (slice_index past) (slice_index now) at whole some e.stamps is
-          (λ none. b.first none ∙ ap (λ (x : Media). anchor_of x at) media) b.later (λ few. n0_same ∙ h.anchor_is few) in
-          so (b.row_is.run ∙ ap (λ (r : GroupRow). r.run) row_same ∙ h.run_is) (b.row_is.group ∙ group) anchor
-          (b.before_is ∙ ap (λ (x : ℕ). Some x) (sym here_t))
-          (row-begins m n k count new.n0 (anchor_in m now) mid.before (slice_index past) (slice_index now) (records_in before) (records_in all)
-          (ticks_in before) (ticks_in all) (buckets_of m n past) (buckets_of m n now) h.gapped gapped h.linear linear at rec t level mid.row new.row
-          whole some group anchor is e
-          (subst (λ (x : Media). BeginsRow x new.n0 mid.before rec at t level mid.row new.row) media b.row_is))
+          anchor-begun m k n count old.before old.n0 new.n0 (firsts_of n (ticks_in before)) (slice_index past) (slice_index now) kept.packet.at whole some
+          e.stamps before_is b.first b.later h.anchor_is in
+          so (b.row_is.run ∙ h.run_is) (b.row_is.group ∙ row_group) anchor (b.before_is ∙ ap (λ (x : ℕ). Some x) (sym here_t))
+          (row-begins m n k count new.n0 (anchor_in m now) old.before (slice_index past) (slice_index now) (records_in before) (records_in all)
+          (ticks_in before) (ticks_in all) (buckets_of m n past) (buckets_of m n now) h.gapped gapped h.linear linear kept old.row new.row
+          whole some row_group anchor before_is e b.row_is)
     ]
-
--- so where a meter of levels was fed the packet, which says what is held
-pub taken-fed : (m : Media) (tai run n : ℕ) (old mid new : GroupRows) (before : List FlowPacket) (p : FlowPacket) (rec at t : ℕ) (level : Level)
-    → ((m : Media) (n : ℕ) (stamps : List ℕ) → LevelsStandFor m n old.levels stamps → IsLatest stamps at
-    → level.bucket ≡ bucket_of m n (stamps ++ at ∷ []) (length stamps))
-    → ((m : Media) (n : ℕ) (stamps : List ℕ) → LevelsStandFor m n old.levels stamps → IsLatest stamps at
-    → IsOccupancy m n (stamps ++ at ∷ []) true (length stamps) level.gapped)
-    → ((m : Media) (n : ℕ) (stamps : List ℕ) → LevelsStandFor m n old.levels stamps → IsLatest stamps at
-    → IsOccupancy m n (stamps ++ at ∷ []) false (length stamps) level.linear)
-    → ((m : Media) (n : ℕ) (stamps : List ℕ) → LevelsStandFor m n old.levels stamps → IsLatest stamps at
-    → LevelsStandFor m n mid.levels (stamps ++ at ∷ []))
-    → (mid.place ≡ 0 → Begins rec at t level mid new)
-    → (0 < mid.place → KeepsRest mid new × Widens level mid.row new.row)
-    → mid.row ≡ old.row → mid.n0 ≡ old.n0 → mid.place ≡ old.place → mid.before ≡ old.before → old.place < n → new.levels ≡ mid.levels
-    → p.rec ≡ rec → stamp_of tai p ≡ at → (read_or_zeros p.rtp).timestamp ≡ t
-    → NeverFall (stamps_of tai (before ++ p ∷ []))
-    → StandsForGroups m tai run n old before
-    → IsTaken m tai run n (length before / n) new (before ++ p ∷ [])
-taken-fed m tai run n old mid new before p rec at t level bucket gapped linear stands begins widens row n0 place earlier within levels same came ticks
-    rising h =
-    let past = stamps_of tai before in
-    let more = stamps-more tai before p at came in
-    let latest = latest-of past at (subst NeverFall more rising) in
-    let fed : LevelsStandFor m n mid.levels (stamps_of tai (before ++ p ∷ [])) =
-    subst (λ l. LevelsStandFor m n mid.levels l) (sym more) (stands m n past h.levels_are latest) in
-    let held : IsHeldAt m tai n before p at level = record {
-      bucket = ap (λ k. pos k) (bucket m n past h.levels_are latest);
-      gapped = gapped m n past h.levels_are latest;
-      linear = linear m n past h.levels_are latest;
-    } in
-    taken m tai run n old mid new before p rec at t level begins widens row n0 place earlier within fed levels same came ticks held h
 
 -- a row with another last packet, and other extremes, is of the same place
 pub place-kept : (row : GroupRow) (last : ℤ) (bucket : ℕ) (gapped_least gapped linear_least linear : ℤ)
@@ -452,35 +425,29 @@ place-kept row last bucket gapped_least gapped linear_least linear = record {
   latency = refl;
 }
 
--- the group goes on
-pub goes-on : (m : Media) (tai run n : ℕ) (x y : GroupRows) (before : List FlowPacket) (p : FlowPacket) (place : ℕ) → y.row ≡ x.row → y.levels ≡ x.levels
-    → y.n0 ≡ x.n0 → y.before ≡ x.before → y.place ≡ place + 1 → place + 1 < n → place ≡ length before % n
-    → IsTaken m tai run n (length before / n) x (before ++ p ∷ [])
-    → StandsForGroups m tai run n y (before ++ p ∷ [])
-goes-on m tai run n x y before p place row levels n0 earlier at within is t =
-    let count = length before in
+-- the group of the packet isn't over
+pub goes-on : (m : Media) (tai run n : ℕ) (old x y : RowMaker) (before : List FlowPacket) (p : FlowPacket) → y.row ≡ x.row → y.n0 ≡ x.n0
+    → y.before ≡ x.before → y.walk.n ≡ n → y.walk.seen ≡ length before + 1 → y.walk.place ≡ old.walk.place + 1 → y.walk.group ≡ old.walk.group
+    → IsTaken m tai run n old.walk.group x (before ++ p ∷ [])
+    → StandsFor m tai run n y (before ++ p ∷ [])
+goes-on m tai run n old x y before p row n0 earlier size seen place group t =
     let all = before ++ p ∷ [] in
     let now = stamps_of tai all in
-    let long : length all ≡ count + 1 = length-append before (p ∷ []) in
-    let e = within-group count n 1 (omega (arith, is, within)) in
-    let group : count / n ≡ length all / n = sym e.0 ∙ ap (λ c. c / n) (sym long) in
     record {
       run_is = ap (λ (r : GroupRow). r.run) row ∙ t.run_is;
-      levels_are = subst (λ l. LevelsStandFor m n l now) (sym levels) t.levels_are;
-      place_is = at ∙ ap (λ c. c + 1) is ∙ sym e.1 ∙ ap (λ c. c % n) (sym long);
-      group_is = ap (λ (r : GroupRow). r.group) row ∙ t.group_is ∙ group;
+      n_is = size;
+      seen = seen ∙ sym (length-append before (p ∷ []));
       anchor_is = λ _. n0 ∙ t.anchor_is;
-      over = λ none. absurd (omega (arith, none, at));
-      goes_on = λ _. earlier ∙ t.before_is ∙ ap (λ j. Some (firsts_of n (ticks_in all) j)) group;
+      over = λ none. absurd (omega (arith, none, place));
+      goes_on = λ _. earlier ∙ t.before_is ∙ ap (λ g. Some (firsts_of n (ticks_in all) g)) (sym group);
       gapped = t.gapped;
       linear = t.linear;
       gapped_are = t.gapped_are;
       linear_are = t.linear_are;
-      begun = λ _.
-          subst (λ j. IsBegun m n j (length all) (anchor_in m now) (slice_index now) (records_in all) (ticks_in all) (buckets_of m n now) t.gapped
-          t.linear y.row) group
-          (subst (λ r. IsBegun m n (count / n) (length all) (anchor_in m now) (slice_index now) (records_in all) (ticks_in all) (buckets_of m n now) t.gapped
-          t.linear r) (sym row) t.begun);
+      begun = λ _. subst (λ g. IsBegun m n g (length all) (anchor_in m now) (slice_index now) (records_in all) (ticks_in all) (buckets_of m n now)
+          t.gapped t.linear y.row) (sym group)
+          (subst (λ r. IsBegun m n old.walk.group (length all) (anchor_in m now) (slice_index now) (records_in all) (ticks_in all) (buckets_of m n now)
+          t.gapped t.linear r) (sym row) t.begun);
     }
 
 -- a group that came whole
@@ -507,24 +474,26 @@ greatest-whole numbers n k count x y whole same h = record {
 }
 
 -- the group is over, and its row is
-pub ends-row : (m : Media) (tai run n : ℕ) (x : GroupRows) (before : List FlowPacket) (p : FlowPacket) (place at : ℕ) (row : GroupRow) → place + 1 ≡ n
-    → place ≡ length before % n → stamp_of tai p ≡ at
-    → EndsRow x.levels.params.media x.n0 at x.row row
-    → IsTaken m tai run n (length before / n) x (before ++ p ∷ [])
+pub ends-row : (m : Media) (tai run n : ℕ) (old x : RowMaker) (before : List FlowPacket) (p : FlowPacket) (at : ℕ) (row : GroupRow)
+    → old.walk.place + 1 ≡ n → at ≡ stamp_of tai p
+    → IsPlaced n (length before) old
+    → EndsRow m x.n0 at x.row row
+    → IsTaken m tai run n old.walk.group x (before ++ p ∷ [])
     → IsGroupRow m tai run n (before ++ p ∷ []) row
-ends-row m tai run n x before p place at row outside is came ends t =
+ends-row m tai run n old x before p at row outside came placed_at ends t =
     let count = length before in
-    let k = count / n in
+    let k = old.walk.group in
     let all = before ++ p ∷ [] in
     let now = stamps_of tai all in
     let long : length all ≡ count + 1 = length-append before (p ∷ []) in
+    let is = placed_at.place in
     let turn = end-of-group count n 1 (omega arith) (omega (arith, is, outside)) in
-    let parts : k * n + count % n ≡ count = div-add-mod' count n in
-    let whole : length all ≡ k * n + n = omega (arith, long, parts, is, outside) in
-    let group : length all / n ≡ k + 1 = ap (λ c. c / n) long ∙ turn.0 in
+    let parts = placed_at.parts in
+    let whole : length all ≡ k * n + n = omega (arith, long, parts, outside) in
+    let group : length all / n ≡ k + 1 = ap (λ c. c / n) long ∙ turn.0 ∙ ap (λ c. c + 1) (sym placed_at.group) in
     let number : k ≡ length all / n - 1 = omega (arith, group) in
-    let end : k * n + (n - 1) ≡ count = omega (arith, parts, is, outside) in
-    let last : slice_index now (k * n + (n - 1)) ≡ at = ap (slice_index now) end ∙ (stamps-extend tai before p at came).last in
+    let end : k * n + (n - 1) ≡ count = omega (arith, parts, outside) in
+    let last : slice_index now (k * n + (n - 1)) ≡ at = ap (slice_index now) end ∙ (stamps-extend tai before p).last ∙ sym came in
     let b = t.begun in
     let q = ends.place in
     subst (λ j. IsRowOf m run n j now (records_in all) (ticks_in all) row) number (record {
@@ -533,8 +502,7 @@ ends-row m tai run n x before p place at row outside is came ends t =
       rec = q.rec_is ∙ b.rec;
       stamp = q.stamp ∙ b.stamp_is;
       first = q.first ∙ b.first;
-      last = ends.last ∙ ap (λ (v : Media). after_start v x.n0 x.row.group at) t.levels_are.media_is
-          ∙ ap (λ a. after_start m a x.row.group at) t.anchor_is ∙ ap (λ j. after_start m (anchor_in m now) j at) t.group_is
+      last = ends.last ∙ ap (λ a. after_start m a x.row.group at) t.anchor_is ∙ ap (λ j. after_start m (anchor_in m now) j at) t.group_is
           ∙ ap (after_start m (anchor_in m now) k) (sym last);
       timestamp_is = q.timestamp_is ∙ b.timestamp_is;
       step = q.step ∙ b.step;
@@ -556,56 +524,45 @@ ends-row m tai run n x before p place at row outside is came ends t =
     })
 
 -- and the next one hasn't begun
-pub ends-group : (m : Media) (tai run n : ℕ) (x y : GroupRows) (before : List FlowPacket) (p : FlowPacket) (place : ℕ) → y.row.run ≡ x.row.run
-    → y.row.group ≡ x.row.group + 1 → y.levels ≡ x.levels → y.n0 ≡ x.n0 → y.before ≡ x.before → y.place ≡ 0 → place + 1 ≡ n
-    → place ≡ length before % n
-    → IsTaken m tai run n (length before / n) x (before ++ p ∷ [])
-    → StandsForGroups m tai run n y (before ++ p ∷ [])
-ends-group m tai run n x y before p place run_same group_same levels n0 earlier at outside is t =
-    let count = length before in
-    let k = count / n in
+pub ends-group : (m : Media) (tai run n : ℕ) (old x y : RowMaker) (before : List FlowPacket) (p : FlowPacket) → y.row.run ≡ x.row.run → y.n0 ≡ x.n0
+    → y.before ≡ x.before → y.walk.n ≡ n → y.walk.seen ≡ length before + 1 → y.walk.place ≡ 0 → y.walk.group ≡ old.walk.group + 1
+    → IsTaken m tai run n old.walk.group x (before ++ p ∷ [])
+    → StandsFor m tai run n y (before ++ p ∷ [])
+ends-group m tai run n old x y before p run_same n0 earlier size seen place group t =
     let all = before ++ p ∷ [] in
-    let now = stamps_of tai all in
     let f = firsts_of n (ticks_in all) in
-    let long : length all ≡ count + 1 = length-append before (p ∷ []) in
-    let turn = end-of-group count n 1 (omega arith) (omega (arith, is, outside)) in
-    let group : length all / n ≡ k + 1 = ap (λ c. c / n) long ∙ turn.0 in
-    let next : suc k ≡ length all / n = omega (arith, group) in
+    let next : suc old.walk.group ≡ y.walk.group = omega (arith, group) in
     record {
       run_is = run_same ∙ t.run_is;
-      levels_are = subst (λ l. LevelsStandFor m n l now) (sym levels) t.levels_are;
-      place_is = at ∙ sym turn.1 ∙ ap (λ c. c % n) (sym long);
-      group_is = group_same ∙ ap (λ g. g + 1) t.group_is ∙ sym group;
+      n_is = size;
+      seen = seen ∙ sym (length-append before (p ∷ []));
       anchor_is = λ _. n0 ∙ t.anchor_is;
       over = λ _. earlier ∙ t.before_is ∙ ap (last_of f) next;
-      goes_on = λ some. absurd (omega (arith, some, at));
+      goes_on = λ some. absurd (omega (arith, some, place));
       gapped = t.gapped;
       linear = t.linear;
       gapped_are = t.gapped_are;
       linear_are = t.linear_are;
-      begun = λ some. absurd (omega (arith, some, at));
+      begun = λ some. absurd (omega (arith, some, place));
     }
 
 -- before the first packet
-pub groups-none : (m : Media) (tai run n : ℕ) (x : GroupRows) → x.row.run ≡ run → LevelsStandFor m n x.levels [] → x.place ≡ 0 → x.row.group ≡ 0
-    → x.before ≡ None → 1 ≤ n
-    → StandsForGroups m tai run n x []
-groups-none m tai run n x run_is levels place group before some =
-    let none : 0 ≡ 0 / n = sym (zero-div n) in
-    record {
-      run_is = run_is;
-      levels_are = levels;
-      place_is = place ∙ sym (zero-mod n);
-      group_is = group ∙ none;
-      anchor_is = λ few. absurd (omega (arith, few));
-      over = λ _. before ∙ ap (last_of (firsts_of n (ticks_in []))) none;
-      goes_on = λ few. absurd (omega (arith, few, place));
-      gapped = λ i. pos 0;
-      linear = λ i. pos 0;
-      gapped_are = λ i few. absurd (omega (arith, few));
-      linear_are = λ i few. absurd (omega (arith, few));
-      begun = λ few. absurd (omega (arith, few, place));
-    }
+pub rows-none : (m : Media) (tai run n : ℕ) (x : RowMaker) → x.row.run ≡ run → x.walk.n ≡ n → x.walk.seen ≡ 0 → x.walk.place ≡ 0 → x.walk.group ≡ 0
+    → x.before ≡ None
+    → StandsFor m tai run n x []
+rows-none m tai run n x run_is size seen place group before = record {
+  run_is = run_is;
+  n_is = size;
+  seen = seen;
+  anchor_is = λ few. absurd (omega (arith, few));
+  over = λ _. before ∙ ap (last_of (firsts_of n (ticks_in []))) (sym group);
+  goes_on = λ few. absurd (omega (arith, few, place));
+  gapped = λ i. pos 0;
+  linear = λ i. pos 0;
+  gapped_are = λ i few. absurd (omega (arith, few));
+  linear_are = λ i few. absurd (omega (arith, few));
+  begun = λ few. absurd (omega (arith, few, place));
+}
 
 -- whether a packet behind so many ends its group
 pub goes : (count n place : ℕ) → place ≡ count % n → place + 1 < n → false ≡ ends_group n count

@@ -1,39 +1,37 @@
--- What the makers of rows say of the judged packets of a run that they were fed. m is the video, n the packets of one
--- group, `run` the number of the run, and `tai` is in seconds.
-use Rattle.std.specs.Prelude.{◌≡◌, ◌<◌, ◌≤◌, ◌*◌, ◌/◌, ◌%◌, ℕ, zero, suc, ℤ, pos, Bool, true, false, List, [], ◌∷◌}
-use Rattle.std.specs.Prelude.{◌++◌, length, slice_index, Option, Some, None}
+-- The state of a `RowMaker` after the judged packets of a run that it was fed. m is the video, n the packets per frame
+-- or field, `run` the number of the run, and `tai` is in seconds.
+use Rattle.std.specs.Prelude.{◌≡◌, ◌<◌, ◌≤◌, ◌*◌, ◌^◌, ℕ, zero, suc, ℤ, pos, true, false, List, [], ◌∷◌, ◌++◌}
+use Rattle.std.specs.Prelude.{length, slice_index, Option, Some, None}
 use Rattle.sender_params.specs.Ticks.{NeverFall}
-use Rattle.timing_base.specs.Flows.{packet, read_or_zeros}
-use Rattle.timing_base.specs.Judged.{stamp_of}
+use Rattle.timing_base.specs.Flows.{packet}
 use Rattle.timing_base.specs.Media.{Media}
 use Rattle.timing_base.specs.declared.packet.FlowPacket.{FlowPacket}
+use Rattle.run_meter.specs.Levels.{IsLevel}
+use Rattle.run_meter.specs.Runs.{stamps_of, told_of}
 use Rattle.flow_measure.specs.Groups.{firsts_of, latency_at, offset_at, since_at}
 use Rattle.flow_measure.specs.Occupancy.{AreOccupancies, buckets_of}
+use Rattle.flow_measure.specs.Packets.{timestamps_of}
 use Rattle.flow_measure.specs.Run.{anchor_in}
 use Rattle.flow_measure.specs.Summary.{IsGreatest, IsLeast}
 use Rattle.flow_measure.specs.declared.report.rows.GroupRow.{GroupRow}
-use Rattle.flow_measure.specs.rows.Packets.{stamps_of}
-use Rattle.flow_measure.specs.rows.Packets.{timestamps_of}
-use Rattle.flow_measure.specs.rows.Rows.{Adds, step_before}
-use Rattle.flow_measure.specs.declared.rows.groups.GroupRows.{GroupRows}
-use Rattle.flow_measure.specs.declared.rows.packets.PacketRows.{PacketRows}
-use Rattle.flow_measure.specs.declared.rows.rows.RunRows.{RunRows}
-use Rattle.flow_measure.specs.declared.rows.rows.RunRows.TheVariants as run_rows
-use Rattle.flow_measure.specs.rows.making.Levels.{StandsFor as LevelsStandFor}
+use Rattle.flow_measure.specs.rows.Rows.{step_before}
+use Rattle.flow_measure.specs.declared.rows.maker.Kept.{Kept}
+use Rattle.flow_measure.specs.declared.rows.maker.RowMaker.{RowMaker}
 
--- these packets were fed, and no others
-pub record StandsForPackets (m : Media) (tai run n : ℕ) (x : PacketRows) (packets : List FlowPacket) : Type 0 where
-  pub run_is : x.run ≡ run
-  pub levels_are : LevelsStandFor m n x.levels (stamps_of tai packets)
-  pub place_is : x.place ≡ length packets % n
-  pub group_is : x.group ≡ length packets / n
+-- the kept values of the packet after these
+pub record IsKept (m : Media) (tai n : ℕ) (before : List FlowPacket) (p : FlowPacket) (kept : Kept) : Type 0 where
+  pub packet_is : kept.packet ≡ told_of tai p
+  pub few : length before < 2 ^ 41
+  pub rising : NeverFall (stamps_of tai (before ++ p ∷ []))
+  pub level_is : IsLevel m n (stamps_of tai (before ++ p ∷ [])) (length before) kept.level
 
--- the packets of group k that came before packet `to`
+-- the packets of frame or field k before packet `to`
 abbrev pub OfFront : (n k to : ℕ) → ℕ → Type 0
 OfFront n k to i = (k * n ≤ i) × (i < to)
 
--- group k has begun, and this row has all of it that came: of `count` packets `stamp`, `records` and `timestamp` have
--- when they came, their records and RTP timestamps, and `bucket`, `gapped` and `linear` what is held just after them
+-- frame or field k has begun, and this row has all of its packets among the first `count`. For each packet, `stamp`
+-- gives the capture timestamp, `records` the packet record, `timestamp` the RTP timestamp, and `bucket`, `gapped` and
+-- `linear` the levels just after it
 pub record IsBegun (m : Media) (n k count : ℕ) (anchor : ℤ) (stamp records timestamp : ℕ → ℕ)
     (bucket gapped linear : ℕ → ℤ) (r : GroupRow) : Type 0 where
   pub rec : r.rec ≡ firsts_of n records k
@@ -49,57 +47,33 @@ pub record IsBegun (m : Media) (n k count : ℕ) (anchor : ℤ) (stamp records t
   pub linear_least : IsLeast linear (OfFront n k count) r.linear_least
   pub linear_is : IsGreatest linear (OfFront n k count) r.linear
 
--- the timestamp of the last of so many groups
+-- the RTP timestamp of the last of `groups` frames or fields
 abbrev pub last_of : (timestamp : ℕ → ℕ) → (groups : ℕ) → Option ℕ
 last_of timestamp zero = None
 last_of timestamp (suc k) = Some (timestamp k)
 
--- the RTP timestamps of packets, and their records
+-- the RTP timestamps of packets, by their places from 0
 abbrev pub ticks_in : List FlowPacket → ℕ → ℕ
 ticks_in packets = slice_index (timestamps_of packets)
 
+-- the packet records of packets, by their places from 0
 abbrev pub records_in : List FlowPacket → ℕ → ℕ
 records_in packets i = (packet packets i).rec
 
--- these packets were fed, and no others
-pub record StandsForGroups (m : Media) (tai run n : ℕ) (x : GroupRows) (packets : List FlowPacket) : Type 0 where
+-- the maker was fed exactly these packets
+pub record StandsFor (m : Media) (tai run n : ℕ) (x : RowMaker) (packets : List FlowPacket) : Type 0 where
   pub run_is : x.row.run ≡ run
-  pub levels_are : LevelsStandFor m n x.levels (stamps_of tai packets)
-  pub place_is : x.place ≡ length packets % n
-  pub group_is : x.row.group ≡ length packets / n
+  pub n_is : x.walk.n ≡ n
+  pub seen : x.walk.seen ≡ length packets
   pub anchor_is : 0 < length packets → x.n0 ≡ anchor_in m (stamps_of tai packets)
-  -- the timestamp of the last group that is over, and that of the group that isn't
-  pub over : x.place ≡ 0 → x.before ≡ last_of (firsts_of n (ticks_in packets)) (length packets / n)
-  pub goes_on : 0 < x.place → x.before ≡ Some (firsts_of n (ticks_in packets) (length packets / n))
-  -- what the buffer holds just after each packet
+  -- the RTP timestamp of the last complete frame or field, and that of the current one
+  pub over : x.walk.place ≡ 0 → x.before ≡ last_of (firsts_of n (ticks_in packets)) x.walk.group
+  pub goes_on : 0 < x.walk.place → x.before ≡ Some (firsts_of n (ticks_in packets) x.walk.group)
+  -- the occupancy of the buffer just after each packet
   pub gapped : ℕ → ℤ
   pub linear : ℕ → ℤ
   pub gapped_are : AreOccupancies m n (stamps_of tai packets) true gapped
   pub linear_are : AreOccupancies m n (stamps_of tai packets) false linear
-  pub begun : 0 < x.place → IsBegun m n (length packets / n) (length packets) (anchor_in m (stamps_of tai packets))
+  pub begun : 0 < x.walk.place → IsBegun m n x.walk.group (length packets) (anchor_in m (stamps_of tai packets))
       (slice_index (stamps_of tai packets)) (records_in packets) (ticks_in packets)
       (buckets_of m n (stamps_of tai packets)) gapped linear x.row
-
--- the packets that were fed
-abbrev pub seen_of : RunRows → ℕ
-seen_of (run_rows.Packets x) = x.levels.seen
-seen_of (run_rows.Groups x) = x.levels.seen
-
--- the maker, of the rows of groups or of packets, was fed these packets and no others
-abbrev pub StandsFor : (frames : Bool) → Media → (tai run n : ℕ) → RunRows → List FlowPacket → Type 0
-StandsFor false m tai run n (run_rows.Packets x) packets = StandsForPackets m tai run n x packets
-StandsFor true m tai run n (run_rows.Groups x) packets = StandsForGroups m tai run n x packets
-StandsFor _ m tai run n _ packets = ⊥
-
--- a judged packet with this record, stamp and RTP timestamp was fed, and what is printed at it stands behind a text
-pub record PutsRow (old new : RunRows) (rec at timestamp : ℕ) (before after : List ℕ) : Type 0 where
-  pub here : List ℕ
-  pub text_is : after ≡ before ++ here
-  pub adds : (frames : Bool) (m : Media) (tai run n : ℕ) (packets : List FlowPacket) (p : FlowPacket) → p.rec ≡ rec
-      → stamp_of tai p ≡ at → (read_or_zeros p.rtp).timestamp ≡ timestamp
-      → NeverFall (stamps_of tai (packets ++ p ∷ [])) → StandsFor frames m tai run n old packets
-      → Adds frames m tai run n packets p here
-  pub stands : (frames : Bool) (m : Media) (tai run n : ℕ) (packets : List FlowPacket) (p : FlowPacket) → p.rec ≡ rec
-      → stamp_of tai p ≡ at → (read_or_zeros p.rtp).timestamp ≡ timestamp
-      → NeverFall (stamps_of tai (packets ++ p ∷ [])) → StandsFor frames m tai run n old packets
-      → StandsFor frames m tai run n new (packets ++ p ∷ [])

@@ -1,114 +1,136 @@
--- The columns of packets, with one packet more.
-use Rattle.std.proofs.Common.{◌≡◌, ◌<◌, ◌≤◌, ◌+◌, ◌/◌, ◌%◌, ◌++◌, ◌∷◌, [], ℕ, ℤ, pos, true, false, List, length, slice_index, refl, ◌∙◌, sym, arith}
-use Rattle.std.proofs.Common.{length-append}
-use Rattle.timing_base.specs.Media.{IsMedia, Media}
-use Rattle.timing_base.specs.declared.fail.Broken.{Broken}
-use Rattle.timing_base.specs.declared.fail.Broken.TheVariants.{Bucket, Over, Empty}
-use Rattle.timing_base.specs.declared.media.Kind.{Kind}
-use Rattle.timing_base.specs.declared.media.Kind.TheVariants.{N, NL, W}
-use Rattle.sender_params.specs.Limits.{gapped_of}
+-- The columns of packets and groups, with one packet more.
+use Rattle.std.proofs.Common.{◌≡◌, ◌<◌, ◌+◌, ◌*◌, ◌/◌, ◌%◌, ◌++◌, ◌∷◌, [], ℕ, zero, suc, ℤ, pos, Bool, List, length, slice_index}
+use Rattle.std.proofs.Common.{ap, ◌∙◌, sym, subst, arith}
+use Rattle.std.proofs.Common.{inl, inr}
+use Rattle.std.proofs.lemmas.Bool.{cases_eq}
+use Rattle.std.proofs.lemmas.Nat.{div-add-mod'}
+use Rattle.timing_base.specs.Media.{Media}
 use Rattle.sender_params.specs.Reads.{anchor_of}
-use Rattle.sender_params.specs.Ticks.{NeverFall}
-use Rattle.flow_measure.specs.Filled.{AreBuckets}
-use Rattle.flow_measure.specs.Groups.{firsts_of, lasts_of, since_at}
-use Rattle.flow_measure.specs.Occupancy.{AreOccupancies, buckets_of}
-use Rattle.flow_measure.specs.RunStands.{IsLatest}
-use Rattle.flow_measure.specs.Stands.{Draws}
-use Rattle.flow_measure.specs.declared.columns.Columns.{Columns}
-use Rattle.flow_measure.specs.declared.group_walk.GroupWalk.{GroupWalk}
-use Rattle.flow_measure.proofs.Filled.{buckets-front}
-use Rattle.flow_measure.proofs.Followed.{front-is, last-is, occupancies-front}
-use Rattle.flow_measure.proofs.Grouped.{firsts-next}
-use Rattle.flow_measure.proofs.Packets.{listed-front, listed-last, occupancies}
+use Rattle.run_meter.specs.Levels.{IsHeld, IsLevel}
+use Rattle.run_meter.specs.declared.level.Level.{Level}
+use Rattle.vrx_buffer.specs.declared.held.Held.{Held}
+use Rattle.flow_measure.specs.Groups.{firsts_of, lasts_of}
+use Rattle.flow_measure.specs.Metered.{AreBuckets, AreListed}
+use Rattle.flow_measure.specs.Occupancy.{AreOccupancies}
+use Rattle.flow_measure.specs.Run.{anchor_in}
+use Rattle.flow_measure.specs.Stands.{DrawsCurve}
+use Rattle.flow_measure.specs.declared.columns.curve.Curve.{Curve}
+use Rattle.flow_measure.proofs.Fronts.{ends, front-is, last-is}
+use Rattle.flow_measure.proofs.Packets.{listed-front}
 use Rattle.flow_measure.proofs.Passes.{occupancy-once}
-use Rattle.flow_measure.specs.declared.rows.levels.Level.{Level}
-use Rattle.flow_page.specs.drawing.Drawn.{IsHeld}
+use Rattle.flow_page.specs.drawing.drawing.Columns.{Begins, DrawsCurves, DrawsGroups, HasBegun}
+use Rattle.flow_page.specs.declared.drawing.groups.Group.{Group}
 use Rattle.flow_page.specs.declared.drawing.groups.GroupColumns.{GroupColumns}
-use Rattle.flow_page.specs.drawing.drawing.Columns.{DrawsFirsts, DrawsGroups, DrawsIn}
-use Rattle.flow_page.specs.drawing.drawing.Held.{Holds, held_by}
+use Rattle.flow_page.specs.declared.drawing.groups.GroupCurves.{GroupCurves}
 
--- the last place is among those of a list and one more
-pub ends : (xs : List ℕ) (x : ℕ) → length xs < length (xs ++ x ∷ [])
-ends xs x = let long : length (xs ++ x ∷ []) ≡ length xs + 1 = length-append xs (x ∷ []) in omega (arith, long)
-
--- of stamps that never fall the last is the latest
-pub latest-of : (stamps : List ℕ) (at : ℕ) → NeverFall (stamps ++ at ∷ []) → IsLatest stamps at
-latest-of stamps at rising = λ i few.
-    let here = front-is stamps at i few in
-    let last = last-is stamps at in
-    omega (arith, rising i (length stamps) (omega (arith, few)) (ends stamps at), here, last)
-
--- the columns of numbers, with one more
-pub draws-more : (group most : ℕ) (old new : Columns) (numbers : ℕ → ℤ) (number : ℤ)
-    → new.group ≡ old.group
-    → new.most ≡ old.most
-    → ((numbers : ℕ → ℤ) → Draws old numbers → numbers old.seen ≡ number → Draws new numbers)
-    → DrawsIn group most old numbers
-    → numbers old.seen ≡ number
-    → DrawsIn group most new numbers
-draws-more group most old new numbers number same_group same_most draws h is = record {
-  group_is = same_group ∙ h.group_is;
-  most_is = same_most ∙ h.most_is;
-  draws = draws numbers h.draws is;
-}
-
--- what the bucket and the buffer hold at the packet
+-- what the bucket and the buffer hold at the last packet
 pub bucket-last : (m : Media) (n : ℕ) (stamps : List ℕ) (at : ℕ) (l : Level) (level : ℕ → ℤ)
     → AreBuckets m n (stamps ++ at ∷ []) level
-    → Holds m n (stamps ++ at ∷ []) (length stamps) l
+    → IsLevel m n (stamps ++ at ∷ []) (length stamps) l
     → level (length stamps) ≡ pos l.bucket
-bucket-last m n stamps at l level are holds = are (length stamps) (ends stamps at) ∙ holds.bucket_is
+bucket-last m n stamps at l level are is = are (length stamps) (ends stamps at) ∙ ap (λ k. pos k) (sym is.bucket)
 
-pub gapped-last : (m : Media) (n : ℕ) (stamps : List ℕ) (at : ℕ) (l : Level) (level : ℕ → ℤ)
-    → AreOccupancies m n (stamps ++ at ∷ []) true level
-    → Holds m n (stamps ++ at ∷ []) (length stamps) l
-    → level (length stamps) ≡ l.gapped
-gapped-last m n stamps at l level are holds =
-    occupancy-once m n (stamps ++ at ∷ []) true (length stamps) (level (length stamps)) l.gapped (are (length stamps) (ends stamps at)) holds.gapped_is
+-- the occupancy of the buffer just after the last packet
+pub occupancy-last : (m : Media) (n : ℕ) (stamps : List ℕ) (at : ℕ) (gapped : Bool) (held : Held) (level : ℕ → ℤ)
+    → AreOccupancies m n (stamps ++ at ∷ []) gapped level
+    → IsHeld m n (stamps ++ at ∷ []) gapped (length stamps) held
+    → level (length stamps) ≡ held.occupancy
+occupancy-last m n stamps at gapped held level are is =
+    occupancy-once m n (stamps ++ at ∷ []) gapped (length stamps) (level (length stamps)) held.occupancy (are (length stamps) (ends stamps at)) is.occupancy
 
-pub linear-last : (m : Media) (n : ℕ) (stamps : List ℕ) (at : ℕ) (l : Level) (level : ℕ → ℤ)
-    → AreOccupancies m n (stamps ++ at ∷ []) false level
-    → Holds m n (stamps ++ at ∷ []) (length stamps) l
-    → level (length stamps) ≡ l.linear
-linear-last m n stamps at l level are holds =
-    occupancy-once m n (stamps ++ at ∷ []) false (length stamps) (level (length stamps)) l.linear (are (length stamps) (ends stamps at)) holds.linear_is
+-- the first packet of a group among all
+pub group-first : (m : Media) (n : ℕ) (x : GroupColumns) (stamps timestamps : List ℕ) → DrawsGroups m n x stamps timestamps
+    → x.walk.group * n + x.walk.place ≡ length stamps
+group-first m n x stamps timestamps h =
+    let w = x.walk in
+    let parts : w.seen / w.n * w.n + w.seen % w.n ≡ w.seen = div-add-mod' w.seen w.n in
+    let turned : w.group * n ≡ w.seen / w.n * w.n = ap (λ k. w.group * k) (sym h.n_is) ∙ ap (λ k. k * w.n) w.group_is in
+    omega (arith, parts, turned, w.place_is, h.seen_is)
 
--- what a model is about, at the packets before it and at it
-pub held-front : (m : Media) (n : ℕ) (stamps : List ℕ) (at : ℕ) (kind : Kind) (model : Broken) (level : ℕ → ℤ)
-    → IsHeld m n (stamps ++ at ∷ []) kind model level
-    → IsHeld m n stamps kind model level
-held-front m n stamps at kind Bucket level are = buckets-front m n stamps at level are
-held-front m n stamps at kind Over level are = occupancies-front m n (gapped_of kind) stamps at level are
-held-front m n stamps at kind Empty level are = occupancies-front m n (gapped_of kind) stamps at level are
+-- the place of the next packet in its group
+pub place-of : (m : Media) (n : ℕ) (x : GroupColumns) (stamps timestamps : List ℕ) → DrawsGroups m n x stamps timestamps
+    → x.walk.place ≡ length stamps % n
+place-of m n x stamps timestamps h = x.walk.place_is ∙ ap (λ k. k % x.walk.n) h.seen_is ∙ ap (λ k. length stamps % k) h.n_is
 
-pub held-last : (m : Media) (n : ℕ) (stamps : List ℕ) (at : ℕ) (kind : Kind) (model : Broken) (l : Level) (level : ℕ → ℤ)
-    → IsHeld m n (stamps ++ at ∷ []) kind model level
-    → Holds m n (stamps ++ at ∷ []) (length stamps) l
-    → level (length stamps) ≡ held_by kind model l
-held-last m n stamps at kind Bucket l level are holds = bucket-last m n stamps at l level are holds
-held-last m n stamps at N Over l level are holds = gapped-last m n stamps at l level are holds
-held-last m n stamps at NL Over l level are holds = linear-last m n stamps at l level are holds
-held-last m n stamps at W Over l level are holds = linear-last m n stamps at l level are holds
-held-last m n stamps at N Empty l level are holds = gapped-last m n stamps at l level are holds
-held-last m n stamps at NL Empty l level are holds = linear-last m n stamps at l level are holds
-held-last m n stamps at W Empty l level are holds = linear-last m n stamps at l level are holds
-
--- there is such a level for each packet
-pub held-some : (m : Media) (n : ℕ) (stamps : List ℕ) (kind : Kind) (model : Broken) → IsMedia m → 1 ≤ n
-    → (level : ℕ → ℤ) × IsHeld m n stamps kind model level
-held-some m n stamps kind Bucket is some = (buckets_of m n stamps, λ i few. refl)
-held-some m n stamps kind Over is some = occupancies m n stamps (gapped_of kind) is some
-held-some m n stamps kind Empty is some = occupancies m n stamps (gapped_of kind) is some
+-- how the group of the next packet began
+pub begun-now : (m : Media) (n : ℕ) (old mid : GroupColumns) (at ticks : ℕ) (stamps timestamps : List ℕ)
+    → Begins m at ticks old mid
+    → DrawsGroups m n old stamps timestamps
+    → HasBegun n old.walk.group (stamps ++ at ∷ []) (timestamps ++ ticks ∷ []) mid.group
+begun-now m n old mid at ticks stamps timestamps b h =
+    let k = old.walk.group in
+    let whole = group-first m n old stamps timestamps h in
+    elim (cases_eq old.walk.place 0) as (λ _. HasBegun n k (stamps ++ at ∷ []) (timestamps ++ ticks ∷ []) mid.group) [
+      | inl none ↦
+          let first : k * n ≡ length stamps = omega (arith, whole, none) in
+          record {
+            came = b.came none ∙ sym (ap (slice_index (stamps ++ at ∷ [])) first ∙ last-is stamps at);
+            ticks = b.ticks_are none ∙ sym (ap (slice_index (timestamps ++ ticks ∷ [])) (first ∙ sym h.same) ∙ last-is timestamps ticks);
+          }
+      | inr some ↦
+          let inside : 0 < old.walk.place = omega (arith, some) in
+          let before = h.begun inside in
+          let same = b.goes_on inside in
+          record {
+            came = ap (λ (g : Group). g.first) same ∙ before.came ∙ sym (front-is stamps at (k * n) (omega (arith, whole, inside)));
+            ticks = ap (λ (g : Group). g.timestamp) same ∙ before.ticks
+                ∙ sym (front-is timestamps ticks (k * n) (omega (arith, whole, inside, h.same)));
+          }
+    ]
 
 -- the group of the epoch to which the first packet belongs
-pub anchor-more : (m : Media) (stamps : List ℕ) (at seen : ℕ) (old new : ℤ)
-    → seen ≡ length stamps
-    → (seen ≡ 0 → new ≡ anchor_of m at)
-    → (0 < seen → new ≡ old)
-    → (0 < length stamps → old ≡ anchor_of m (slice_index stamps 0))
-    → new ≡ anchor_of m (slice_index (stamps ++ at ∷ []) 0)
-anchor-more m [] at seen old new is first later known = first is
-anchor-more m (x ∷ xs) at seen old new is first later known = later (omega (arith, is)) ∙ known (omega arith)
+pub anchor-now : (m : Media) (n : ℕ) (old mid : GroupColumns) (at ticks : ℕ) (stamps timestamps : List ℕ)
+    → Begins m at ticks old mid
+    → DrawsGroups m n old stamps timestamps
+    → mid.n0 ≡ anchor_in m (stamps ++ at ∷ [])
+anchor-now m n old mid at ticks stamps timestamps b h =
+    let new = stamps ++ at ∷ [] in
+    elim (cases_eq (length stamps) 0) as (λ _. mid.n0 ≡ anchor_in m new) [
+      | inl none ↦
+          let here : at ≡ slice_index new 0 = sym (last-is stamps at) ∙ ap (slice_index new) none in
+          b.first (omega (arith, h.seen_is, none)) ∙ ap (anchor_of m) here
+      | inr some ↦
+          let few : 0 < length stamps = omega (arith, some) in
+          b.later (omega (arith, h.seen_is, few)) ∙ h.anchor_is few ∙ ap (anchor_of m) (sym (front-is stamps at 0 few))
+    ]
+
+-- a curve that was fed nothing is that of any numbers
+pub curve-none : (c : Curve ℤ) (numbers : ℕ → ℤ) → c.seen ≡ 0 → DrawsCurve (λ x. x) c numbers
+curve-none c numbers none = record {
+  each = λ k few. absurd (no-column c.begun c.width c.room c.seen k c.filled c.room_few none few);
+}
+  where
+    no-column : (begun width room seen k : ℕ) → seen + room ≡ begun * width → room < width → seen ≡ 0 → k < begun → ⊥
+    no-column zero width room seen k filled few none low = omega (arith, low)
+    no-column (suc begun) width room seen k filled few none low = omega (arith, filled, few, none)
+
+-- no group is drawn yet
+pub curves-none : (m : Media) (anchor : ℤ) (c : GroupCurves) (first last timestamp : ℕ → ℕ) → c.seen ≡ 0 → DrawsCurves m anchor c first last timestamp
+curves-none m anchor c first last timestamp none = record {
+  first_draws = curve-none c.first _ (c.first_is ∙ none);
+  last_draws = curve-none c.last _ (c.last_is ∙ none);
+  offset_draws = curve-none c.offset _ (c.offset_is ∙ none);
+  latency_draws = curve-none c.latency _ (c.latency_is ∙ none);
+}
+
+-- the groups that are over, before the next packet is passed
+pub curves-now : (m : Media) (n : ℕ) (old mid : GroupColumns) (at ticks : ℕ) (stamps timestamps : List ℕ) (stamp timestamp : ℕ → ℕ)
+    → Begins m at ticks old mid
+    → DrawsGroups m n old stamps timestamps
+    → AreListed (stamps ++ at ∷ []) stamp → AreListed (timestamps ++ ticks ∷ []) timestamp
+    → DrawsCurves m mid.n0 mid.curves (firsts_of n stamp) (lasts_of n stamp) (firsts_of n timestamp)
+curves-now m n old mid at ticks stamps timestamps stamp timestamp b h are listed =
+    let before = h.curves_draw stamp timestamp (listed-front stamps at stamp are) (listed-front timestamps ticks timestamp listed) in
+    subst (λ (c : GroupCurves). DrawsCurves m mid.n0 c (firsts_of n stamp) (lasts_of n stamp) (firsts_of n timestamp)) (sym b.curves_are)
+    (elim (cases_eq old.walk.seen 0)
+    as (λ _. DrawsCurves m mid.n0 old.curves (firsts_of n stamp) (lasts_of n stamp) (firsts_of n timestamp)) [
+      | inl none ↦
+          curves-none m mid.n0 old.curves (firsts_of n stamp) (lasts_of n stamp) (firsts_of n timestamp)
+          (omega (arith, old.curves_are, old.walk.group_few, none))
+      | inr some ↦
+          subst (λ a. DrawsCurves m a old.curves (firsts_of n stamp) (lasts_of n stamp) (firsts_of n timestamp))
+          (sym (b.later (omega (arith, some)))) before
+    ])
 
 -- the first stamp
 pub first-more : (stamps : List ℕ) (at seen old new : ℕ)
@@ -119,40 +141,3 @@ pub first-more : (stamps : List ℕ) (at seen old new : ℕ)
     → new ≡ slice_index (stamps ++ at ∷ []) 0
 first-more [] at seen old new is first later known = first is
 first-more (x ∷ xs) at seen old new is first later known = later (omega (arith, is)) ∙ known (omega arith)
-
--- the columns of groups were fed a packet: so they are drawn, if those of the last packets are; `walk` has the group of the first packet
-pub groups-fed : (m : Media) (n groups : ℕ) (s new : GroupColumns) (walk : GroupWalk) (stamps timestamps : List ℕ) (at ticks : ℕ)
-    → DrawsGroups m n groups s stamps timestamps
-    → (s.walk.seen ≡ 0 → walk.n0 ≡ anchor_of m at)
-    → (0 < s.walk.seen → walk.n0 ≡ s.walk.n0)
-    → walk.n ≡ s.walk.n → walk.seen ≡ s.walk.seen → walk.place ≡ s.walk.place → walk.whole ≡ s.walk.whole
-    → new.walk.n ≡ walk.n → new.walk.n0 ≡ walk.n0 → new.walk.seen ≡ walk.seen + 1
-    → (0 < walk.place → new.firsts ≡ s.firsts)
-    → ((k : ℕ) (stamp timestamp : ℕ → ℕ) → walk.place ≡ 0 → DrawsFirsts m walk.n0 k s.firsts stamp timestamp → stamp s.firsts.seen ≡ at
-    → timestamp s.firsts.seen ≡ ticks → DrawsFirsts m walk.n0 k new.firsts stamp timestamp)
-    → ((anchor : ℤ) (stamp : ℕ → ℕ) → walk.n0 ≡ anchor → stamp walk.seen ≡ at → DrawsIn groups 1000 s.last (since_at m anchor (lasts_of n stamp))
-    → DrawsIn groups 1000 new.last (since_at m anchor (lasts_of n stamp)))
-    → DrawsGroups m n groups new (stamps ++ at ∷ []) (timestamps ++ ticks ∷ [])
-groups-fed m n groups s new walk stamps timestamps at ticks h first later n_is seen_is place_is whole_is n_kept here count kept begins last =
-    let long : length (stamps ++ at ∷ []) ≡ length stamps + 1 = length-append stamps (at ∷ []) in
-    let ticks_long : length (timestamps ++ ticks ∷ []) ≡ length timestamps + 1 = length-append timestamps (ticks ∷ []) in
-    let seen = seen_is ∙ h.seen_is in
-    let same = λ (anchor : ℤ) (is : 0 < length (stamps ++ at ∷ []) → new.walk.n0 ≡ anchor). sym here ∙ is (omega (arith, long)) in
-    let before = λ (anchor : ℤ) (is : walk.n0 ≡ anchor) (few : 0 < length stamps). sym (later (omega (arith, h.seen_is, few))) ∙ is in
-    record {
-      n_is = n_kept ∙ n_is ∙ h.n_is;
-      seen_is = omega (arith, count, seen, long);
-      same = omega (arith, h.same, long, ticks_long);
-      anchor_is = λ _. here ∙ anchor-more m stamps at s.walk.seen s.walk.n0 walk.n0 h.seen_is first later h.anchor_is;
-      firsts_draw = λ anchor stamp timestamp is listed ticks_listed.
-          firsts-next (λ a c s t. DrawsFirsts m a groups c s t) n walk.n walk.seen walk.place s.firsts.seen walk.n0 anchor s.firsts new.firsts stamp
-          timestamp at ticks (same anchor is) (n_is ∙ h.n_is) walk.place_is
-          (λ none. s.firsts_are.between (sym place_is ∙ none) ∙ sym whole_is ∙ walk.whole_is) kept (begins groups)
-          (listed-last stamps at walk.seen stamp seen listed)
-          (listed-last timestamps ticks walk.seen timestamp (seen ∙ sym h.same) ticks_listed)
-          (h.firsts_draw anchor stamp timestamp (before anchor (same anchor is)) (listed-front stamps at stamp listed)
-          (listed-front timestamps ticks timestamp ticks_listed));
-      last_draws = λ anchor stamp is listed.
-          last anchor stamp (same anchor is) (listed-last stamps at walk.seen stamp seen listed)
-          (h.last_draws anchor stamp (before anchor (same anchor is)) (listed-front stamps at stamp listed));
-    }

@@ -1,26 +1,25 @@
--- What is held just after a judged packet came.
-use Rattle.std.specs.Prelude.{◌≡◌, ℕ, ℤ, pos, true, false, List}
-use Rattle.timing_base.specs.Media.{Media}
+-- The levels of the models just after a packet, for a sender type.
+use Rattle.std.specs.Prelude.{ℕ, ℤ, pos, Bool, ◌||◌, nat_lt, int_lt}
 use Rattle.timing_base.specs.declared.fail.Broken.{Broken}
 use Rattle.timing_base.specs.declared.fail.Broken.TheVariants.{Bucket, Over, Empty}
 use Rattle.timing_base.specs.declared.media.Kind.{Kind}
 use Rattle.timing_base.specs.declared.media.Kind.TheVariants.{N, NL, W}
-use Rattle.flow_measure.specs.Occupancy.{IsOccupancy, buckets_of}
-use Rattle.flow_measure.specs.declared.rows.levels.Level.{Level}
+use Rattle.vrx_buffer.specs.declared.held.Held.{Held}
+use Rattle.run_meter.specs.declared.level.Level.{Level}
 
--- just after packet i of those with these stamps
-pub record Holds (m : Media) (n : ℕ) (stamps : List ℕ) (i : ℕ) (level : Level) : Type 0 where
-  pub bucket_is : buckets_of m n stamps i ≡ pos level.bucket
-  pub gapped_is : IsOccupancy m n stamps true i level.gapped
-  pub linear_is : IsOccupancy m n stamps false i level.linear
-
--- what a model is about, for a sender type: the bucket, or the buffer by the reads of the type
-abbrev pub buffer_of : Kind → Level → ℤ
+-- the buffer by the reads of the type
+abbrev pub buffer_of : Kind → Level → Held
 buffer_of N level = level.gapped
 buffer_of NL level = level.linear
 buffer_of W level = level.linear
 
+-- the level that a model limits: the bucket, or that buffer
 abbrev pub held_by : Kind → Broken → Level → ℤ
 held_by kind Bucket level = pos level.bucket
-held_by kind Over level = buffer_of kind level
-held_by kind Empty level = buffer_of kind level
+held_by kind Over level = (buffer_of kind level).occupancy
+held_by kind Empty level = (buffer_of kind level).occupancy
+
+-- a packet with these levels just after it breaks a limit of the type or is late
+abbrev pub breaks_at : Kind → (c_max full : ℕ) → Level → Bool
+breaks_at kind c_max full level =
+    (nat_lt c_max level.bucket || int_lt (pos full) (buffer_of kind level).occupancy) || (buffer_of kind level).late

@@ -1,40 +1,43 @@
--- What a `RegionMeter` says of the judged packets that it was fed: their stamps, in nanoseconds of TAI.
-use Rattle.std.specs.Prelude.{◌≡◌, ◌+◌, ◌-◌, min, max, ℕ, ℤ, ⊤, List, [], ◌∷◌, ◌++◌, length, Option, Some, None}
+-- The state of a `RegionMeter` after the packets that it was fed, with their capture timestamps in nanoseconds of TAI.
+use Rattle.std.specs.Prelude.{◌≡◌, ◌<◌, ◌≤◌, ◌+◌, ℕ, ℤ, List, [], ◌∷◌, ◌++◌, length}
 use Rattle.timing_base.specs.Media.{Media}
-use Rattle.timing_base.specs.declared.fail.FailProof.{FailProof}
+use Rattle.timing_base.specs.declared.fail.Broken.{Broken}
 use Rattle.timing_base.specs.declared.media.Kind.{Kind}
+use Rattle.timing_base.specs.declared.media.Kind.TheVariants.{N, NL, W}
 use Rattle.timing_base.specs.declared.row.KindVerdict.{KindVerdict}
 use Rattle.timing_base.specs.declared.row.KindVerdict.TheVariants.{Pass, Fail}
-use Rattle.flow_measure.specs.Stands.{Draws}
+use Rattle.sender_params.specs.Limits.{c_max_of, vrx_full_of}
+use Rattle.run_meter.specs.Levels.{IsLevel}
+use Rattle.run_meter.specs.Runs.{is_broken}
+use Rattle.flow_measure.specs.First.{IsFirst}
 use Rattle.flow_page.specs.declared.shown.Region.{Region}
-use Rattle.flow_page.specs.drawing.Drawn.{IsHeld, IsRegion, count_around, start_around}
+use Rattle.flow_page.specs.drawing.Drawn.{IsRegion}
+use Rattle.flow_page.specs.drawing.drawing.Held.{held_by}
+use Rattle.flow_page.specs.drawing.drawing.Taken.{level_at, taken_of}
 use Rattle.flow_page.specs.declared.drawing.region.RegionMeter.{RegionMeter}
+use Rattle.flow_page.specs.declared.drawing.regions.RegionMeters.{RegionMeters}
 
--- how many of the first `seen` packets are among `count` ones from a place on
-abbrev pub among : (start count seen : ℕ) → ℕ
-among start count seen = min (seen - start) count
+-- the meter of this type was fed the packets with these capture timestamps
+pub record DrawsRegion (m : Media) (n : ℕ) (kind : Kind) (r : RegionMeter) (stamps : List ℕ) : Type 0 where
+  pub kind_is : r.bounds.kind ≡ kind
+  pub c_max_is : r.bounds.c_max ≡ c_max_of m n kind
+  pub full_is : r.bounds.vrx_full ≡ vrx_full_of m n kind
+  pub first_is : IsFirst (is_broken m n stamps kind) (length stamps) r.first
+  pub taken_is : r.taken ≡ taken_of r.first (length stamps)
+  pub held : (i : ℕ) → i < r.taken → r.taken ≤ i + 400 → IsLevel m n stamps i (level_at r.ring.items i)
 
--- the meter around this fail of a type, of so many judged packets, was fed those with these stamps
-pub record DrawsRegion (m : Media) (n packets : ℕ) (kind : Kind) (proof : FailProof) (r : RegionMeter) (stamps : List ℕ)
-    : Type 0 where
-  pub kind_is : r.kind ≡ kind
-  pub proof_is : r.proof ≡ proof
-  pub start_is : r.start ≡ start_around proof
-  pub count_is : r.count ≡ count_around proof packets
-  pub group_is : r.columns.group ≡ max 1 (count_around proof packets)
-  pub most_is : r.columns.most ≡ 400
-  pub seen_is : r.columns.seen ≡ among r.start r.count (length stamps)
-  pub draws : (level : ℕ → ℤ) → IsHeld m n stamps kind proof.model level
-      → Draws r.columns (λ i. level (start_around proof + i))
+-- `numbers` gives the level that a model limits, at the packets from `start` to `end` - 1
+abbrev pub ShowsFrom : RegionMeter → Broken → (start end : ℕ) → (numbers : ℕ → ℤ) → Type 0
+ShowsFrom r model start end numbers = (j : ℕ) → start + j < end
+    → numbers j ≡ held_by r.bounds.kind model (level_at r.ring.items (start + j))
 
--- there is a meter exactly where the type fails
-abbrev pub DrawsKind : Media → (n packets : ℕ) → Kind → KindVerdict → Option RegionMeter → List ℕ → Type 0
-DrawsKind m n packets kind Pass None stamps = ⊤
-DrawsKind m n packets kind Pass (Some r) stamps = ⊥
-DrawsKind m n packets kind (Fail proof) None stamps = ⊥
-DrawsKind m n packets kind (Fail proof) (Some r) stamps = DrawsRegion m n packets kind proof r stamps
+-- the meters of all three types were fed the packets with these capture timestamps
+pub record DrawsRegions (m : Media) (n : ℕ) (x : RegionMeters) (stamps : List ℕ) : Type 0 where
+  pub narrow_draws : DrawsRegion m n N x.narrow stamps
+  pub narrow_linear_draws : DrawsRegion m n NL x.narrow_linear stamps
+  pub wide_draws : DrawsRegion m n W x.wide stamps
 
--- behind the regions of the types before stands that of this one, where it fails
+-- the region of this type is appended to those of the types before, if the type fails
 abbrev pub PutsKind : Media → (n : ℕ) → (stamps : List ℕ) → Kind → KindVerdict → (old new : List Region) → Type 0
 PutsKind m n stamps kind Pass old new = new ≡ old
 PutsKind m n stamps kind (Fail proof) old new =

@@ -23,11 +23,9 @@ use Rattle.timing_reach.proofs.Scannings.{found-contents}
 use Rattle.udp_rtp.specs.Flow.{flow}
 use Rattle.timing_measure.specs.Each.{EachOf}
 use Rattle.timing_measure.specs.page.Shown.{IsFlowPage}
-use Rattle.timing_measure.specs.Readings.{IsReadingOf}
-use Rattle.timing_measure.specs.declared.readings.Reading.{Reading}
 use Rattle.timing_measure.specs.page.Pages.{ArePages, FollowsPage, HasPage, is_judged, page_ends, paged}
-use Rattle.timing_measure.specs.page.Readings.{IsPageIn}
-use Rattle.timing_measure.specs.declared.page.readings.PageReading.{PageReading}
+use Rattle.timing_measure.specs.page.Captures.{IsPageIn, IsPageOf}
+use Rattle.timing_measure.specs.declared.page.capture.PageCapture.{PageCapture}
 
 -- each flow is of a media of the session
 pages-of : (tai : ℕ) (items : List Record) (number : ℕ) (media : List Media) (pages : List FlowPage)
@@ -42,21 +40,21 @@ pages-of tai items number (m ∷ media) (p ∷ pages) h =
     (All-weaker (λ (p : FlowPage). p.flow.media < number + 1 + length media) (λ (p : FlowPage). p.flow.media < number + length (m ∷ media))
     (λ p few. omega (arith, few)) pages (pages-of tai items (number + 1) media pages h.1))
 
-pub of-media : (tai : ℕ) (media : List Media) (r : Reading FlowPage) → IsReadingOf (ArePages tai media) r → AreOfMedia media r.flows.items
+pub of-media : (tai : ℕ) (media : List Media) (r : PageCapture) → IsPageOf tai media r → AreOfMedia media r.flows.items
 of-media tai media r h =
     All-weaker (λ (p : FlowPage). p.flow.media < 0 + length media) (λ (p : FlowPage). p.flow.media < length media) (λ p few. omega (arith, few)) r.flows.items
     (pages-of tai h.items 0 media r.flows.items h.are)
 
 -- the answer on what was read
-pub has-page : (job : CaptureJob) (media : List Media) (text : List ℕ) (r : PageReading) (answer : Answer) → IsPageIn job.tai media text r
-    → answer ≡ paged job.capture r.reading.note job.tai media r.reading.flows.items (contents_of r.found) → HasPage job media text answer
+pub has-page : (job : CaptureJob) (media : List Media) (text : List ℕ) (r : PageCapture) (answer : Answer) → IsPageIn job.tai media text r
+    → answer ≡ paged job.capture r.note job.tai media r.flows.items (contents_of r.found) → HasPage job media text answer
 has-page job media text r answer h e = record {
-  items = h.reading.items;
-  note = r.reading.note;
-  records = h.reading.records;
-  pages = r.reading.flows.items;
-  are = h.reading.are;
-  answer_is = e ∙ ap (paged job.capture r.reading.note job.tai media r.reading.flows.items) (found-contents h.reading.items r.found h.found_is);
+  items = h.items;
+  note = r.note;
+  records = h.records;
+  pages = r.flows.items;
+  are = h.are;
+  answer_is = e ∙ ap (paged job.capture r.note job.tai media r.flows.items) (found-contents h.items r.found h.found_is);
 }
 
 -- each answer has one of the statuses

@@ -6,10 +6,10 @@ use Rattle.std.proofs.lemmas.Bool.{cases_eq, cases_lt}
 use Rattle.std.proofs.lemmas.Grind.{div_ceil_times}
 use Rattle.std.proofs.lemmas.Int.{ints}
 use Rattle.sender_params.proofs.Parts.{quotient-exact}
-use Rattle.flow_measure.specs.Columns.{AreColumns, AreCurve, AreExtremes, AreEye, column_at, places_in, width_of}
+use Rattle.flow_measure.specs.Columns.{AreColumns, AreCurve, AreExtremes, AreEye, column_at, places_in, strip_of, width_of}
 use Rattle.flow_measure.specs.declared.columns.Extremes.{Extremes}
 use Rattle.flow_measure.proofs.Bounds.{IsGreatest-more, IsLeast-more}
-use Rattle.flow_measure.proofs.Widths.{ceil-some}
+use Rattle.flow_measure.proofs.Widths.{ceil-some, width-some}
 
 -- a column of the first so many numbers is empty, or has a least and a greatest
 abbrev Found : (column_of : ℕ → ℕ) → (numbers : ℕ → ℤ) → (count c : ℕ) → Type 0
@@ -143,13 +143,13 @@ some-curve most numbers zero some = ([], record { within = λ i few. absurd (ome
 some-curve most numbers (suc k) some =
     let count = suc k in
     let w = width_of count most in
-    let wide : 1 ≤ w = ceil-some count most (omega arith) some in
+    let wide : 1 ≤ w = width-some count most in
     some-columns (λ i. i / w) numbers count (div_ceil count w) (λ i few. strip-within count w i wide few)
     (λ c few. (c * w, (strip-begins count w c wide few, quotient-exact c w (c * w) wide refl)))
 
 pub some-eye : (n most : ℕ) (numbers : ℕ → ℤ) (count : ℕ) → 1 ≤ n → n ≤ count → 1 ≤ most → (columns : List Extremes) × AreEye n most numbers count columns
 some-eye n most numbers count some fits few =
-    let w = width_of n most in
+    let w = strip_of n most in
     let wide : 1 ≤ w = ceil-some n most some few in
     some-columns (λ i. (i % n) / w) numbers count (div_ceil n w) (λ i low. strip-within n w (i % n) wide (mod-lt i (omega (arith, some))))
     (λ c low.

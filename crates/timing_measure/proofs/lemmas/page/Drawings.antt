@@ -8,7 +8,7 @@ use Rattle.timing_base.specs.declared.media.Kind.{Kind}
 use Rattle.timing_base.specs.declared.row.KindVerdict.{KindVerdict}
 use Rattle.timing_base.specs.declared.row.KindVerdict.TheVariants.{Fail, Pass}
 use Rattle.sender_params.specs.Limits.{gapped_of}
-use Rattle.flow_measure.specs.Columns.{AreColumns, column_at, places_in, width_of}
+use Rattle.flow_measure.specs.Columns.{AreColumns, column_at, places_in, strip_of, width_of}
 use Rattle.flow_measure.specs.Groups.{firsts_of, lasts_of, latency_at, offset_at, since_at}
 use Rattle.flow_measure.specs.Occupancy.{AreOccupancies, buckets_of}
 use Rattle.flow_measure.specs.Run.{anchor_in}
@@ -46,7 +46,7 @@ levels-once : (n packets : ℕ) (level other : ℕ → ℤ) (curve eye curve_too
     → AreLevels n packets level curve eye → AreLevels n packets other curve_too eye_too → (curve ≡ curve_too) × (eye ≡ eye_too)
 levels-once n packets level other curve eye curve_too eye_too same h k = (
   agree-once (λ i. i / width_of packets 1000) level other packets curve curve_too same h.curve_is k.curve_is,
-  agree-once (λ i. (i % n) / width_of n 500) level other packets eye eye_too same h.eye_is k.eye_is,
+  agree-once (λ i. (i % n) / strip_of n 500) level other packets eye eye_too same h.eye_is k.eye_is,
 )
 
 occupancies-agree : (m : Media) (n : ℕ) (stamps : List ℕ) (gapped : Bool) (level other : ℕ → ℤ) → AreOccupancies m n stamps gapped level

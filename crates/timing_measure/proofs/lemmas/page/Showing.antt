@@ -1,93 +1,76 @@
--- What a page shows of a flow, where it ends.
-use Rattle.std.proofs.Common.{◌≡◌, ◌≤◌, ◌<◌, ◌+◌, ◌-◌, ◌*◌, ◌^◌, ◌++◌, ◌∷◌, ℕ, zero, suc, List, [], drop, length, map, take, Option, Some, None}
-use Rattle.std.proofs.Common.{refl, ap, ap₂, ◌∙◌, sym, subst, arith}
-use Rattle.std.specs.Prelude.{All, slice_index}
-use Rattle.std.specs.List.{slice_index_or}
-use Rattle.std.proofs.Math.Nat.{one-le-mul}
-use Rattle.std.proofs.lemmas.List.{length-map}
-use Rattle.std.proofs.lemmas.List.Elements.{All-head, All-tail}
-use Rattle.timing_base.specs.Flows.{AreStamped, cuts}
-use Rattle.timing_base.specs.Judged.{FlowRun, FlowVerdict, RunOutcome, absent, gap, in_one_run, in_runs, judged, no_whole_frame, refused, runs_between}
-use Rattle.timing_base.specs.Judged.{stamp_of, whole_frames}
+-- What a page shows of a flow that is over: its longest run, which was drawn.
+use Rattle.std.proofs.Common.{◌≡◌, ◌≤◌, ◌<◌, ◌+◌, ◌==◌, ◌∙◌, ◌++◌, ◌∷◌, ℕ, List, [], length, Option, Some, None, refl, ap, sym, subst, arith, length-append}
+use Rattle.std.specs.Prelude.{⊤, All}
+use Rattle.std.proofs.lemmas.Bool.{cond_both}
+use Rattle.std.proofs.lemmas.List.Elements.{All-cons, All-head, All-nil, All-tail}
+use Rattle.timing_base.specs.Flows.{FirstFault, cuts, first_fault, packet}
+use Rattle.timing_base.specs.Judged.{FlowVerdict, RunOutcome, absent, gap, in_one_run, in_runs, judged, judged_runs, no_whole_frame}
+use Rattle.timing_base.specs.Judged.{refusal, refused, refused_or, run_outcome, whole_frames}
 use Rattle.timing_base.specs.Media.{Media}
-use Rattle.timing_base.specs.Verdicts.{Judged}
 use Rattle.timing_base.specs.declared.packet.FlowPacket.{FlowPacket}
-use Rattle.timing_base.specs.declared.row.Run.{Run}
-use Rattle.timing_base.specs.declared.row.Verdict.{Verdict}
-use Rattle.fail_interval.specs.Row.{run_of, verdict_of}
-use Rattle.flow_measure.specs.declared.numbers.MeasuredFlow.{MeasuredFlow}
+use Rattle.timing_base.specs.declared.packet.PacketFault.{PacketFault}
+use Rattle.timing_base.specs.declared.packet.PacketFault.TheVariants.{Number}
+use Rattle.run_meter.specs.Runs.{JudgedPart, stamps_of}
+use Rattle.fail_interval.specs.Measured.{TellsEnd, TellsOfAll}
+use Rattle.fail_interval.specs.Parts.{judged_packets, judged_parts, part_by, parts_between, parts_in}
+use Rattle.flow_measure.specs.Measured.{AreMeasured, HasNumbers, IsMeasuredRun}
+use Rattle.flow_measure.specs.Packets.{timestamps_of}
 use Rattle.flow_measure.specs.declared.numbers.MeasuredRun.{MeasuredRun}
 use Rattle.flow_measure.specs.declared.numbers.RunNumbers.{RunNumbers}
+use Rattle.flow_measure.specs.declared.numbers_meter.MeasuredRuns.{MeasuredRuns}
+use Rattle.flow_page.specs.drawing.Drawn.{AreCurves, AreRegions}
+use Rattle.flow_page.specs.drawing.Told.{Draws, IsDrawn, IsLongest}
+use Rattle.flow_page.specs.declared.drawing.longest.DrawnRun.{DrawnRun}
+use Rattle.flow_page.specs.declared.drawing.longest.LongestRun.{LongestRun}
 use Rattle.flow_page.specs.declared.shown.ShownRun.{ShownRun}
-use Rattle.timing_measure.specs.Measured.{AreMeasured, IsMeasuredFlow, IsMeasuredRun, JudgedPart, judged_parts, stamps_of}
-use Rattle.timing_measure.specs.Measures.{HasNumbers, timestamps_of}
-use Rattle.timing_measure.specs.metering.Plan.{IsWhole, planned, planned_at, planned_between, planned_packets, planned_part, values_of}
-use Rattle.timing_measure.proofs.Plans.{IsOf, judged-of-runs, parts-whole, planned-parts}
+use Rattle.timing_measure.specs.flows.Ends.{TellsNumbers}
+use Rattle.timing_measure.specs.page.Ends.{HasRunOf, IsShownOf, TellsPair}
 use Rattle.timing_measure.specs.page.Shown.{IsShownRun, Shows}
-use Rattle.timing_measure.specs.page.drawing.Longest.{HasMost, IsLongestOf}
-use Rattle.timing_measure.specs.page.drawing.Metering.{HasPassed, HasRunOf, IsDrawn, IsShownOf, MayStandAt, begin_of, end_of}
-use Rattle.timing_measure.specs.declared.page.longest.LongestRun.{LongestRun}
-use Rattle.timing_measure.specs.declared.page.shown.ShownMeter.{ShownMeter}
-use Rattle.timing_measure.proofs.lemmas.page.Choosing.{IsChosen, chosen-between}
-use Rattle.timing_measure.proofs.lemmas.page.Most.{at-within, none-at}
 
--- a verdict has no more runs than its flow
-runs-long : (packets : List FlowPacket) (tai to from : ℕ) (places : List ℕ) → length (runs_between packets tai to from places) ≡ length places + 1
-runs-long packets tai to from [] = refl
-runs-long packets tai to from (cut ∷ rest) = let e = runs-long packets tai to cut rest in omega (arith, e)
+-- the numbers of runs rise, from this one on
+abbrev Rises : ℕ → List JudgedPart → Type 0
+Rises number [] = ⊤
+Rises number (p ∷ parts) = (number ≤ p.number) × Rises (p.number + 1) parts
 
-plans-long : (m : Media) (all : List FlowRun) → length (map (λ (run : Run). values_of run.verdict) (map (run_of m) all)) ≡ length all
-plans-long m all = length-map (map (run_of m) all) (λ (run : Run). values_of run.verdict) ∙ length-map all (run_of m)
+rises-less : (few many : ℕ) (parts : List JudgedPart) → few ≤ many → Rises many parts → Rises few parts
+rises-less few many [] le h = tt
+rises-less few many (p ∷ parts) le h = (omega (arith, le, h.0), h.1)
 
-one-long : (m : Media) (o : RunOutcome) (n : ℕ) → length (planned (verdict_of m (in_one_run o))) ≤ n + 1
-one-long m (no_whole_frame head) n = omega arith
-one-long m (whole_frames run) n = omega arith
+rises-by : (m : Media) (number : ℕ) (first : FlowPacket) (packets : List FlowPacket) (o : RunOutcome) (rest : List JudgedPart)
+    → Rises (number + 1) rest → Rises number (part_by m number first packets o ++ rest)
+rises-by m number first packets (no_whole_frame head) rest h = rises-less number (number + 1) rest (omega arith) h
+rises-by m number first packets (whole_frames run) rest h = (omega arith, h)
 
-long-in : (m : Media) (packets : List FlowPacket) (tai : ℕ) (v : FlowVerdict) → IsOf packets tai v
-    → length (planned (verdict_of m v)) ≤ length (cuts packets (length packets)) + 1
-long-in m packets tai absent h = omega arith
-long-in m packets tai (refused rec fault) h = omega arith
-long-in m packets tai (gap rec expected got) h = omega arith
-long-in m packets tai (in_one_run o) h = one-long m o (length (cuts packets (length packets)))
-long-in m packets tai (in_runs all) h =
-    let long = plans-long m all in
-    let same : length all ≡ length (cuts packets (length packets)) + 1 =
-    ap length h ∙ runs-long packets tai (length packets) 0 (cuts packets (length packets)) in
-    omega (arith, long, same)
+rises-last : (m : Media) (number : ℕ) (first : FlowPacket) (packets : List FlowPacket) (o : RunOutcome) → Rises number (part_by m number first packets o)
+rises-last m number first packets (no_whole_frame head) = tt
+rises-last m number first packets (whole_frames run) = (omega arith, tt)
 
-planned-long : (m : Media) (packets : List FlowPacket) (tai : ℕ)
-    → length (planned (verdict_of m (judged packets m.pt tai))) ≤ length (cuts packets (length packets)) + 1
-planned-long m packets tai = long-in m packets tai (judged packets m.pt tai) (judged-of-runs packets m.pt tai)
+rises-between : (m : Media) (packets : List FlowPacket) (tai to number from : ℕ) (places : List ℕ)
+    → Rises number (parts_between m packets tai to number from places)
+rises-between m packets tai to number from [] =
+    rises-last m number (packet packets from) (judged_packets packets from to) (run_outcome packets tai from to)
+rises-between m packets tai to number from (cut ∷ rest) =
+    rises-by m number (packet packets from) (judged_packets packets from cut) (run_outcome packets tai from cut) _
+    (rises-between m packets tai to (number + 1) cut rest)
 
--- where no run is judged, there is no part
-none-between : (found : Verdict) (packets : List FlowPacket) (to k from : ℕ) (places : List ℕ) → ((j : ℕ) → planned_at found j ≡ None)
-    → planned_between found packets to k from places ≡ []
-none-between found packets to k from [] none = ap (planned_part packets k from to) (none k)
-none-between found packets to k from (cut ∷ rest) none =
-    ap₂ (λ a b. a ++ b) (ap (planned_part packets k from cut) (none k)) (none-between found packets to (k + 1) cut rest none)
+rises-in : (m : Media) (packets : List FlowPacket) (tai : ℕ) (v : FlowVerdict) → Rises 1 (parts_in m packets tai v)
+rises-in m packets tai absent = tt
+rises-in m packets tai (refused rec fault) = tt
+rises-in m packets tai (gap rec expected got) = tt
+rises-in m packets tai (in_one_run o) = rises-last m 1 (packet packets 0) (judged_packets packets 0 (length packets)) o
+rises-in m packets tai (in_runs all) = rises-between m packets tai (length packets) 1 0 (cuts packets (length packets))
 
-none-parts : (m : Media) (packets : List FlowPacket) (tai : ℕ) → All (λ plan. plan ≡ None) (planned (verdict_of m (judged packets m.pt tai)))
-    → judged_parts m packets tai ≡ []
-none-parts m packets tai all =
-    let found = verdict_of m (judged packets m.pt tai) in
-    sym (planned-parts m packets tai)
-    ∙ none-between found packets (length packets) 0 0 (cuts packets (length packets)) (λ j. none-at (planned found) j all)
+low-at : (number : ℕ) (before after : List JudgedPart) (part : JudgedPart) → Rises number (before ++ part ∷ after) → number ≤ part.number
+low-at number [] after part h = h.0
+low-at number (p ∷ before) after part h =
+    let low = low-at (p.number + 1) before after part h.1 in omega (arith, h.0, low)
 
--- the part of the longest run
-chosen : (m : Media) (packets : List FlowPacket) (tai : ℕ) (longest : LongestRun) → HasMost (planned (verdict_of m (judged packets m.pt tai))) longest
-    → IsChosen (judged_parts m packets tai) packets longest (begin_of (cuts packets (length packets)) (length packets) longest.run)
-    (end_of (cuts packets (length packets)) (length packets) longest.run)
-chosen m packets tai longest h =
-    let n = length packets in
-    let places = cuts packets n in
-    let found = verdict_of m (judged packets m.pt tai) in
-    let within = at-within (planned found) longest.run longest.judged h.at in
-    let long = planned-long m packets tai in
-    let whole : longest.run - 0 ≡ longest.run = omega arith in
-    subst (λ k. IsChosen (judged_parts m packets tai) packets longest (begin_of places n k) (end_of places n k)) whole
-    (subst (λ l. IsChosen l packets longest (slice_index_or (0 ∷ places) (longest.run - 0) n) (slice_index_or places (longest.run - 0) n))
-    (planned-parts m packets tai)
-    (chosen-between found packets n 0 0 places longest h (omega arith) (omega (arith, within, long))))
+less-before : (number : ℕ) (before after : List JudgedPart) (part : JudgedPart) → Rises number (before ++ part ∷ after)
+    → All (λ (p : JudgedPart). p.number < part.number) before
+less-before number [] after part h = All-nil (λ (p : JudgedPart). p.number < part.number)
+less-before number (p ∷ before) after part h =
+    let low = low-at (p.number + 1) before after part h.1 in
+    All-cons (λ (p : JudgedPart). p.number < part.number) p before (omega (arith, low)) (less-before (p.number + 1) before after part h.1)
 
 -- the measured run of this number is that of the part of this number
 measured-at : (N : JudgedPart → RunNumbers → Type 0) (n : ℕ) (before after : List JudgedPart) (part : JudgedPart) (past rest : List MeasuredRun)
@@ -112,73 +95,84 @@ measured-some N n (p ∷ before) after part [] h here none = absurd h
 measured-some N n (p ∷ before) after part (r ∷ runs) h here none =
     measured-some N n before after part runs h.1 here (All-tail (λ (r : MeasuredRun). r.run ≡ n → ⊥) r runs none)
 
-pub part-at : (P : JudgedPart → Type 0) (before after : List JudgedPart) (part : JudgedPart) → All P (before ++ part ∷ after) → P part
-part-at P [] after part h = All-head P part after h
-part-at P (p ∷ before) after part h = part-at P before after part (All-tail P p (before ++ part ∷ after) h)
+-- what is shown is what was drawn, with the numbers of that run
+drawn-shown : (m : Media) (tai : ℕ) (part : JudgedPart) (d : DrawnRun) (run : MeasuredRun) (s : ShownRun) → IsDrawn m tai part d
+    → IsMeasuredRun (HasNumbers m tai) part run → IsShownOf d run s → IsShownRun m tai part s
+drawn-shown m tai part d run s drawn measured is = record {
+  run_is = subst (IsMeasuredRun (HasNumbers m tai) part) (sym is.run_is) measured;
+  first_is = is.first_is ∙ drawn.first_is;
+  last_is = is.last_is ∙ drawn.last_is;
+  curves = subst (AreCurves m part.values.n part.values.frames (stamps_of tai part.packets) (timestamps_of part.packets)) (sym is.curves_are) drawn.curves;
+  regions = subst (AreRegions m part.values.n (stamps_of tai part.packets) 0 part.values.kinds) (sym is.regions_are) drawn.regions;
+}
 
--- what is shown of a run of whole groups that was drawn
-shown-run : (m : Media) (tai : ℕ) (part : JudgedPart) (x : ShownMeter) (run : MeasuredRun) (s : ShownRun) → IsWhole tai part
-    → length part.values.kinds ≡ 3 → IsDrawn m tai part.values x part.packets → IsMeasuredRun (HasNumbers m tai) part run → IsShownOf x run s
-    → IsShownRun m tai part s
-shown-run m tai part x run s whole three drawn measured is =
-    let long : length (stamps_of tai part.packets) ≡ length part.packets = length-map part.packets (stamp_of tai) in
-    let count : length (stamps_of tai part.packets) ≡ part.values.n * part.values.frames = long ∙ whole.whole in
-    let some : 1 ≤ part.values.n * part.values.frames = one-le-mul whole.some whole.some_groups in
-    let draws = drawn (record { some = whole.some_groups; few = omega (arith, whole.whole, whole.bounded) }) whole.rising in
-    record {
-      run_is = subst (IsMeasuredRun (HasNumbers m tai) part) (sym is.run_is) measured;
-      first_is = is.first_is ∙ draws.first_is (omega (arith, count, some));
-      last_is = is.last_is ∙ draws.last_is (omega (arith, count, some)) ∙ ap (λ k. slice_index (stamps_of tai part.packets) (k - 1)) long;
-      curves = is.curves m part.values (stamps_of tai part.packets) (timestamps_of part.packets) draws count;
-      regions = is.regions m part.values (stamps_of tai part.packets) (timestamps_of part.packets) draws count three;
-    }
-
--- of a chosen part
-chosen-shown : (m : Media) (tai : ℕ) (parts : List JudgedPart) (packets : List FlowPacket) (longest : LongestRun) (x : ShownMeter) (from to : ℕ)
-    (runs : List MeasuredRun) (s : Option ShownRun) → IsChosen parts packets longest from to → HasPassed m tai longest x packets from to
-    → All (IsWhole tai) parts → AreMeasured (HasNumbers m tai) parts runs → HasRunOf (Some x) runs s → Shows m tai parts s
-chosen-shown m tai parts packets longest x from to runs None c h whole measured none =
-    let numbered : c.part.number ≡ x.run + 1 = c.number_is ∙ ap (λ k. k + 1) (sym h.run_is) in
-    absurd (measured-some (HasNumbers m tai) (x.run + 1) c.longest_is.before c.longest_is.after c.part runs
-    (subst (λ l. AreMeasured (HasNumbers m tai) l runs) c.longest_is.whole measured) numbered none)
-chosen-shown m tai parts packets longest x from to runs (Some s) c h whole measured found =
-    let part = c.part in
-    let run = found.0 in
+-- of a flow whose longest run was drawn
+pub drawn-shows : (m : Media) (tai : ℕ) (packets : List FlowPacket) (runs : List MeasuredRun) (d : Option DrawnRun) (s : Option ShownRun)
+    → AreMeasured (HasNumbers m tai) (judged_parts m packets tai) runs → Draws m tai (judged_parts m packets tai) d → HasRunOf d runs s
+    → Shows m tai (judged_parts m packets tai) s
+drawn-shows m tai packets runs None None measured drawn found = drawn
+drawn-shows m tai packets runs None (Some s) measured drawn found = absurd found
+drawn-shows m tai packets runs (Some d) None measured drawn found =
+    let l = drawn.1 in
+    absurd (measured-some (HasNumbers m tai) d.run l.before l.after drawn.0 runs
+    (subst (λ parts. AreMeasured (HasNumbers m tai) parts runs) l.whole measured) (sym (drawn.2).run_is) found)
+drawn-shows m tai packets runs (Some d) (Some s) measured drawn found =
+    let part = drawn.0 in
+    let l = drawn.1 in
     let of = found.1 in
-    let numbered : part.number ≡ x.run + 1 = c.number_is ∙ ap (λ k. k + 1) (sym h.run_is) in
-    let same : longest.run + 1 ≡ x.run + 1 = ap (λ k. k + 1) (sym h.run_is) in
-    let one : IsMeasuredRun (HasNumbers m tai) part run =
-    measured-at (HasNumbers m tai) (x.run + 1) c.longest_is.before c.longest_is.after part of.before of.after run
-    (subst (λ l. AreMeasured (HasNumbers m tai) (c.longest_is.before ++ part ∷ c.longest_is.after) l) of.whole
-    (subst (λ l. AreMeasured (HasNumbers m tai) l runs) c.longest_is.whole measured))
-    (subst (λ n. All (λ (p : JudgedPart). p.number < n) c.longest_is.before) same c.others) numbered of.others of.number_is in
-    let drawn : IsDrawn m tai part.values x part.packets =
-    subst (λ l. IsDrawn m tai part.values x l) (sym c.packets_is)
-    (subst (λ (v : Judged). IsDrawn m tai v x (planned_packets longest.judged packets from to)) (sym c.values_is) h.drawn) in
-    let three : length part.values.kinds ≡ 3 = ap (λ (v : Judged). length v.kinds) c.values_is ∙ h.three in (
+    let here : part.number ≡ d.run = sym (drawn.2).run_is in
+    let rises : Rises 1 (l.before ++ part ∷ l.after) = subst (Rises 1) l.whole (rises-in m packets tai (judged packets m.pt tai)) in
+    let few = subst (λ n. All (λ (p : JudgedPart). p.number < n) l.before) here (less-before 1 l.before l.after part rises) in (
       part,
-      c.longest_is,
-      shown-run m tai part x run s
-          (part-at (IsWhole tai) c.longest_is.before c.longest_is.after part (subst (All (IsWhole tai)) c.longest_is.whole whole)) three drawn one found.2,
+      l,
+      drawn-shown m tai part d found.0 s drawn.2
+          (measured-at (HasNumbers m tai) d.run l.before l.after part of.before of.after found.0
+          (subst (λ x. AreMeasured (HasNumbers m tai) (l.before ++ part ∷ l.after) x) of.whole
+          (subst (λ parts. AreMeasured (HasNumbers m tai) parts runs) l.whole measured)) few here of.others of.number_is)
+          found.2,
     )
 
--- of a flow
-pub flow-shown : (m : Media) (number tai : ℕ) (packets : List FlowPacket) (longest : Option LongestRun) (x : Option ShownMeter) (flow : MeasuredFlow)
-    (s : Option ShownRun) → tai ≤ 1000 → AreStamped packets → length packets < 2 ^ 41
-    → IsLongestOf (verdict_of m (judged packets m.pt tai)) longest → MayStandAt m tai longest x packets (length packets)
-    → IsMeasuredFlow HasNumbers m number tai packets flow → HasRunOf x flow.runs s → Shows m tai (judged_parts m packets tai) s
-flow-shown m number tai packets None None flow None seconds stamped few most stands measured found = none-parts m packets tai most
-flow-shown m number tai packets None None flow (Some s) seconds stamped few most stands measured found = absurd found
-flow-shown m number tai packets None (Some x) flow s seconds stamped few most stands measured found = absurd stands
-flow-shown m number tai packets (Some longest) None flow s seconds stamped few most stands measured found = absurd stands
-flow-shown m number tai packets (Some longest) (Some x) flow s seconds stamped few most stands measured found =
-    chosen-shown m tai (judged_parts m packets tai) packets longest x (begin_of (cuts packets (length packets)) (length packets) longest.run)
-    (end_of (cuts packets (length packets)) (length packets) longest.run) flow.runs s (chosen m packets tai longest most) stands
-    (parts-whole m packets tai few seconds stamped) measured.runs found
+-- no run of a flow with a fault is shown, whatever was drawn
+no-run : (N : JudgedPart → RunNumbers → Type 0) (parts : List JudgedPart) (runs : List MeasuredRun) → parts ≡ [] → AreMeasured N parts runs → length runs ≡ 0
+no-run N [] [] none h = refl
+no-run N [] (r ∷ runs) none h = absurd h
+no-run N (p ∷ parts) runs none h = absurd (omega (arith, ap length none))
 
--- a list, cut at one of its items
-pub cut-at : (runs : List MeasuredRun) (k : ℕ) (run : MeasuredRun) → k < length runs → slice_index_or runs k run ≡ run
-    → runs ≡ take k runs ++ run ∷ drop (suc k) runs
-cut-at [] k run within at = absurd (omega (arith, within))
-cut-at (r ∷ runs) zero run within at = ap (λ (x : MeasuredRun). x ∷ runs) at
-cut-at (r ∷ runs) (suc k) run within at = ap (λ l. r ∷ l) (cut-at runs k run (omega (arith, within)) at)
+pub none-shows : (m : Media) (tai : ℕ) (parts : List JudgedPart) (runs : List MeasuredRun) (d : Option DrawnRun) (s : Option ShownRun) → parts ≡ []
+    → AreMeasured (HasNumbers m tai) parts runs → HasRunOf d runs s → Shows m tai parts s
+none-shows m tai parts runs d None none measured found = none
+none-shows m tai parts runs None (Some s) none measured found = absurd found
+none-shows m tai parts runs (Some d) (Some s) none measured found =
+    let of = found.1 in
+    let long = no-run (HasNumbers m tai) parts runs none measured in
+    absurd (omega (arith, long, ap length of.whole, length-append of.before (found.0 ∷ of.after)))
+
+refusal-parts : (m : Media) (packets : List FlowPacket) (tai rec : ℕ) (fault : PacketFault) → parts_in m packets tai (refusal rec fault) ≡ []
+refusal-parts m packets tai rec (Number expected got) = refl
+refusal-parts m packets tai rec fault = refl
+
+pub fault-parts : (m : Media) (packets : List FlowPacket) (tai : ℕ) (first : FirstFault) → first_fault packets m.pt ≡ Some first
+    → judged_parts m packets tai ≡ []
+fault-parts m packets tai first is =
+    cond_both (length packets == 0) absent (refused_or packets (first_fault packets m.pt) (judged_runs packets tai))
+    (λ v. parts_in m packets tai v ≡ []) (λ _. refl)
+    (λ _. subst (λ (o : Option FirstFault). parts_in m packets tai (refused_or packets o (judged_runs packets tai)) ≡ []) (sym is)
+    (refusal-parts m packets tai _ first.fault))
+
+-- of the outputs of two meters the first has the numbers
+pub numbers-told : (m : Media) (tai : ℕ) (packets : List FlowPacket) (o : Option FirstFault) (out : MeasuredRuns × LongestRun)
+    → TellsEnd TellsPair (tt, tt) m tai packets o out → TellsEnd TellsNumbers tt m tai packets o out.0
+numbers-told m tai packets None out h = h.0
+numbers-told m tai packets (Some first) out h = h.0
+
+-- the longest run of a flow is shown, unless the flow has a fault
+pub flow-shows : (m : Media) (tai : ℕ) (packets : List FlowPacket) (out : MeasuredRuns × LongestRun) (runs : List MeasuredRun) (s : Option ShownRun)
+    → TellsOfAll TellsPair (tt, tt) m tai packets out → AreMeasured (HasNumbers m tai) (judged_parts m packets tai) runs
+    → HasRunOf (out.1).drawn runs s → Shows m tai (judged_parts m packets tai) s
+flow-shows m tai packets out runs s told measured found = go (first_fault packets m.pt) refl told
+  where
+    go : (o : Option FirstFault) → first_fault packets m.pt ≡ o → TellsEnd TellsPair (tt, tt) m tai packets o out
+        → Shows m tai (judged_parts m packets tai) s
+    go None is h = drawn-shows m tai packets runs (out.1).drawn s measured h.1 found
+    go (Some first) is h =
+        none-shows m tai (judged_parts m packets tai) runs (out.1).drawn s (fault-parts m packets tai first is) measured found

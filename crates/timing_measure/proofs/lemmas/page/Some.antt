@@ -33,11 +33,15 @@ use Rattle.timing_reach.specs.steps.Answers.{Answer}
 use Rattle.timing_reach.specs.Scanned.{contents}
 use Rattle.udp_rtp.specs.Flow.{flow}
 use Rattle.timing_measure.specs.Each.{EachOf}
-use Rattle.timing_measure.specs.Measured.{AreMeasured, IsMeasuredFlow, IsMeasuredRun, JudgedPart, judged_parts, stamps_of}
-use Rattle.timing_measure.specs.Measures.{HasNumbers, timestamps_of}
+use Rattle.run_meter.specs.Runs.{JudgedPart, stamps_of}
+use Rattle.fail_interval.specs.Parts.{judged_parts}
+use Rattle.flow_measure.specs.Measured.{AreMeasured, HasNumbers, IsMeasuredRun}
+use Rattle.flow_measure.specs.Packets.{timestamps_of}
+use Rattle.flow_page.specs.drawing.Told.{IsLongest}
+use Rattle.timing_measure.specs.Measured.{IsMeasuredFlow}
 use Rattle.timing_measure.proofs.Some.{some-measure-answer}
 use Rattle.timing_measure.specs.page.Pages.{HasPage, paged}
-use Rattle.timing_measure.specs.page.Shown.{IsFlowPage, IsLongest, IsShownRun, Shows}
+use Rattle.timing_measure.specs.page.Shown.{IsFlowPage, IsShownRun, Shows}
 use Rattle.timing_measure.proofs.lemmas.page.Columns.{some-curve, some-eye}
 
 -- where a product is 1 or more, so is each of the two
@@ -155,28 +159,29 @@ some-shown m tai part run h =
 
 -- of some runs one is the longest
 abbrev NoMore : ℕ → JudgedPart → Type 0
-NoMore packets part = part.values.packets ≤ packets
+NoMore packets part = length part.packets ≤ packets
 
 abbrev Fewer : ℕ → JudgedPart → Type 0
-Fewer packets part = part.values.packets < packets
+Fewer packets part = length part.packets < packets
 
-no-more : (parts : List JudgedPart) (part : JudgedPart) (most : ℕ) → part.values.packets ≤ most → IsLongest parts part → All (NoMore most) parts
+no-more : (parts : List JudgedPart) (part : JudgedPart) (most : ℕ) → length part.packets ≤ most → IsLongest parts part → All (NoMore most) parts
 no-more parts part most few h =
     subst (All (NoMore most)) (sym h.whole)
     (All-append (NoMore most) h.before (part ∷ h.after)
-    (All-weaker (Fewer part.values.packets) (NoMore most) (λ p less. omega (arith, less, few)) h.before h.fewer)
-    (All-cons (NoMore most) part h.after few (All-weaker (NoMore part.values.packets) (NoMore most) (λ p less. omega (arith, less, few)) h.after h.no_more)))
+    (All-weaker (Fewer (length part.packets)) (NoMore most) (λ p less. omega (arith, less, few)) h.before h.fewer)
+    (All-cons (NoMore most) part h.after few
+    (All-weaker (NoMore (length part.packets)) (NoMore most) (λ p less. omega (arith, less, few)) h.after h.no_more)))
 
 longest-more : (p q : JudgedPart) (parts : List JudgedPart) → IsLongest parts q → (part : JudgedPart) × IsLongest (p ∷ parts) part
 longest-more p q parts h =
-    elim (cases_lt p.values.packets q.values.packets) as (λ _. (part : JudgedPart) × IsLongest (p ∷ parts) part) [
+    elim (cases_lt (length p.packets) (length q.packets)) as (λ _. (part : JudgedPart) × IsLongest (p ∷ parts) part) [
       | inl less ↦ (
         q,
         record {
           before = p ∷ h.before;
           after = h.after;
           whole = ap (λ l. p ∷ l) h.whole;
-          fewer = All-cons (Fewer q.values.packets) p h.before less h.fewer;
+          fewer = All-cons (Fewer (length q.packets)) p h.before less h.fewer;
           no_more = h.no_more;
         },
       )
@@ -186,8 +191,8 @@ longest-more p q parts h =
           before = [];
           after = parts;
           whole = refl;
-          fewer = All-nil (Fewer p.values.packets);
-          no_more = no-more parts q p.values.packets most h;
+          fewer = All-nil (Fewer (length p.packets));
+          no_more = no-more parts q (length p.packets) most h;
         },
       )
     ]
@@ -195,7 +200,7 @@ longest-more p q parts h =
 some-longest : (p : JudgedPart) (parts : List JudgedPart) → (part : JudgedPart) × IsLongest (p ∷ parts) part
 some-longest p [] = (
   p,
-  record { before = []; after = []; whole = refl; fewer = All-nil (Fewer p.values.packets); no_more = All-nil (NoMore p.values.packets) },
+  record { before = []; after = []; whole = refl; fewer = All-nil (Fewer (length p.packets)); no_more = All-nil (NoMore (length p.packets)) },
 )
 some-longest p (q ∷ parts) = let later = some-longest q parts in longest-more p later.0 (q ∷ parts) later.1
 
@@ -217,7 +222,7 @@ some-shows m tai (p ∷ parts) runs h =
 
 -- what a page has of the flows
 some-pages : (tai : ℕ) (items : List Record) (number : ℕ) (media : List Media) (flows : List MeasuredFlow)
-    → EachOf (λ n m f. IsMeasuredFlow HasNumbers m n tai (flow items m) f) number media flows
+    → EachOf (λ n m f. IsMeasuredFlow m n tai (flow items m) f) number media flows
     → (pages : List FlowPage) × EachOf (λ n m p. IsFlowPage m n tai (flow items m) p) number media pages
 some-pages tai items number [] [] h = ([], tt)
 some-pages tai items number [] (f ∷ flows) h = absurd h

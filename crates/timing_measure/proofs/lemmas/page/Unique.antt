@@ -7,13 +7,15 @@ use Rattle.flow_page.specs.declared.shown.FlowPage.{FlowPage}
 use Rattle.flow_page.specs.declared.shown.ShownRun.{ShownRun}
 use Rattle.pcap_reader.specs.Header.{header}
 use Rattle.pcap_reader.proofs.Lists.{only_by}
-use Rattle.timing_measure.specs.Measured.{JudgedPart, judged_parts, stamps_of}
-use Rattle.timing_measure.specs.Measures.{timestamps_of}
+use Rattle.run_meter.specs.Runs.{JudgedPart, stamps_of}
+use Rattle.fail_interval.specs.Parts.{judged_parts}
+use Rattle.flow_measure.specs.Packets.{timestamps_of}
+use Rattle.flow_page.specs.drawing.Told.{IsLongest}
 use Rattle.timing_reach.specs.Scanned.{contents}
 use Rattle.timing_reach.specs.steps.Answers.{Answer}
 use Rattle.udp_rtp.specs.Flow.{flow}
 use Rattle.timing_measure.specs.page.Pages.{ArePages, HasPage, paged}
-use Rattle.timing_measure.specs.page.Shown.{IsFlowPage, IsLongest, IsShownRun, Shows}
+use Rattle.timing_measure.specs.page.Shown.{IsFlowPage, IsShownRun, Shows}
 use Rattle.timing_measure.proofs.lemmas.page.Drawings.{curves-once, regions-once}
 use Rattle.timing_measure.proofs.Eaches.{each-once}
 use Rattle.timing_measure.proofs.Numbers.{flow-once, run-once}

@@ -1,6 +1,6 @@
 -- The capture of a text was read while rows were written, and what follows where its text is told.
 use Rattle.std.proofs.Common.{◌≡◌, ◌^◌, ◌++◌, [], ℕ, List, take, Option, Some, None, refl, ap, ◌∙◌, sym, subst, append-nil}
-use Rattle.std.specs.Prelude.{◌≢◌}
+use Rattle.std.specs.Prelude.{◌≢◌, IfOk, Result, Ok, Err}
 use Rattle.std.specs.Io.KnownBytes.{Appends}
 use Rattle.std.proofs.KnownBytes.{Appends-trans}
 use Rattle.timing_base.specs.Captures.{Record}
@@ -11,10 +11,10 @@ use Rattle.timing_outside.specs.Written.{AppendsFront}
 use Rattle.pcap_reader.specs.Header.{header}
 use Rattle.pcap_reader.specs.Records.{Records, UnlessReadFault}
 use Rattle.pcap_reader.proofs.Lists.{some_by}
-use Rattle.timing_reach.specs.declared.judged.flows.FlowOf.{FlowOf}
 use Rattle.timing_reach.specs.steps.Ran.{Appended, Output}
-use Rattle.timing_measure.specs.series.Reading.{Copied, CopiesIn, CopiesSome, Stopped}
-use Rattle.timing_measure.specs.declared.series.meter.SeriesMeter.{SeriesMeter}
+use Rattle.timing_reach.specs.declared.steps.failure.Failure.{Failure}
+use Rattle.timing_measure.specs.series.Copies.{Copied, CopiesIn, CopiesSome, Stopped}
+use Rattle.timing_measure.specs.declared.series.flow.SeriesFlow.{SeriesFlow}
 use Rattle.timing_measure.proofs.lemmas.series.Copying.{appends-same, copies-none, stopped-here}
 
 -- a note that no failed read left
@@ -30,7 +30,7 @@ unless-own (file_note.Refused (fault.BadLength rec)) P own h = h
 unless-own (file_note.Refused fault.TooLong) P own h = h
 
 -- all records of a text were taken
-pub copies-in : (o : Output) (old new : FlowOf SeriesMeter) (text : List ℕ) (note : FileNote) → note ≢ file_note.Refused fault.ReadFault
+pub copies-in : (o : Output) (old new : SeriesFlow) (text : List ℕ) (note : FileNote) → note ≢ file_note.Refused fault.ReadFault
     → ((items : List Record) (end : FileNote) → Records text (2 ^ 40) items end → Copied o old new note items end)
     → CopiesIn o old new text note
 copies-in o old new text note own told =
@@ -45,15 +45,15 @@ copies-in o old new text note own told =
     }
 
 -- a read failed: what was written stands
-pub copied-stopped : (o : Output) (old new : FlowOf SeriesMeter) (note : FileNote) (items : List Record) (end : FileNote)
+pub copied-stopped : (o : Output) (old new : SeriesFlow) (note : FileNote) (items : List Record) (end : FileNote)
     → Copied o old new note items end → Stopped o old items
 copied-stopped o old new note items end c = stopped-here o old new c.taken c.rest items c.whole c.copies
 
-pub some-front : (o : Output) (old new : FlowOf SeriesMeter) → CopiesSome o old new → (front : List ℕ) × Appended o front
+pub some-front : (o : Output) (old new : SeriesFlow) → CopiesSome o old new → (front : List ℕ) × Appended o front
 some-front o old new c = (c.1.written, c.1.appended)
 
 -- nothing was written
-pub stopped-none : (o : Output) (f : FlowOf SeriesMeter) (items : List Record) → o.new ≡ o.old → Stopped o f items
+pub stopped-none : (o : Output) (f : SeriesFlow) (items : List Record) → o.new ≡ o.old → Stopped o f items
 stopped-none o f items same = stopped-here o f f [] items items refl (copies-none o f same)
 
 pub front-none : (o : Output) → o.new ≡ o.old → (front : List ℕ) × Appended o front
@@ -82,3 +82,11 @@ wrote-known None o Q told some = (some.0, some.1, λ text t. absurd (not-some te
 wrote-known (Some x) o Q told some =
     let h = told x refl in
     (h.0, h.1, λ text t. subst (λ y. Q y h.0) (some-one x text t) h.2)
+
+-- so where the note is that of the records
+pub copies-kept : (known : Option (List ℕ)) (o : Output) (old new : SeriesFlow) (note : FileNote) (result : Result FileNote Failure)
+    → ((text : List ℕ) → known ≡ Some text → note ≢ file_note.Refused fault.ReadFault → CopiesIn o old new text note)
+    → IfOk result (λ kept. (kept ≡ note) × (note ≢ file_note.Refused fault.ReadFault))
+    → IfOk result (λ kept. (text : List ℕ) → known ≡ Some text → CopiesIn o old new text kept)
+copies-kept known o old new note (Ok kept) told is = λ text whole. subst (CopiesIn o old new text) (sym is.0) (told text whole is.1)
+copies-kept known o old new note (Err e) told is = tt

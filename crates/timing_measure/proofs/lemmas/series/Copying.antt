@@ -1,23 +1,21 @@
 -- Rows are written while records are taken.
-use Rattle.std.proofs.Common.{◌≡◌, ◌+◌, ◌++◌, ◌∷◌, [], ℕ, suc, List, length, take, Option, Some, None, Ok, Bor, refl, ap, ◌∙◌, sym, subst, arith}
+use Rattle.std.proofs.Common.{◌≡◌, ◌+◌, ◌++◌, ◌∷◌, [], ℕ, suc, List, length, take, Option, Some, None, Ok, Bor, inl, inr, refl, ap, ◌∙◌, sym, subst, arith}
 use Rattle.std.proofs.Common.{append-nil, append_assoc}
 use Rattle.std.specs.Io.KnownBytes.{Appends}
 use Rattle.std.proofs.KnownBytes.{Appends-trans}
 use Rattle.timing_base.specs.Captures.{Record}
 use Rattle.std.specs.Prelude.{Err, IfErr, Result}
-use Rattle.timing_base.specs.Media.{Media}
 use Rattle.timing_base.specs.declared.capture.FileNote.{FileNote}
 use Rattle.timing_base.specs.declared.capture.PcapFault.{PcapFault}
-use Rattle.pcap_reader.specs.Readers.{Counts, Gives, GivesNote, Steps, WillGive, frame_count}
+use Rattle.pcap_reader.specs.Readers.{Counts, Gives, Steps, WillGive, frame_count}
 use Rattle.pcap_reader.specs.declared.reader.PcapReader.{PcapReader}
 use Rattle.pcap_reader.specs.declared.reader.Step.{Step}
 use Rattle.pcap_reader.specs.declared.reader.Step.TheVariants as step
 use Rattle.timing_outside.specs.Written.{AppendsFront}
-use Rattle.timing_reach.specs.declared.judged.flows.FlowOf.{FlowOf}
-use Rattle.timing_reach.specs.judged.Flows.{TakesFlow}
 use Rattle.timing_reach.specs.steps.Ran.{Output}
-use Rattle.timing_measure.specs.series.Reading.{Copied, Copies, FeedsOn, IsCopying, Stopped, TakesOn, feeds_more, feeds_none}
-use Rattle.timing_measure.specs.declared.series.meter.SeriesMeter.{SeriesMeter}
+use Rattle.timing_measure.specs.series.Copies.{Copies, IsCopying, Stopped}
+use Rattle.timing_measure.specs.series.Stands.{HoldsText, PoursOn, StandsFor, TakesOn, text_of}
+use Rattle.timing_measure.specs.declared.series.flow.SeriesFlow.{SeriesFlow}
 
 -- where nothing is written
 pub appends-same : (o : Option (List ℕ)) → Appends o o []
@@ -29,62 +27,49 @@ abbrev pub until : Output → (new : Option (List ℕ)) → (now : ℕ) → Outp
 until o new now = record { old = o.old; new = new; before = o.before; now = now }
 
 -- before the first record
-pub copies-none : (o : Output) (f : FlowOf SeriesMeter) → o.new ≡ o.old → Copies o f f []
+pub copies-none : (o : Output) (f : SeriesFlow) → o.new ≡ o.old → Copies o f f []
 copies-none o f same = record {
-  media_is = refl;
-  here = [];
   written = [];
   appended = subst (λ n. Appends o.old n []) (sym same) (appends-same o.old);
-  text_is = append-nil f.taker.rows.text.items;
-  feeds = feeds_none f.media f.taker.flow;
+  goes = λ frames m number tai gone before h.
+      subst (λ l. StandsFor frames m number tai l f (before ++ [])) (sym (append-nil gone))
+      (subst (StandsFor frames m number tai gone f) (sym (append-nil before)) h);
 }
 
 -- some records more were taken
-pub copies-more : (o : Output) (old mid new : FlowOf SeriesMeter) (a b : List Record) → Copies o old mid a → TakesFlow TakesOn mid new b
-    → Copies o old new (a ++ b)
-copies-more o old mid new a b c t =
-    let more : TakesOn old.media mid.taker new.taker b = subst (λ (m : Media). TakesOn m mid.taker new.taker b) c.media_is t.fed in
-    record {
-      media_is = t.media ∙ c.media_is;
-      here = c.here ++ more.here;
-      written = c.written;
-      appended = c.appended;
-      text_is = sym (append_assoc old.taker.rows.text.items c.here more.here) ∙ ap (λ l. l ++ more.here) c.text_is
-          ∙ append_assoc c.written mid.taker.rows.text.items more.here ∙ ap (λ l. c.written ++ l) (sym more.text_is);
-      feeds = feeds_more old.media old.taker.flow mid.taker.flow new.taker.flow c.here more.here a b c.feeds more.feeds;
-    }
-
--- what was made was written, or a front of it
-pub copies-poured : (o : Output) (new : Option (List ℕ)) (now : ℕ) (old f g : FlowOf SeriesMeter) (items : List Record) (poured : List ℕ)
-    → Copies o old f items → g.media ≡ f.media → g.taker.flow ≡ f.taker.flow → Appends o.new new poured
-    → f.taker.rows.text.items ≡ poured ++ g.taker.rows.text.items
-    → Copies (until o new now) old g items
-copies-poured o new now old f g items poured c media same more text = record {
-  media_is = media ∙ c.media_is;
-  here = c.here;
-  written = c.written ++ poured;
-  appended = Appends-trans o.old o.new new c.written poured c.appended more;
-  text_is = c.text_is ∙ ap (λ l. c.written ++ l) text ∙ sym (append_assoc c.written poured g.taker.rows.text.items);
-  feeds = subst (λ x. FeedsOn old.media old.taker.flow x c.here items) (sym same) c.feeds;
+copies-more : (o : Output) (old mid new : SeriesFlow) (a b : List Record) → Copies o old mid a → TakesOn mid new b → Copies o old new (a ++ b)
+copies-more o old mid new a b c t = record {
+  written = c.written;
+  appended = c.appended;
+  goes = λ frames m number tai gone before h.
+      subst (StandsFor frames m number tai (gone ++ c.written) new) (append_assoc before a b)
+      (t frames m number tai (gone ++ c.written) (before ++ a) (c.goes frames m number tai gone before h));
 }
 
-take-front : (a b : List ℕ) → take (length a) (a ++ b) ≡ a
-take-front [] b = refl
-take-front (x ∷ a) b = ap (λ l. x ∷ l) (take-front a b)
+-- what was made was written
+copies-poured : (o : Output) (new : Option (List ℕ)) (now : ℕ) (old f g : SeriesFlow) (items : List Record) (poured : List ℕ)
+    → Copies o old f items → Appends o.new new poured → PoursOn f g poured → Copies (until o new now) old g items
+copies-poured o new now old f g items poured c more pours = record {
+  written = c.written ++ poured;
+  appended = Appends-trans o.old o.new new c.written poured c.appended more;
+  goes = λ frames m number tai gone before h.
+      subst (λ l. StandsFor frames m number tai l g (before ++ items)) (append_assoc gone c.written poured)
+      (pours frames m number tai (gone ++ c.written) (before ++ items) (c.goes frames m number tai gone before h));
+}
 
 -- memory ran out: what was written stands
-pub stopped-here : (o : Output) (old f : FlowOf SeriesMeter) (taken rest items : List Record) → items ≡ taken ++ rest → Copies o old f taken
+pub stopped-here : (o : Output) (old f : SeriesFlow) (taken rest items : List Record) → items ≡ taken ++ rest → Copies o old f taken
     → Stopped o old items
 stopped-here o old f taken rest items whole c = record {
   taken = taken;
   rest = rest;
   whole = whole;
-  here = c.here;
-  count = length c.written;
-  appended = subst (λ t. Appends o.old o.new t)
-      (sym (ap (take (length c.written)) c.text_is ∙ take-front c.written f.taker.rows.text.items)) c.appended;
-  stood = f.taker.flow;
-  feeds = c.feeds;
+  stood = f;
+  written = c.written;
+  goes = c.goes;
+  count = 0;
+  some = inl refl;
+  appended = subst (λ t. Appends o.old o.new t) (sym (append-nil c.written)) c.appended;
 }
 
 -- more than the first of two texts
@@ -97,20 +82,19 @@ take-more (x ∷ a) b k =
     ap (λ j. take j (x ∷ (a ++ b))) e ∙ ap (λ l. x ∷ l) (take-more a b k)
 
 -- a write failed: a front of what was made stands behind what was written
-pub stopped-broken : (o : Output) (new : Option (List ℕ)) (now : ℕ) (old f : FlowOf SeriesMeter) (taken rest items : List Record)
-    → items ≡ taken ++ rest → Copies o old f taken → AppendsFront o.new new f.taker.rows.text.items
+stopped-broken : (o : Output) (new : Option (List ℕ)) (now : ℕ) (old f : SeriesFlow) (taken rest items : List Record)
+    → items ≡ taken ++ rest → Copies o old f taken → HoldsText f → AppendsFront o.new new (text_of f)
     → Stopped (until o new now) old items
-stopped-broken o new now old f taken rest items whole c front = record {
+stopped-broken o new now old f taken rest items whole c some front = record {
   taken = taken;
   rest = rest;
   whole = whole;
-  here = c.here;
-  count = length c.written + front.0;
-  appended = subst (λ t. Appends o.old new t)
-      (sym (ap (take (length c.written + front.0)) c.text_is ∙ take-more c.written f.taker.rows.text.items front.0))
-      (Appends-trans o.old o.new new c.written (take front.0 f.taker.rows.text.items) c.appended front.2);
-  stood = f.taker.flow;
-  feeds = c.feeds;
+  stood = f;
+  written = c.written;
+  goes = c.goes;
+  count = front.0;
+  some = inr some;
+  appended = Appends-trans o.old o.new new c.written (take front.0 (text_of f)) c.appended front.2;
 }
 
 -- a frame is counted
@@ -119,10 +103,10 @@ pub counted : (old new at : ℕ) (bytes : Bor (List ℕ)) (result : Result Step 
 counted old new at bytes result is h = (subst (λ r. Counts old new r) is h).2
 
 -- a reader answered a frame, and its record was taken
-pub copying-more : {S : Type 0} (left : S → Option (List ℕ)) (name : S → List ℕ) (faults : S → ℕ) (o : Output) (first reader new : PcapReader S)
-    (old f g : FlowOf SeriesMeter) (at : ℕ) (bytes : Bor (List ℕ)) (result : Result Step PcapFault)
+copying-more : {S : Type 0} (left : S → Option (List ℕ)) (name : S → List ℕ) (faults : S → ℕ) (o : Output) (first reader new : PcapReader S)
+    (old f g : SeriesFlow) (at : ℕ) (bytes : Bor (List ℕ)) (result : Result Step PcapFault)
     → result ≡ Ok (step.Frame at bytes) → Steps left name faults reader new result
-    → TakesFlow TakesOn f g (record { number = frame_count new; stamp = at; bytes = bytes.now } ∷ [])
+    → TakesOn f g (record { number = frame_count new; stamp = at; bytes = bytes.now } ∷ [])
     → IsCopying (WillGive left) o first reader old f
     → IsCopying (WillGive left) o first new old g
 copying-more left name faults o first reader new old f g at bytes result is steps takes c = record {
@@ -139,62 +123,44 @@ copying-more left name faults o first reader new old f g at bytes result is step
 
 -- so of the record of the next number
 pub copying-taken : {S : Type 0} (left : S → Option (List ℕ)) (name : S → List ℕ) (faults : S → ℕ) (o : Output) (first reader new : PcapReader S)
-    (old f g : FlowOf SeriesMeter) (number at : ℕ) (bytes : Bor (List ℕ)) (result : Result Step PcapFault)
+    (old f g : SeriesFlow) (number at : ℕ) (bytes : Bor (List ℕ)) (result : Result Step PcapFault)
     → result ≡ Ok (step.Frame at bytes) → Steps left name faults reader new result → number ≡ frame_count reader
-    → TakesFlow TakesOn f g (record { number = number + 1; stamp = at; bytes = bytes.now } ∷ [])
+    → TakesOn f g (record { number = number + 1; stamp = at; bytes = bytes.now } ∷ [])
     → IsCopying (WillGive left) o first reader old f
     → IsCopying (WillGive left) o first new old g
 copying-taken left name faults o first reader new old f g number at bytes result is steps count takes c =
     let next : number + 1 ≡ frame_count new =
     omega (arith, counted (frame_count reader) (frame_count new) at bytes result is steps.counts, count) in
     copying-more left name faults o first reader new old f g at bytes result is steps
-    (subst (λ k. TakesFlow TakesOn f g (record { number = k; stamp = at; bytes = bytes.now } ∷ [])) next takes) c
+    (subst (λ k. TakesOn f g (record { number = k; stamp = at; bytes = bytes.now } ∷ [])) next takes) c
 
 -- rows were written meanwhile
 pub copying-poured : {R : Type 0} (gives : R → List Record → FileNote → Type 0) (o : Output) (new : Option (List ℕ)) (now : ℕ) (first reader : R)
-    (old f g : FlowOf SeriesMeter) (poured : List ℕ)
-    → IsCopying gives o first reader old f → g.media ≡ f.media → g.taker.flow ≡ f.taker.flow → Appends o.new new poured
-    → f.taker.rows.text.items ≡ poured ++ g.taker.rows.text.items
+    (old f g : SeriesFlow) (poured : List ℕ)
+    → IsCopying gives o first reader old f → Appends o.new new poured → PoursOn f g poured
     → IsCopying gives (until o new now) first reader old g
-copying-poured gives o new now first reader old f g poured c media same more text = record {
+copying-poured gives o new now first reader old f g poured c more pours = record {
   taken = c.taken;
-  copies = copies-poured o new now old f g c.taken poured c.copies media same more text;
+  copies = copies-poured o new now old f g c.taken poured c.copies more pours;
   told = c.told;
 }
 
--- the records ended
-pub copied-end : {S : Type 0} (left : S → Option (List ℕ)) (name : S → List ℕ) (faults : S → ℕ) (o : Output) (first reader new : PcapReader S)
-    (old f : FlowOf SeriesMeter) (note : FileNote) (result : Result Step PcapFault)
-    → ((items : List Record) (end : FileNote) → Gives left new result items end → GivesNote note items end)
-    → Steps left name faults reader new result
-    → IsCopying (WillGive left) o first reader old f
-    → (items : List Record) (end : FileNote) → WillGive left first items end → Copied o old f note items end
-copied-end left name faults o first reader new old f note result ends steps c items end gives =
-    let before = c.told items end gives in
-    record {
-      taken = c.taken;
-      rest = before.0;
-      whole = before.1;
-      ends = ends before.0 end (steps.gives before.0 end before.2);
-      copies = c.copies;
-    }
-
 -- it stopped, for want of memory, or since a write failed
-pub copying-stopped : {R : Type 0} (gives : R → List Record → FileNote → Type 0) (o : Output) (first reader : R) (old f : FlowOf SeriesMeter)
+pub copying-stopped : {R : Type 0} (gives : R → List Record → FileNote → Type 0) (o : Output) (first reader : R) (old f : SeriesFlow)
     → IsCopying gives o first reader old f
     → (items : List Record) (end : FileNote) → gives first items end → Stopped o old items
 copying-stopped gives o first reader old f c items end told =
     let before = c.told items end told in stopped-here o old f c.taken before.0 items before.1 c.copies
 
 pub copying-broken : {R : Type 0} (gives : R → List Record → FileNote → Type 0) (o : Output) (new : Option (List ℕ)) (now : ℕ) (first reader : R)
-    (old f : FlowOf SeriesMeter)
-    → IsCopying gives o first reader old f → AppendsFront o.new new f.taker.rows.text.items
+    (old f : SeriesFlow)
+    → IsCopying gives o first reader old f → HoldsText f → AppendsFront o.new new (text_of f)
     → (items : List Record) (end : FileNote) → gives first items end → Stopped (until o new now) old items
-copying-broken gives o new now first reader old f c front items end told =
-    let before = c.told items end told in stopped-broken o new now old f c.taken before.0 items before.1 c.copies front
+copying-broken gives o new now first reader old f c some front items end told =
+    let before = c.told items end told in stopped-broken o new now old f c.taken before.0 items before.1 c.copies some front
 
 -- before the first record
-pub copying-none : {R : Type 0} (gives : R → List Record → FileNote → Type 0) (o : Output) (first : R) (old : FlowOf SeriesMeter) → o.new ≡ o.old
+pub copying-none : {R : Type 0} (gives : R → List Record → FileNote → Type 0) (o : Output) (first : R) (old : SeriesFlow) → o.new ≡ o.old
     → IsCopying gives o first first old old
 copying-none gives o first old same = record {
   taken = [];

@@ -1,214 +1,140 @@
--- What was written of a flow, and what isn't written yet.
-use Rattle.std.proofs.Common.{◌≡◌, ◌≤◌, ◌<◌, ◌^◌, ◌++◌, [], ℕ, Bool, true, false, append-nil, List, length, take, Option, Some, None, inl, inr, arith, refl, ap}
-use Rattle.std.proofs.Common.{◌∙◌, sym, subst}
-use Rattle.std.specs.Prelude.{◌⊎◌, if◌then◌else◌}
-use Rattle.std.specs.Option.{option_map}
-use Rattle.std.specs.Io.KnownBytes.{Appends}
-use Rattle.std.proofs.lemmas.Bool.{false≢true}
-use Rattle.std.proofs.lemmas.List.Elements.{filter_map-append}
+-- A flow whose rows were written is over: what is left of its answer.
+use Rattle.std.proofs.Common.{◌≡◌, ◌≤◌, ◌<◌, ◌+◌, ◌∙◌, ◌++◌, ◌∷◌, ℕ, Bool, true, false, List, [], length, Option, Some, None, inl, inr, refl, ap, sym, subst}
+use Rattle.std.proofs.Common.{arith, length-append}
 use Rattle.timing_base.specs.Captures.{Record}
-use Rattle.timing_base.specs.Flows.{AreStamped}
+use Rattle.timing_base.specs.Flows.{FirstFault, first_fault}
 use Rattle.timing_base.specs.Judged.{judged}
+use Rattle.timing_base.specs.Keys.{key_of}
 use Rattle.timing_base.specs.Media.{Media}
 use Rattle.timing_base.specs.declared.capture.FileNote.{FileNote}
+use Rattle.timing_base.specs.declared.key.FlowKey.{FlowKey}
+use Rattle.timing_base.specs.declared.packet.FlowPacket.{FlowPacket}
+use Rattle.timing_base.specs.declared.row.Row.{Row}
 use Rattle.timing_base.specs.declared.row.Verdict.{Verdict}
-use Rattle.fail_interval.specs.Row.{verdict_of}
-use Rattle.pcap_reader.specs.Header.{header}
-use Rattle.pcap_reader.specs.Records.{Records}
-use Rattle.pcap_reader.proofs.Lists.{only_by}
-use Rattle.pcapng_reader.specs.Classic.{classic}
-use Rattle.timing_measure.specs.Measured.{judged_parts}
-use Rattle.timing_measure.specs.metering.Edges.{edges_of}
-use Rattle.timing_measure.specs.metering.Plan.{has_judged_run}
-use Rattle.timing_measure.specs.declared.metering.edges.Edge.{Edge}
-use Rattle.timing_reach.specs.Asked.{not_judged}
-use Rattle.timing_reach.specs.declared.judged.flows.FlowOf.{FlowOf}
-use Rattle.timing_report.specs.Outcomes.{is_refused}
-use Rattle.timing_report.specs.declared.status.Status.{Status}
-use Rattle.timing_report.specs.declared.status.Status.TheVariants as status
-use Rattle.timing_reach.specs.steps.Ends.{look_ends}
-use Rattle.timing_reach.specs.steps.Answers.{Answer}
-use Rattle.timing_reach.specs.steps.Ran.{Output}
-use Rattle.udp_rtp.specs.Flow.{flow, flow_packet}
-use Rattle.timing_measure.specs.series.Finding.{FindsAgain, FindsElse, IsAnswerOf, IsFoundIn, IsNewFlow}
-use Rattle.timing_measure.specs.series.Meters.{StandsFor}
-use Rattle.timing_measure.specs.series.Reading.{CopiesIn, CopiesSome, FeedsOn, HasRoom, Stopped}
+use Rattle.udp_rtp.specs.Flow.{flow}
+use Rattle.fail_interval.specs.Measured.{TellsEnd, TellsOfAll}
+use Rattle.fail_interval.specs.Meterings.{IsFed}
+use Rattle.fail_interval.specs.Row.{row, verdict_of}
+use Rattle.fail_interval.specs.Stands.{StandsFor as JudgeStandsFor}
 use Rattle.flow_measure.specs.rows.Rows.{header_text}
-use Rattle.timing_measure.specs.series.Rows.{BeginRowsOf}
-use Rattle.timing_measure.specs.series.Series.{AnswersFlow, BeginsIn, HasSeries, series_status}
-use Rattle.timing_measure.specs.series.Streams.{HasBegun, HasRest, HasRestStatus, is_silent_stream}
-use Rattle.timing_measure.specs.declared.series.meter.FlowRows.{FlowRows}
-use Rattle.timing_measure.specs.declared.series.meter.SeriesMeter.{SeriesMeter}
-use Rattle.timing_measure.specs.declared.series.readings.Found.{Found}
-use Rattle.timing_measure.proofs.Found.{untold}
-use Rattle.timing_measure.proofs.lemmas.series.Copying.{appends-same, stopped-here}
-use Rattle.timing_measure.proofs.lemmas.series.Fronting.{rows-all, rows-begun}
+use Rattle.flow_measure.specs.rows.Told.{PastRows, Tells}
+use Rattle.flow_measure.specs.rows.making.Meters.{StandsFor as RowsStandsFor}
+use Rattle.flow_measure.specs.declared.rows.rows.Rows.{Rows}
+use Rattle.timing_reach.specs.Asked.{not_judged}
+use Rattle.timing_reach.specs.steps.Answers.{Answer}
+use Rattle.timing_measure.specs.series.Ends.{EndsSeries, IsRestOf}
+use Rattle.timing_measure.specs.series.Rows.{AreRowsOfFlow, AreRowsUpTo}
+use Rattle.timing_measure.specs.series.Series.{series_of}
+use Rattle.timing_measure.specs.series.Stands.{StandsFor, Waits, past_of}
+use Rattle.timing_measure.specs.series.Status.{series_status}
+use Rattle.timing_measure.specs.declared.series.flow.SeriesFlow.{SeriesFlow}
 
--- what takes a flow, made of what makes its rows
-pub new-flow : (frames : Bool) (m : Media) (number tai : ℕ) (found : Verdict) (x : FlowRows) (meter : SeriesMeter) (f : FlowOf SeriesMeter)
-    → f.media ≡ m → f.taker ≡ meter → meter.flow ≡ x → meter.rows.text.items ≡ header_text x.frames → StandsFor frames m number tai found x [] []
-    → IsNewFlow frames m number tai found f
-new-flow frames m number tai found x meter f media taker is text stands = record {
-  media_is = media;
-  text_is = ap (λ (y : SeriesMeter). y.rows.text.items) taker ∙ text ∙ ap header_text (stands.at []).frames_is;
-  stands = subst (λ (y : SeriesMeter). StandsFor frames m number tai found y.flow [] []) (sym taker)
-      (subst (λ (y : FlowRows). StandsFor frames m number tai found y [] []) (sym is) stands);
+-- these rows were put behind the header, and so much was written
+record HasPut (frames : Bool) (m : Media) (tai : ℕ) (packets : List FlowPacket) (gone text : List ℕ) : Type 0 where
+  pub put : List ℕ
+  pub are : AreRowsOfFlow frames m tai packets put
+  pub text_is : gone ++ text ≡ header_text frames ++ put
+
+put-up-to : (frames : Bool) (m : Media) (tai : ℕ) (packets : List FlowPacket) (gone : List ℕ) (rows : Rows) (o : Option FirstFault)
+    → TellsEnd Tells (past_of frames gone) m tai packets o rows
+    → (put : List ℕ) × AreRowsUpTo frames m tai packets o put × (gone ++ rows.text.items ≡ header_text frames ++ put)
+put-up-to frames m tai packets gone rows None h = (h.put, subst (λ f. AreRowsUpTo f m tai packets None h.put) h.frames_is h.are, h.text_is)
+put-up-to frames m tai packets gone rows (Some first) h = (h.put, subst (λ f. AreRowsUpTo f m tai packets (Some first) h.put) h.frames_is h.are, h.text_is)
+
+has-put : (frames : Bool) (m : Media) (tai : ℕ) (packets : List FlowPacket) (gone : List ℕ) (rows : Rows)
+    → TellsEnd Tells (past_of frames gone) m tai packets (first_fault packets m.pt) rows → HasPut frames m tai packets gone rows.text.items
+has-put frames m tai packets gone rows h =
+    let p = put-up-to frames m tai packets gone rows (first_fault packets m.pt) h in
+    record { put = p.0; are = p.1; text_is = p.2 }
+
+no-bytes : (xs : List ℕ) → length xs ≡ 0 → xs ≡ []
+no-bytes [] e = refl
+no-bytes (x ∷ xs) e = absurd (omega (arith, e))
+
+-- the header still waits, and there is no row
+rest-none : (frames : Bool) (m : Media) (tai : ℕ) (note : FileNote) (items : List Record) (gone text : List ℕ) (waiting : ℕ) (rest : Answer)
+    → Waits frames gone waiting → 0 < waiting → length text ≤ waiting → HasPut frames m tai (flow items m) gone text
+    → rest ≡ not_judged m (verdict_of m (judged (flow items m) m.pt tai))
+    → IsRestOf frames m tai note items gone rest
+rest-none frames m tai note items gone text waiting rest (inr w) some few h is = absurd (omega (arith, some, w.0))
+rest-none frames m tai note items gone text waiting rest (inl w) some few h is =
+    let v = verdict_of m (judged (flow items m) m.pt tai) in
+    let long : length text ≡ length (header_text frames) + length h.put =
+    ap length (ap (λ l. l ++ text) (sym w.0) ∙ h.text_is) ∙ length-append (header_text frames) h.put in
+    let none : h.put ≡ [] = no-bytes h.put (omega (arith, long, few, w.1)) in
+    record {
+      rows = [];
+      are = subst (AreRowsOfFlow frames m tai (flow items m)) none h.are;
+      whole = ap (λ l. record { text = l ++ rest.text; status = rest.status }) w.0 ∙ is;
+    }
+
+-- there are rows
+by-rows : (frames : Bool) (m : Media) (note : FileNote) (v : Verdict) (put gone : List ℕ) (rest : Answer) → 0 < length put
+    → gone ++ rest.text ≡ header_text frames ++ put → rest.status ≡ series_status note v
+    → record { text = gone ++ rest.text; status = rest.status } ≡ series_of frames m note v put
+by-rows frames m note v [] gone rest some text status = absurd (omega (arith, some))
+by-rows frames m note v (byte ∷ put) gone rest some text status = λ i. record { text = text i; status = status i }
+
+pub some-put : (header put gone text : List ℕ) → gone ++ text ≡ header ++ put → length header < length gone + length text → 0 < length put
+some-put header put gone text e more =
+    omega (arith, more, sym (length-append gone text) ∙ ap length e ∙ length-append header put)
+
+rest-rows : (frames : Bool) (m : Media) (tai : ℕ) (note : FileNote) (items : List Record) (gone : List ℕ) (waiting : ℕ) (rest : Answer)
+    → Waits frames gone waiting → (0 < waiting → waiting < length rest.text) → HasPut frames m tai (flow items m) gone rest.text
+    → 0 < length (header_text frames)
+    → rest.status ≡ series_status note (verdict_of m (judged (flow items m) m.pt tai))
+    → IsRestOf frames m tai note items gone rest
+rest-rows frames m tai note items gone waiting rest (inl w) more h head status =
+    let long : waiting < length rest.text = more (omega (arith, head, w.1)) in
+    record {
+      rows = h.put;
+      are = h.are;
+      whole = by-rows frames m note _ h.put gone rest
+          (some-put (header_text frames) h.put gone rest.text h.text_is (omega (arith, long, w.1))) h.text_is status;
+    }
+rest-rows frames m tai note items gone waiting rest (inr w) more h head status = record {
+  rows = h.put;
+  are = h.are;
+  whole = by-rows frames m note _ h.put gone rest
+      (some-put (header_text frames) h.put gone rest.text h.text_is (omega (arith, w.1))) h.text_is status;
 }
 
--- the records of a text are its only ones
-same-items : (text : List ℕ) (a b : List Record) (x y : FileNote) → Records text (2 ^ 40) a x → Records text (2 ^ 40) b y → b ≡ a
-same-items text a b x y h k = (only_by (header text) (2 ^ 40) text b a y x k h).0
+-- a header has bytes
+header-some : (frames : Bool) → 0 < length (header_text frames)
+header-some true = omega arith
+header-some false = omega arith
 
--- the whole text was written, but for what isn't written yet
-pub series-in : (frames : Bool) (m : Media) (number tai : ℕ) (text : List ℕ) (found : Found) (o : Output) (f g : FlowOf SeriesMeter) (note : FileNote)
-    (status : Status) → tai ≤ 1000 → has_judged_run found.verdict ≡ true → IsFoundIn m tai text found → IsNewFlow frames m number tai found.verdict f
-    → CopiesIn o f g text note → status ≡ series_status note
-    → HasRest o (HasSeries frames tai m text) (record { text = g.taker.rows.text.items; status = status })
-series-in frames m number tai text found o f g note status seconds has k fresh c ends =
-    let same : c.items ≡ k.items = same-items text k.items c.items found.note note k.records c.records in
-    let verdict : found.verdict ≡ verdict_of m (judged (flow c.items m) m.pt tai) =
-    subst (λ l. found.verdict ≡ verdict_of m (judged (flow l m) m.pt tai)) (sym same) k.verdict_is in
-    let feeds : FeedsOn m f.taker.flow g.taker.flow c.copies.here c.items =
-    subst (λ (x : Media). FeedsOn x f.taker.flow g.taker.flow c.copies.here c.items) fresh.media_is c.copies.feeds in (
-      c.copies.written,
-      c.copies.appended,
-      record {
-        items = c.items;
-        note = note;
-        records = c.records;
-        answers = subst (λ b. AnswersFlow frames m tai note c.items b (record {
-          text = c.copies.written ++ g.taker.rows.text.items;
-          status = status;
-        })) (sym (ap has_judged_run (sym verdict) ∙ has)) (
-          record {
-            rows = c.copies.here;
-            are = rows-all frames m number tai found.verdict (flow c.items m) g.taker.flow c.copies.here
-                (subst (λ l. length (flow l m) < 2 ^ 41) (sym same) k.few) seconds (subst (λ l. AreStamped (flow l m)) (sym same) k.stamped) verdict
-                (feeds frames number tai found.verdict [] [] fresh.stands);
-            text_is = sym c.copies.text_is ∙ ap (λ l. l ++ c.copies.here) fresh.text_is;
-          },
-          ends,
-        );
-      },
-    )
+-- what the judge and the rows of a flow that has ended say of its packets
+pub record Finishes (x : SeriesFlow) (told : Row × Rows) : Type 0 where
+  pub result : (m : Media) (key : FlowKey) (tai : ℕ) (packets : List FlowPacket) → JudgeStandsFor m key tai x.flow.taker.judge packets
+      → told.0 ≡ row packets key m tai
+  pub tells : (past : PastRows) (m : Media) (key : FlowKey) (tai : ℕ) (packets : List FlowPacket)
+      → IsFed true RowsStandsFor Tells past m key tai x.flow.taker packets → TellsOfAll Tells past m tai packets told.1
 
--- whatever the shelf tells: the rows of what the second reading read, where it found what the first did
-pub series-of : (frames : Bool) (m : Media) (number tai : ℕ) (found : Verdict) (before : List Edge) (o : Output) (f g : FlowOf SeriesMeter)
-    (note : FileNote) (status : Status) → tai ≤ 1000 → has_judged_run found ≡ true → IsNewFlow frames m number tai found f → CopiesSome o f g
-    → HasRoom 1 g.taker.flow → FindsAgain before g.taker.flow → status ≡ series_status note
-    → HasRest o (IsAnswerOf frames m tai) (record { text = g.taker.rows.text.items; status = status })
-series-of frames m number tai found before o f g note status seconds has fresh c room finds ends =
-    let items = c.0 in
-    let copies = c.1 in
-    let feeds : FeedsOn m f.taker.flow g.taker.flow copies.here items =
-    subst (λ (x : Media). FeedsOn x f.taker.flow g.taker.flow copies.here items) fresh.media_is copies.feeds in
-    let stands = feeds frames number tai found [] [] fresh.stands in
-    let again : verdict_of m (judged (flow items m) m.pt tai) ≡ found =
-    (finds frames m number tai found copies.here (flow items m) stands).verdict in (
-      copies.written,
-      copies.appended,
-      record {
-        items = items;
-        note = note;
-        answers = subst (λ b. AnswersFlow frames m tai note items b (record {
-          text = copies.written ++ g.taker.rows.text.items;
-          status = status;
-        })) (sym (ap has_judged_run again ∙ has)) (
-          record {
-            rows = copies.here;
-            are = rows-all frames m number tai found (flow items m) g.taker.flow copies.here
-                (omega (arith, stands.judging_is.judge_is.fed, room.judging_few.judge_few)) seconds stands.judging_is.judge_is.stamped (sym again) stands;
-            text_is = sym copies.text_is ∙ ap (λ l. l ++ copies.here) fresh.text_is;
-          },
-          ends,
-        );
-      },
-    )
+verdict-is : (x : SeriesFlow) (told : Row × Rows) (frames : Bool) (m : Media) (number tai : ℕ) (gone : List ℕ) (items : List Record) → Finishes x told
+    → StandsFor frames m number tai gone x items → told.0.verdict ≡ verdict_of m (judged (flow items m) m.pt tai)
+verdict-is x told frames m number tai gone items f h =
+    ap (λ (r : Row). r.verdict) (f.result m (key_of 0 number) tai (flow items m) h.fed.judge_is)
 
--- a front of the text was written
-pub front-in : (frames : Bool) (m : Media) (number tai : ℕ) (text : List ℕ) (found : Found) (o : Output) (f : FlowOf SeriesMeter)
-    → tai ≤ 1000 → (k : IsFoundIn m tai text found) → IsNewFlow frames m number tai found.verdict f → Stopped o f k.items
-    → HasBegun o (λ front. (front ≡ []) ⊎ BeginsIn frames tai m text front)
-front-in frames m number tai text found o f seconds k fresh s =
-    let feeds : FeedsOn m f.taker.flow s.stood s.here s.taken =
-    subst (λ (x : Media). FeedsOn x f.taker.flow s.stood s.here s.taken) fresh.media_is s.feeds in
-    let whole : flow k.items m ≡ flow s.taken m ++ flow s.rest m =
-    ap (λ l. flow l m) s.whole ∙ filter_map-append (flow_packet m) s.taken s.rest in (
-      take s.count (f.taker.rows.text.items ++ s.here),
-      s.appended,
-      inr (record {
-        items = k.items;
-        note = found.note;
-        records = k.records;
-        begins = record {
-          rows = s.here;
-          begin = subst (λ l. BeginRowsOf frames m tai (judged_parts m l tai) s.here) (sym whole)
-              (rows-begun frames m number tai found.verdict (flow s.taken m) (flow s.rest m) s.stood s.here
-              (subst (λ l. length l < 2 ^ 41) whole k.few) seconds (subst AreStamped whole k.stamped)
-              (k.verdict_is ∙ ap (λ l. verdict_of m (judged l m.pt tai)) whole)
-              (feeds frames number tai found.verdict [] [] fresh.stands));
-          count = s.count;
-          text_is = ap (λ l. take s.count (l ++ s.here)) fresh.text_is;
-        };
-      }),
-    )
+rows-put : (x : SeriesFlow) (told : Row × Rows) (frames : Bool) (m : Media) (number tai : ℕ) (gone : List ℕ) (items : List Record) → Finishes x told
+    → StandsFor frames m number tai gone x items → HasPut frames m tai (flow items m) gone told.1.text.items
+rows-put x told frames m number tai gone items f h =
+    has-put frames m tai (flow items m) gone told.1 (f.tells (past_of frames gone) m (key_of 0 number) tai (flow items m) h.fed)
 
--- where the text is told, a second reading finds nothing else than the first
-pub never-else : (frames : Bool) (m : Media) (number tai : ℕ) (text : List ℕ) (found : Found) (o : Output) (f g : FlowOf SeriesMeter) (note : FileNote)
-    → IsFoundIn m tai text found → IsNewFlow frames m number tai found.verdict f → CopiesIn o f g text note → FindsElse found.edges g.taker.flow → ⊥
-never-else frames m number tai text found o f g note k fresh c changed =
-    let same : k.items ≡ c.items = sym (same-items text k.items c.items found.note note k.records c.records) in
-    let feeds : FeedsOn m f.taker.flow g.taker.flow c.copies.here c.items =
-    subst (λ (x : Media). FeedsOn x f.taker.flow g.taker.flow c.copies.here c.items) fresh.media_is c.copies.feeds in
-    changed frames m number tai found.verdict c.copies.here (flow c.items m) (feeds frames number tai found.verdict [] [] fresh.stands) (record {
-      verdict = sym (k.verdict_is ∙ ap (λ l. verdict_of m (judged (flow l m) m.pt tai)) same);
-      edges_are = sym (k.edges_are ∙ ap (λ l. edges_of (flow l m)) same);
-    })
+-- there is no row: the verdict is the answer
+pub ends-none : (note : FileNote) (x : SeriesFlow) (told : Row × Rows) (rest : Answer) → Finishes x told → 0 < x.waiting
+    → length told.1.text.items ≤ x.waiting → rest ≡ not_judged x.flow.media told.0.verdict
+    → EndsSeries note x rest
+ends-none note x told rest f some few is frames m number tai gone items h =
+    rest-none frames m tai note items gone told.1.text.items x.waiting rest h.waits some few (rows-put x told frames m number tai gone items f h)
+    (is ∙ ap (λ (n : Media). not_judged n told.0.verdict) h.media_is ∙ ap (not_judged m) (verdict-is x told frames m number tai gone items f h))
 
--- so where it does, the text isn't told
-pub else-untold : (o : Option (List ℕ)) (frames : Bool) (m : Media) (number tai : ℕ) (found : Found) (out : Output) (f g : FlowOf SeriesMeter)
-    (note : FileNote) → ((text : List ℕ) → option_map classic o ≡ Some text → IsFoundIn m tai text found)
-    → IsNewFlow frames m number tai found.verdict f → ((text : List ℕ) → option_map classic o ≡ Some text → CopiesIn out f g text note)
-    → FindsElse found.edges g.taker.flow → o ≡ None
-else-untold o frames m number tai found out f g note known fresh told changed =
-    untold o (λ text e.
-    let t : option_map classic o ≡ Some (classic text) = ap (option_map classic) e in
-    never-else frames m number tai (classic text) found out f g note (known (classic text) t) fresh (told (classic text) t) changed)
-
--- a front of the text was written where a read failed, or the flow changed
-pub front-copied : (frames : Bool) (m : Media) (number tai : ℕ) (text : List ℕ) (found : Found) (o : Output) (f g : FlowOf SeriesMeter) (note : FileNote)
-    → tai ≤ 1000 → IsFoundIn m tai text found → IsNewFlow frames m number tai found.verdict f → CopiesIn o f g text note
-    → HasBegun o (λ front. (front ≡ []) ⊎ BeginsIn frames tai m text front)
-front-copied frames m number tai text found o f g note seconds k fresh c =
-    let same : k.items ≡ c.items ++ [] = sym (same-items text k.items c.items found.note note k.records c.records) ∙ sym (append-nil c.items) in
-    front-in frames m number tai text found o f seconds k fresh (stopped-here o f g c.items [] k.items same c.copies)
-
--- nothing was written
-pub begun-none : (frames : Bool) (m : Media) (tai : ℕ) (text : List ℕ) (o : Output) → o.new ≡ o.old
-    → HasBegun o (λ front. (front ≡ []) ⊎ BeginsIn frames tai m text front)
-begun-none frames m tai text o same = ([], subst (λ n. Appends o.old n []) (sym same) (appends-same o.old), inl refl)
-
--- the answer on a flow of which no run is judged
-pub none-series : (frames : Bool) (m : Media) (tai : ℕ) (text : List ℕ) (found : Found) (answer : Answer) → has_judged_run found.verdict ≡ false
-    → IsFoundIn m tai text found → answer ≡ not_judged m found.verdict → HasSeries frames tai m text answer
-none-series frames m tai text found answer has k is = record {
-  items = k.items;
-  note = found.note;
-  records = k.records;
-  answers = subst (λ b. AnswersFlow frames m tai found.note k.items b answer) (sym (ap has_judged_run (sym k.verdict_is) ∙ has))
-      (is ∙ ap (not_judged m) k.verdict_is);
-}
-
--- the status beside rows is that of an answer which isn't silent
-pub rest-series : (o : Output) (note : FileNote) (rest : Answer) → rest.status ≡ series_status note → HasRestStatus o rest
-rest-series o note rest is = whole (subst Fits (sym is) (either (is_refused note)))
-  where
-    Fits : Status → Type 0
-    Fits s = (look_ends s ≡ true) × (is_silent_stream s ≡ true → ⊥)
-
-    either : (b : Bool) → Fits (if b then status.NotAllJudged else status.Pass)
-    either true = (refl, λ quiet. false≢true quiet)
-    either false = (refl, λ quiet. false≢true quiet)
-
-    whole : Fits rest.status → HasRestStatus o rest
-    whole h = record { ends = h.0; silent = λ quiet. absurd (h.1 quiet) }
+-- the rows that weren't written yet are the rest
+pub ends-rows : (note : FileNote) (x : SeriesFlow) (told : Row × Rows) (rest : Answer) → Finishes x told
+    → (0 < x.waiting → x.waiting < length told.1.text.items) → rest.text ≡ told.1.text.items → rest.status ≡ series_status note told.0.verdict
+    → EndsSeries note x rest
+ends-rows note x told rest f some text ends frames m number tai gone items h =
+    rest-rows frames m tai note items gone x.waiting rest h.waits
+    (λ waits. subst (λ l. x.waiting < length l) (sym text) (some waits))
+    (subst (HasPut frames m tai (flow items m) gone) (sym text) (rows-put x told frames m number tai gone items f h)) (header-some frames)
+    (ends ∙ ap (series_status note) (verdict-is x told frames m number tai gone items f h))

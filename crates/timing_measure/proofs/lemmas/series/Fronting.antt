@@ -1,249 +1,328 @@
--- The rows of a flow, where it ends and where it goes on.
-use Rattle.std.proofs.Common.{◌≡◌, ◌≤◌, ◌<◌, ◌+◌, ◌-◌, ◌^◌, ℕ, zero, suc, Bool, true, false, List, [], ◌∷◌, ◌++◌, length, Option, Some, None}
-use Rattle.std.proofs.Common.{refl, arith, ap, ◌∙◌, sym, subst, append-nil, append_assoc, length-append, inl, inr}
-use Rattle.std.specs.Prelude.{⊤, All, ◌&&◌, if◌then◌else◌, nat_le}
+-- The rows of the first packets of a flow are a prefix of those of more packets, and of all.
+use Rattle.std.proofs.Common.{◌≡◌, ◌≤◌, ◌<◌, ◌+◌, ◌-◌, ℕ, zero, suc, Bool, true, false, List, [], ◌∷◌, ◌++◌, length, drop, take, Option, Some}
+use Rattle.std.proofs.Common.{None, refl, ap, ◌∙◌}
+use Rattle.std.proofs.Common.{sym, subst, arith, append-nil, append_assoc, take-add}
+use Rattle.std.proofs.Common.{inl, inr}
+use Rattle.std.specs.Prelude.{⊤, slice_index, slice_range}
 use Rattle.std.proofs.lemmas.Bool.{cases_lt}
-use Rattle.std.proofs.lemmas.List.{get_or_append_left, map-append}
-use Rattle.std.proofs.lemmas.List.Elements.{All-head, All-tail}
-use Rattle.sender_params.specs.Ticks.{NeverFall}
-use Rattle.timing_base.specs.Flows.{AreStamped, cuts, is_cut, last_place, packet}
-use Rattle.timing_base.specs.Judged.{judged, stamp_of}
-use Rattle.timing_base.specs.Media.{Media}
-use Rattle.timing_base.specs.Verdicts.{Judged}
+use Rattle.timing_base.specs.Flows.{FirstFault, IsFirstFault, cuts, earlier_or, fault, first_fault, first_fault_below, has_marker, is_cut, last_place, markers}
+use Rattle.timing_base.specs.Flows.{packet}
+use Rattle.timing_base.specs.Grouped.{IsSized}
+use Rattle.timing_base.specs.Judged.{RunOutcome, no_whole_frame, run_outcome, whole_frames}
+use Rattle.timing_base.specs.Media.{IsMedia, Media}
 use Rattle.timing_base.specs.declared.packet.FlowPacket.{FlowPacket}
-use Rattle.timing_base.specs.declared.row.Verdict.{Verdict}
-use Rattle.fail_interval.specs.Row.{verdict_of}
-use Rattle.timing_measure.specs.Measured.{JudgedPart, judged_parts, stamps_of}
-use Rattle.timing_measure.specs.metering.Plan.{IsWhole, planned_at, planned_between, planned_packets, planned_part}
-use Rattle.timing_measure.specs.series.Rows.{AreRowsOf, BeginNext, BeginRowsOf}
-use Rattle.timing_measure.specs.series.Meters.{IsAt, OpensAs, StandsFor}
-use Rattle.timing_measure.specs.declared.series.meter.FlowRows.{FlowRows}
-use Rattle.timing_measure.specs.declared.series.open.OpenRows.{OpenRows}
-use Rattle.timing_base.proofs.Places.{run_start-le}
-use Rattle.timing_measure.proofs.Planning.{planned-behind, planned-more}
-use Rattle.timing_measure.proofs.Plans.{parts-whole, planned-parts}
-use Rattle.timing_measure.proofs.lemmas.series.Rowing.{closes, planned-none}
+use Rattle.timing_base.proofs.FirstFaults.{first_fault-is, no_fault-at}
+use Rattle.timing_base.proofs.Places.{cuts-here, cuts-other, last_place-le, last_place-push, places-here, places-none, places-other}
+use Rattle.run_meter.specs.Runs.{JudgedPart, OpenPart, RunOf}
+use Rattle.fail_interval.specs.Parts.{judged_packets, judged_parts, open_at, open_before, open_by, part_between, part_by, parts_before, parts_over}
+use Rattle.fail_interval.specs.SoFar.{outcome_of, so_far_by}
+use Rattle.fail_interval.proofs.PartsTold.{judged_parts-sound, parts_between-over, parts_over-push, sized-below}
+use Rattle.fail_interval.proofs.Runs.{outcome-so_far}
+use Rattle.flow_measure.specs.rows.Rows.{AreRows, AreRowsOf}
+use Rattle.flow_measure.specs.rows.Told.{AreRowsSoFar}
+use Rattle.timing_measure.specs.series.Rows.{AreRowsOfFlow, AreRowsUpTo}
+use Rattle.timing_measure.proofs.lemmas.series.Existing.{some-rows}
 
--- where a flow ends, its rows are those of its judged runs
-rows-at : (frames : Bool) (m : Media) (tai : ℕ) (packets : List FlowPacket) (x : FlowRows) (rows : List ℕ) → length packets < 2 ^ 41 → tai ≤ 1000
-    → AreStamped packets
-    → IsAt frames m tai (verdict_of m (judged packets m.pt tai)) x packets (length packets) rows
-    → AreRowsOf frames m tai (judged_parts m packets tai) rows
-rows-at frames m tai [] x rows few seconds stamped at = (at.fresh refl).none
-rows-at frames m tai (p ∷ rest) x rows few seconds stamped at =
+-- rows behind others
+rows-behind : (frames : Bool) (m : Media) (tai number n : ℕ) (before packets more : List FlowPacket) (text rest : List ℕ)
+    → AreRows frames m tai number n before packets text → AreRows frames m tai number n (before ++ packets) more rest
+    → AreRows frames m tai number n before (packets ++ more) (text ++ rest)
+rows-behind frames m tai number n before [] more text rest none next =
+    subst (λ t. AreRows frames m tai number n before more (t ++ rest)) (sym none)
+    (subst (λ b. AreRows frames m tai number n b more rest) (append-nil before) next)
+rows-behind frames m tai number n before (p ∷ packets) more text rest h next = (
+  h.0,
+  h.1 ++ rest,
+  ap (λ t. t ++ rest) h.2 ∙ append_assoc h.0 h.1 rest,
+  h.3,
+  rows-behind frames m tai number n (before ++ p ∷ []) packets more h.1 rest h.4
+      (subst (λ b. AreRows frames m tai number n b more rest) (sym (append_assoc before (p ∷ []) packets)) next),
+)
+
+-- the rows of one run more
+parts-behind : (frames : Bool) (m : Media) (tai : ℕ) (over : List JudgedPart) (part : JudgedPart) (text rest : List ℕ)
+    → AreRowsOf frames m tai over text → AreRows frames m tai part.number part.values.n [] part.packets rest
+    → AreRowsOf frames m tai (over ++ part ∷ []) (text ++ rest)
+parts-behind frames m tai [] part text rest none next =
+    (rest, [], ap (λ t. t ++ rest) none ∙ sym (append-nil rest), next, refl)
+parts-behind frames m tai (one ∷ over) part text rest h next = (
+  h.0,
+  h.1 ++ rest,
+  ap (λ t. t ++ rest) h.2 ∙ append_assoc h.0 h.1 rest,
+  h.3,
+  parts-behind frames m tai over part h.1 rest h.4 next,
+)
+
+-- the open run is over, and its rows are those of one run more, if it has a complete frame or field
+so-far-over : (frames : Bool) (m : Media) (tai number : ℕ) (first : FlowPacket) (packets : List FlowPacket) (over : List JudgedPart) (o : RunOutcome)
+    (text : List ℕ)
+    → AreRowsSoFar frames m tai over (open_by number first packets o) text
+    → AreRowsOf frames m tai (over ++ part_by m number first packets o) text
+so-far-over frames m tai number first packets over (no_whole_frame head) text h =
+    subst (λ l. AreRowsOf frames m tai l text) (sym (append-nil over)) h
+so-far-over frames m tai number first packets over (whole_frames run) text h =
+    subst (λ t. AreRowsOf frames m tai (over ++ part_by m number first packets (whole_frames run)) t) (sym h.2)
+    (parts-behind frames m tai over _ h.0 h.1 h.3 h.4)
+
+-- the open run has more complete frames or fields, or its first ones
+abbrev Grows : (old new : Option OpenPart) → Type 0
+Grows None None = ⊤
+Grows None (Some new) = 1 ≤ new.run.n
+Grows (Some old) None = ⊥
+Grows (Some old) (Some new) = (new.run ≡ old.run) × (1 ≤ new.run.n) × (later : List FlowPacket) × (new.packets ≡ old.packets ++ later)
+
+-- there are rows of more complete frames or fields, behind those so far
+more-open : (frames : Bool) (m : Media) (tai : ℕ) (over : List JudgedPart) (old new : Option OpenPart) (text : List ℕ) → IsMedia m → Grows old new
+    → AreRowsSoFar frames m tai over old text
+    → (more : List ℕ) × AreRowsSoFar frames m tai over new (text ++ more)
+more-open frames m tai over None None text is grows h = ([], subst (AreRowsOf frames m tai over) (sym (append-nil text)) h)
+more-open frames m tai over None (Some new) text is grows h =
+    let rows = some-rows frames m tai new.run.number new.run.n [] new.packets is grows in
+    (rows.0, (text, rows.0, refl, h, rows.1))
+more-open frames m tai over (Some old) None text is grows h = absurd grows
+more-open frames m tai over (Some old) (Some new) text is grows h =
+    let r = new.run in
+    let later = grows.2 in
+    let rows = some-rows frames m tai r.number r.n old.packets later is grows.1 in
+    let all : AreRows frames m tai r.number r.n [] (old.packets ++ later) (h.1 ++ rows.0) =
+    rows-behind frames m tai r.number r.n [] old.packets later h.1 rows.0
+    (subst (λ (o : RunOf). AreRows frames m tai o.number o.n [] old.packets h.1) (sym grows.0) h.4) rows.1 in (
+      rows.0,
+      (
+        h.0,
+        h.1 ++ rows.0,
+        ap (λ t. t ++ rows.0) h.2 ∙ append_assoc h.0 h.1 rows.0,
+        h.3,
+        subst (λ l. AreRows frames m tai r.number r.n [] l (h.1 ++ rows.0)) (sym grows.3) all,
+      ),
+    )
+
+-- the packets from one place on and before another are a prefix of those before a later one
+range-longer : (packets : List FlowPacket) (from to more : ℕ) → from ≤ to
+    → slice_range packets from (to + more) ≡ slice_range packets from to ++ take more (drop (to - from) (drop from packets))
+range-longer packets from to more order =
+    let count : (to + more) - from ≡ (to - from) + more = omega (arith, order) in
+    ap (λ k. take k (drop from packets)) count ∙ take-add (to - from) more (drop from packets)
+
+-- the judged packets of a run with these markers
+abbrev judged_by : List FlowPacket → List ℕ → List FlowPacket
+judged_by packets marks = slice_range packets (slice_index marks 0 + 1) (last_place marks + 1)
+
+-- the open part of a run with these markers
+abbrev open_marked : (number : ℕ) → FlowPacket → List FlowPacket → (tai from to : ℕ) → List ℕ → Option OpenPart
+open_marked number first packets tai from to marks = open_by number first (judged_by packets marks) (outcome_of (so_far_by packets tai from to marks))
+
+open-marks : (number : ℕ) (first : FlowPacket) (packets : List FlowPacket) (tai from to : ℕ) → to ≤ length packets
+    → open_by number first (judged_packets packets from to) (run_outcome packets tai from to)
+    ≡ open_marked number first packets tai from to (markers packets from to)
+open-marks number first packets tai from to within =
+    ap (open_by number first (judged_packets packets from to)) (outcome-so_far packets tai from to within)
+
+-- packet `to` has no marker
+grows-plain : (number : ℕ) (first : FlowPacket) (packets : List FlowPacket) (tai from to : ℕ) (marks : List ℕ) → IsSized to marks
+    → Grows (open_marked number first packets tai from to marks) (open_marked number first packets tai from (to + 1) marks)
+grows-plain number first packets tai from to [] sized = tt
+grows-plain number first packets tai from to (a ∷ []) sized = tt
+grows-plain number first packets tai from to (a ∷ b ∷ rest) sized =
+    let some : a < b = sized.some (omega arith) in
+    (refl, omega (arith, some), [], sym (append-nil (judged_by packets (a ∷ b ∷ rest))))
+
+at-least : (a last more : ℕ) → last ≡ a + more → a ≤ last
+at-least a last more e = omega (arith, e)
+
+-- packet `to` has the marker
+grows-marked : (number : ℕ) (first : FlowPacket) (packets : List FlowPacket) (tai from to : ℕ) (marks : List ℕ) → IsSized to marks
+    → Grows (open_marked number first packets tai from to marks) (open_marked number first packets tai from (to + 1) (marks ++ to ∷ []))
+grows-marked number first packets tai from to [] sized = tt
+grows-marked number first packets tai from to (a ∷ []) sized =
+    let begun : a < to = sized.begun (omega arith) in omega (arith, begun)
+grows-marked number first packets tai from to (a ∷ b ∷ rest) sized =
+    let marks = a ∷ b ∷ rest in
+    let two : 2 ≤ length marks = omega arith in
+    let some : a < b = sized.some two in
+    let last : last_place (marks ++ to ∷ []) ≡ to = last_place-push marks to in
+    let later : last_place marks < to = sized.later two in
+    let order : a ≤ last_place marks = at-least a (last_place marks) _ (sized.whole two) in
+    let count : last_place (marks ++ to ∷ []) + 1 ≡ (last_place marks + 1) + (to - last_place marks) = omega (arith, last, later) in (
+      refl,
+      omega (arith, some),
+      take (to - last_place marks) (drop ((last_place marks + 1) - (a + 1)) (drop (a + 1) packets)),
+      ap (slice_range packets (a + 1)) count
+          ∙ range-longer packets (a + 1) (last_place marks + 1) (to - last_place marks) (omega (arith, order)),
+    )
+
+-- the open run has the packets before it and packet `to`
+grows-case : (packets : List FlowPacket) (tai : ℕ) (places : List ℕ) (to : ℕ) (b : Bool) → has_marker packets to ≡ b
+    → last_place (0 ∷ places) ≤ to → to < length packets → IsSized to (markers packets (last_place (0 ∷ places)) to)
+    → Grows (open_at packets tai places to) (open_at packets tai places (to + 1))
+grows-case packets tai places to b is order within sized =
+    let from = last_place (0 ∷ places) in
+    let number = length places + 1 in
+    let first = packet packets from in
+    let marks = markers packets from to in
+    subst (λ o. Grows o (open_at packets tai places (to + 1))) (sym (open-marks number first packets tai from to (omega (arith, within))))
+    (subst (Grows (open_marked number first packets tai from to marks)) (sym (open-marks number first packets tai from (to + 1) (omega (arith, within))))
+    (by-marker number first from b is order sized))
+  where
+    by-marker : (number : ℕ) (first : FlowPacket) (from : ℕ) (b : Bool) → has_marker packets to ≡ b → from ≤ to → IsSized to (markers packets from to)
+        → Grows (open_marked number first packets tai from to (markers packets from to))
+        (open_marked number first packets tai from (to + 1) (markers packets from (to + 1)))
+    by-marker number first from true is order sized =
+        subst (λ l. Grows (open_marked number first packets tai from to (markers packets from to)) (open_marked number first packets tai from (to + 1) l))
+        (sym (places-here (has_marker packets) from to order is)) (grows-marked number first packets tai from to (markers packets from to) sized)
+    by-marker number first from false is order sized =
+        subst (λ l. Grows (open_marked number first packets tai from to (markers packets from to)) (open_marked number first packets tai from (to + 1) l))
+        (sym (places-other (has_marker packets) from to is)) (grows-plain number first packets tai from to (markers packets from to) sized)
+
+-- a run that begins with packet i has no complete frame or field with that
+starts-marked : (number : ℕ) (first : FlowPacket) (packets : List FlowPacket) (tai i : ℕ) (b : Bool) → has_marker packets i ≡ b
+    → open_marked number first packets tai i (i + 1) (markers packets i (i + 1)) ≡ None
+starts-marked number first packets tai i true is =
+    let none : markers packets i i ≡ [] = places-none (has_marker packets) i i (omega arith) in
+    ap (open_marked number first packets tai i (i + 1)) (places-here (has_marker packets) i i (omega arith) is ∙ ap (λ l. l ++ i ∷ []) none)
+starts-marked number first packets tai i false is =
+    ap (open_marked number first packets tai i (i + 1))
+    (places-other (has_marker packets) i i is ∙ places-none (has_marker packets) i i (omega arith))
+
+starts-open : (packets : List FlowPacket) (tai : ℕ) (places : List ℕ) (i : ℕ) → last_place (0 ∷ places) ≡ i → i < length packets
+    → open_at packets tai places (i + 1) ≡ None
+starts-open packets tai places i is within =
+    let number = length places + 1 in
+    ap (λ from. open_by number (packet packets from) (judged_packets packets from (i + 1)) (run_outcome packets tai from (i + 1))) is
+    ∙ open-marks number (packet packets i) packets tai i (i + 1) (omega (arith, within))
+    ∙ starts-marked number (packet packets i) packets tai i (has_marker packets i) refl
+
+-- what is so of the rows before packet `to`
+abbrev pub RowsBefore : (frames : Bool) → Media → (tai : ℕ) → List FlowPacket → (to : ℕ) → List ℕ → Type 0
+RowsBefore frames m tai packets to text = AreRowsSoFar frames m tai (parts_before m packets tai to) (open_before packets tai to) text
+
+-- a place or a text may be named otherwise
+place-as : (frames : Bool) (m : Media) (tai : ℕ) (packets : List FlowPacket) (to same : ℕ) (text other : List ℕ) → to ≡ same → text ≡ other
+    → RowsBefore frames m tai packets to text → RowsBefore frames m tai packets same other
+place-as frames m tai packets to same text other e f h =
+    subst (λ k. RowsBefore frames m tai packets k other) e (subst (RowsBefore frames m tai packets to) f h)
+
+-- the gaps may be named otherwise
+gaps-as : (frames : Bool) (m : Media) (tai : ℕ) (packets : List FlowPacket) (places same : List ℕ) (to : ℕ) (text : List ℕ) → places ≡ same
+    → AreRowsSoFar frames m tai (parts_over m packets tai 1 0 same) (open_at packets tai same to) text
+    → AreRowsSoFar frames m tai (parts_over m packets tai 1 0 places) (open_at packets tai places to) text
+gaps-as frames m tai packets places same to text e h =
+    subst (λ l. AreRowsSoFar frames m tai (parts_over m packets tai 1 0 l) (open_at packets tai l to) text) (sym e) h
+
+-- there are rows up to packet `to`, behind those before it
+one-more : (frames : Bool) (m : Media) (tai : ℕ) (packets : List FlowPacket) (sound to : ℕ) (b : Bool) (text : List ℕ) → is_cut packets to ≡ b → IsMedia m
+    → first_fault_below packets m.pt sound ≡ None → to ≤ sound → to < length packets
+    → RowsBefore frames m tai packets to text
+    → (more : List ℕ) × RowsBefore frames m tai packets (to + 1) (text ++ more)
+one-more frames m tai packets sound to true text cut is none few within h =
+    let places = cuts packets to in
+    let here : cuts packets (to + 1) ≡ places ++ to ∷ [] = cuts-here packets to cut in
+    let from = last_place (0 ∷ places) in
+    let number = length places + 1 in
+    let over : parts_over m packets tai 1 0 (places ++ to ∷ []) ≡ parts_over m packets tai 1 0 places ++ part_between m packets tai number from to =
+    parts_over-push m packets tai 1 0 to places in
+    let last : open_at packets tai (places ++ to ∷ []) (to + 1) ≡ None =
+    starts-open packets tai (places ++ to ∷ []) to (last_place-push (0 ∷ places) to) within in
+    let ended : AreRowsOf frames m tai (parts_over m packets tai 1 0 places ++ part_between m packets tai number from to) text =
+    so-far-over frames m tai number (packet packets from) (judged_packets packets from to) (parts_over m packets tai 1 0 places)
+    (run_outcome packets tai from to) text h in
+    let all : AreRowsSoFar frames m tai (parts_over m packets tai 1 0 (places ++ to ∷ [])) (open_at packets tai (places ++ to ∷ []) (to + 1)) text =
+    subst (λ (o : Option OpenPart). AreRowsSoFar frames m tai (parts_over m packets tai 1 0 (places ++ to ∷ [])) o text) (sym last)
+    (subst (λ l. AreRowsOf frames m tai l text) (sym over) ended) in (
+      [],
+      subst (RowsBefore frames m tai packets (to + 1)) (sym (append-nil text))
+          (gaps-as frames m tai packets (cuts packets (to + 1)) (places ++ to ∷ []) (to + 1) text here all),
+    )
+one-more frames m tai packets sound to false text cut is none few within h =
+    let places = cuts packets to in
+    let here : cuts packets (to + 1) ≡ places = cuts-other packets to cut in
+    let order : last_place (0 ∷ places) ≤ to = last_place-le (is_cut packets) to in
+    let grows = grows-case packets tai places to (has_marker packets to) refl order within (sized-below packets m.pt sound to none few) in
+    let rows =
+    more-open frames m tai (parts_over m packets tai 1 0 places) (open_at packets tai places to) (open_at packets tai places (to + 1)) text is grows h in (
+      rows.0,
+      gaps-as frames m tai packets (cuts packets (to + 1)) places (to + 1) (text ++ rows.0) here rows.1,
+    )
+
+-- and of any number of packets more
+many-more : (frames : Bool) (m : Media) (tai : ℕ) (packets : List FlowPacket) (sound to count : ℕ) (text : List ℕ) → IsMedia m
+    → first_fault_below packets m.pt sound ≡ None → to + count ≤ sound → to + count ≤ length packets
+    → RowsBefore frames m tai packets to text
+    → (more : List ℕ) × RowsBefore frames m tai packets (to + count) (text ++ more)
+many-more frames m tai packets sound to zero text is none few within h =
+    let same : to ≡ to + 0 = omega arith in
+    ([], place-as frames m tai packets to (to + 0) text (text ++ []) same (sym (append-nil text)) h)
+many-more frames m tai packets sound to (suc count) text is none few within h =
+    let before = many-more frames m tai packets sound to count text is none (omega (arith, few)) (omega (arith, within)) h in
+    let one =
+    one-more frames m tai packets sound (to + count) (is_cut packets (to + count)) (text ++ before.0) refl is none (omega (arith, few))
+    (omega (arith, within)) before.1 in
+    let next : to + count + 1 ≡ to + suc count = omega arith in (
+      before.0 ++ one.0,
+      place-as frames m tai packets (to + count + 1) (to + suc count) ((text ++ before.0) ++ one.0) (text ++ (before.0 ++ one.0)) next
+          (append_assoc text before.0 one.0) one.1,
+    )
+
+-- no packet before a place has a fault
+none-below : (packets : List FlowPacket) (pt n : ℕ) → ((k : ℕ) → k < n → fault packets pt k ≡ None) → first_fault_below packets pt n ≡ None
+none-below packets pt zero h = refl
+none-below packets pt (suc n) h =
+    ap (λ first. earlier_or first n (fault packets pt n)) (none-below packets pt n (λ k low. h k (omega (arith, low))))
+    ∙ ap (earlier_or None n) (h n (omega arith))
+
+-- the first fault isn't below a place before which there is none
+fault-behind : (packets : List FlowPacket) (pt to : ℕ) (first : FirstFault) → IsFirstFault packets pt first → first_fault_below packets pt to ≡ None
+    → to ≤ first.index
+fault-behind packets pt to first h none = elim (cases_lt first.index to) as (λ _. to ≤ first.index) [
+  | inl low ↦ absurd (differ (no_fault-at packets pt to first.index none low))
+  | inr high ↦ high
+]
+  where
+    differ : fault packets pt first.index ≡ None → ⊥
+    differ e = let both : Some first.fault ≡ None = sym h.has ∙ e in cc
+
+-- the runs of a flow without a fault are over with its last packet
+all-over : (frames : Bool) (m : Media) (tai : ℕ) (packets : List FlowPacket) (text : List ℕ) → first_fault packets m.pt ≡ None
+    → RowsBefore frames m tai packets (length packets) text
+    → AreRowsOf frames m tai (judged_parts m packets tai) text
+all-over frames m tai [] text none h = h
+all-over frames m tai (p ∷ rest) text none h =
     let packets = p ∷ rest in
     let n = length packets in
-    let found = verdict_of m (judged packets m.pt tai) in
-    let k = length (cuts packets n) in
-    let from = last_place (0 ∷ cuts packets n) in
-    let goes = at.going (omega arith) in
-    let parts : goes.closed ++ planned_part packets k from n (planned_at found k) ≡ judged_parts m packets tai =
-    sym (goes.parts n) ∙ planned-parts m packets tai in
-    subst (λ t. AreRowsOf frames m tai (judged_parts m packets tai) t) (sym goes.rows_are)
-    (subst (λ l. AreRowsOf frames m tai l (goes.over ++ goes.here)) parts
-    (closes frames m tai packets k from n (planned_at found k) x.last goes.closed goes.over goes.here goes.opens goes.over_are
-    (subst (All (IsWhole tai)) (sym parts) (parts-whole m packets tai few seconds stamped))))
+    let places = cuts packets n in
+    let from = last_place (0 ∷ places) in
+    let parts = judged_parts-sound m packets tai (omega arith) none ∙ parts_between-over m packets tai n 1 0 places in
+    subst (λ l. AreRowsOf frames m tai l text) (sym parts)
+    (so-far-over frames m tai (length places + 1) (packet packets from) (judged_packets packets from n) (parts_over m packets tai 1 0 places)
+    (run_outcome packets tai from n) text h)
 
-pub rows-all : (frames : Bool) (m : Media) (number tai : ℕ) (found : Verdict) (packets : List FlowPacket) (x : FlowRows) (rows : List ℕ)
-    → length packets < 2 ^ 41 → tai ≤ 1000 → AreStamped packets → found ≡ verdict_of m (judged packets m.pt tai)
-    → StandsFor frames m number tai found x rows packets
-    → AreRowsOf frames m tai (judged_parts m packets tai) rows
-rows-all frames m number tai found packets x rows few seconds stamped is h =
-    rows-at frames m tai packets x rows few seconds stamped
-    (subst (λ v. IsAt frames m tai v x packets (length packets) rows) is
-    (subst (λ l. IsAt frames m tai found x l (length packets) rows) (append-nil packets) (h.at [])))
+up-to-fault : (frames : Bool) (m : Media) (tai : ℕ) (packets : List FlowPacket) (to : ℕ) (text : List ℕ) (o : Option FirstFault) → IsMedia m
+    → first_fault packets m.pt ≡ o → first_fault_below packets m.pt to ≡ None → to ≤ length packets
+    → RowsBefore frames m tai packets to text
+    → (more : List ℕ) × AreRowsUpTo frames m tai packets o (text ++ more)
+up-to-fault frames m tai packets to text None is first none within h =
+    let count = length packets - to in
+    let end : to + count ≡ length packets = omega (arith, within) in
+    let rows = many-more frames m tai packets (length packets) to count text is first (omega (arith, end)) (omega (arith, end)) h in
+    (rows.0, all-over frames m tai packets (text ++ rows.0) first (subst (λ k. RowsBefore frames m tai packets k (text ++ rows.0)) end rows.1))
+up-to-fault frames m tai packets to text (Some found) is first none within h =
+    let f = first_fault-is packets m.pt found first in
+    let count = found.index - to in
+    let end : to + count ≡ found.index = omega (arith, fault-behind packets m.pt to found f none) in
+    let rows =
+    many-more frames m tai packets found.index to count text is (none-below packets m.pt found.index f.least) (omega (arith, end))
+    (omega (arith, end, f.within)) h in
+    (rows.0, subst (λ k. RowsBefore frames m tai packets k (text ++ rows.0)) end rows.1)
 
--- a place of a run further on, no judged packet is taken away
-planned-step : (j : Judged) (packets : List FlowPacket) (from i : ℕ) → from ≤ i → i < length packets
-    → (later : List FlowPacket) × (planned_packets j packets from (i + 1) ≡ planned_packets j packets from i ++ later)
-planned-step j packets from i order within =
-    let here = planned_packets j packets from i in
-    elim (cases_lt (i - from) j.head) as (λ _. (later : List FlowPacket) × (planned_packets j packets from (i + 1) ≡ here ++ later)) [
-      | inl head ↦ (
-        [],
-        planned-none j packets from (i + 1) (omega (arith, head, order)) ∙ sym (planned-none j packets from i (omega (arith, head)))
-            ∙ sym (append-nil here),
-      )
-      | inr past ↦ elim (cases_lt (i - from - j.head) j.packets) as (λ _. (later : List FlowPacket) × (planned_packets j packets from (i + 1) ≡ here
-          ++ later)) [
-            | inl few ↦ (packet packets i ∷ [], planned-more j packets from i order within (omega (arith, past)) few)
-            | inr all ↦ ([], planned-behind j packets from i order within (omega (arith, past)) (omega (arith, all)) ∙ sym (append-nil here))
-          ]
-    ]
+-- the rows of the first packets of a flow, of which none has a fault, are a prefix of all its rows
+pub rows-ahead : (frames : Bool) (m : Media) (tai : ℕ) (packets : List FlowPacket) (to : ℕ) (text : List ℕ) → IsMedia m
+    → first_fault_below packets m.pt to ≡ None → to ≤ length packets
+    → RowsBefore frames m tai packets to text
+    → (more : List ℕ) × AreRowsOfFlow frames m tai packets (text ++ more)
+rows-ahead frames m tai packets to text is none within h =
+    up-to-fault frames m tai packets to text (first_fault packets m.pt) is refl none within h
 
-planned-front : (j : Judged) (packets : List FlowPacket) (from i d : ℕ) → from ≤ i → i + d ≤ length packets
-    → (later : List FlowPacket) × (planned_packets j packets from (i + d) ≡ planned_packets j packets from i ++ later)
-planned-front j packets from i zero order within =
-    ([], ap (planned_packets j packets from) (omega arith) ∙ sym (append-nil (planned_packets j packets from i)))
-planned-front j packets from i (suc d) order within =
-    let before = planned-front j packets from i d order (omega (arith, within)) in
-    let step = planned-step j packets from (i + d) (omega (arith, order)) (omega (arith, within)) in
-    let next : i + suc d ≡ i + d + 1 = omega arith in (
-      before.0 ++ step.0,
-      ap (planned_packets j packets from) next ∙ step.1 ∙ ap (λ l. l ++ step.0) before.1
-          ∙ append_assoc (planned_packets j packets from i) before.0 step.0,
-    )
-
--- the cuts below a place further on begin with those below it; the next one isn't before it
-abbrev IsFrom : (i to : ℕ) → List ℕ → Type 0
-IsFrom i to [] = ⊤
-IsFrom i to (cut ∷ more) = (i ≤ cut) × (cut < to)
-
-from-push : (i to : ℕ) (more last : List ℕ) → IsFrom i to more → IsFrom i (to + 1) last → IsFrom i (to + 1) (more ++ last)
-from-push i to [] last h here = here
-from-push i to (cut ∷ more) last h here = (h.0, omega (arith, h.1))
-
-from-if : (i n : ℕ) (b : Bool) → i ≤ n → IsFrom i (n + 1) (if b then n ∷ [] else [])
-from-if i n true order = (order, omega arith)
-from-if i n false order = tt
-
-cuts-front : (packets : List FlowPacket) (i d : ℕ) → (more : List ℕ) × (cuts packets (i + d) ≡ cuts packets i ++ more) × IsFrom i (i + d) more
-cuts-front packets i zero =
-    let none : i + 0 ≡ i = omega arith in
-    ([], ap (cuts packets) none ∙ sym (append-nil (cuts packets i)), tt)
-cuts-front packets i (suc d) =
-    let before = cuts-front packets i d in
-    let n = i + d in
-    let b = nat_le 0 n && is_cut packets n in
-    let last : List ℕ = if b then n ∷ [] else [] in
-    let next : i + suc d ≡ suc n = omega arith in
-    let more : n + 1 ≡ i + suc d = omega arith in (
-      before.0 ++ last,
-      ap (cuts packets) next ∙ ap (λ l. l ++ last) before.1 ∙ append_assoc (cuts packets i) before.0 last,
-      subst (λ to. IsFrom i to (before.0 ++ last)) more (from-push i n before.0 last before.2 (from-if i n b (omega arith))),
-    )
-
--- the runs up to a cut, and those behind it
-between-append : (found : Verdict) (packets : List FlowPacket) (to k from cut : ℕ) (places more : List ℕ)
-    → planned_between found packets to k from (places ++ cut ∷ more)
-    ≡ planned_between found packets cut k from places ++ planned_between found packets to (k + length places + 1) cut more
-between-append found packets to k from cut [] more =
-    let e : k + 1 ≡ k + 0 + 1 = omega arith in
-    ap (λ i. planned_part packets k from cut (planned_at found k) ++ planned_between found packets to i cut more) e
-between-append found packets to k from cut (p ∷ places) more =
-    let here = planned_part packets k from p (planned_at found k) in
-    let e : k + 1 + length places + 1 ≡ k + suc (length places) + 1 = omega arith in
-    ap (λ l. here ++ l) (between-append found packets to (k + 1) p cut places more)
-    ∙ sym (append_assoc here _ _)
-    ∙ ap (λ i. planned_between found packets cut k from (p ∷ places) ++ planned_between found packets to i cut more) e
-
--- the runs by the cuts so far, the last of which goes on to some place
-going-parts : (found : Verdict) (packets : List FlowPacket) (n i : ℕ) (places more : List ℕ) → i ≤ n → IsFrom i n more
-    → (to : ℕ) × (others : List JudgedPart) × (i ≤ to) × (to ≤ n)
-    × (planned_between found packets n 0 0 (places ++ more) ≡ planned_between found packets to 0 0 places ++ others)
-going-parts found packets n i places [] order h =
-    (n, [], order, omega arith, ap (planned_between found packets n 0 0) (append-nil places) ∙ sym (append-nil (planned_between found packets n 0 0 places)))
-going-parts found packets n i places (cut ∷ more) order h =
-    (cut, planned_between found packets n (0 + length places + 1) cut more, h.0, omega (arith, h.1), between-append found packets n 0 0 cut places more)
-
--- of the items of two lists those of the first, and those of the second
-all-left : (P : JudgedPart → Type 0) (xs ys : List JudgedPart) → All P (xs ++ ys) → All P xs
-all-left P xs ys h = λ k d low.
-    let long : length (xs ++ ys) ≡ length xs + length ys = length-append xs ys in
-    subst P (get_or_append_left xs ys d k low) (h k d (omega (arith, low, long)))
-
-all-right : (P : JudgedPart → Type 0) (xs ys : List JudgedPart) → All P (xs ++ ys) → All P ys
-all-right P [] ys h = h
-all-right P (x ∷ xs) ys h = all-right P xs ys (All-tail P x (xs ++ ys) h)
-
--- no row of the next run is printed yet
-begin-none : (frames : Bool) (m : Media) (tai : ℕ) (parts : List JudgedPart) → BeginNext frames m tai parts []
-begin-none frames m tai [] = refl
-begin-none frames m tai (part ∷ parts) = record { past = []; later = part.packets; whole = refl; rows = refl }
-
--- stamps that never fall don't before the last ones
-never-front : (xs ys : List ℕ) → NeverFall (xs ++ ys) → NeverFall xs
-never-front xs ys h = λ j i order low.
-    let long : length (xs ++ ys) ≡ length xs + length ys = length-append xs ys in
-    let left = get_or_append_left xs ys 0 j (omega (arith, order, low)) in
-    omega (arith, h j i order (omega (arith, low, long)), left, get_or_append_left xs ys 0 i low)
-
-stamps-front : (tai : ℕ) (a b : List FlowPacket) → NeverFall (stamps_of tai (a ++ b)) → NeverFall (stamps_of tai a)
-stamps-front tai a b h = never-front (stamps_of tai a) (stamps_of tai b) (subst NeverFall (map-append (stamp_of tai) a b) h)
-
--- the rows of the open run are a front of those of the run
-begin-open : (frames : Bool) (m : Media) (tai : ℕ) (packets : List FlowPacket) (k from i to : ℕ) (plan : Option Judged) (last : Option OpenRows)
-    (others : List JudgedPart) (here : List ℕ) → from ≤ i → i ≤ to → to ≤ length packets
-    → All (IsWhole tai) (planned_part packets k from to plan ++ others)
-    → OpensAs frames m tai packets k from i plan last here
-    → BeginNext frames m tai (planned_part packets k from to plan ++ others) here
-begin-open frames m tai packets k from i to None None others here order after within whole none =
-    subst (BeginNext frames m tai others) (sym none) (begin-none frames m tai others)
-begin-open frames m tai packets k from i to None (Some o) others here order after within whole h = absurd h
-begin-open frames m tai packets k from i to (Some j) None others here order after within whole h = absurd h
-begin-open frames m tai packets k from i to (Some j) (Some o) others here order after within whole h =
-    let d = to - i in
-    let place : i + d ≡ to = omega (arith, after) in
-    let front = planned-front j packets from i d order (omega (arith, place, within)) in
-    let is : planned_packets j packets from to ≡ planned_packets j packets from i ++ front.0 =
-    ap (planned_packets j packets from) (sym place) ∙ front.1 in
-    let first = All-head (IsWhole tai) _ others whole in
-    record {
-      past = planned_packets j packets from i;
-      later = front.0;
-      whole = is;
-      rows = h.1 (stamps-front tai (planned_packets j packets from i) front.0 (subst (λ l. NeverFall (stamps_of tai l)) is first.rising));
-    }
-
--- where a flow goes on, its rows so far are a front of those of its judged runs
-begin-at : (frames : Bool) (m : Media) (tai : ℕ) (found : Verdict) (packets : List FlowPacket) (i : ℕ) (x : FlowRows) (rows : List ℕ)
-    → i ≤ length packets → last_place (0 ∷ cuts packets i) ≤ i → All (IsWhole tai) (judged_parts m packets tai)
-    → planned_between found packets (length packets) 0 0 (cuts packets (length packets)) ≡ judged_parts m packets tai
-    → IsAt frames m tai found x packets i rows
-    → BeginRowsOf frames m tai (judged_parts m packets tai) rows
-begin-at frames m tai found packets zero x rows within order whole parts at = record {
-  past = [];
-  later = judged_parts m packets tai;
-  whole = refl;
-  over = [];
-  here = [];
-  text_is = (at.fresh refl).none;
-  rows = refl;
-  begun = begin-none frames m tai (judged_parts m packets tai);
-}
-begin-at frames m tai found packets (suc j) x rows within order whole parts at =
-    let i = suc j in
-    let n = length packets in
-    let d = n - i in
-    let all : i + d ≡ n = omega (arith, within) in
-    let goes = at.going (omega arith) in
-    let k = length (cuts packets i) in
-    let from = last_place (0 ∷ cuts packets i) in
-    let plan = planned_at found k in
-    let more = cuts-front packets i d in
-    let split = going-parts found packets n i (cuts packets i) more.0 within (subst (λ to. IsFrom i to more.0) all more.2) in
-    let to = split.0 in
-    let others = split.1 in
-    let is : judged_parts m packets tai ≡ goes.closed ++ (planned_part packets k from to plan ++ others) =
-    sym parts ∙ ap (planned_between found packets n 0 0) (ap (cuts packets) (sym all) ∙ more.1) ∙ split.4
-    ∙ ap (λ l. l ++ others) (goes.parts to) ∙ append_assoc goes.closed (planned_part packets k from to plan) others in
-    let each = subst (All (IsWhole tai)) is whole in
-    record {
-      past = goes.closed;
-      later = planned_part packets k from to plan ++ others;
-      whole = is;
-      over = goes.over;
-      here = goes.here;
-      text_is = goes.rows_are;
-      rows = goes.over_are (all-left (IsWhole tai) goes.closed _ each);
-      begun = begin-open frames m tai packets k from i to plan x.last others goes.here order split.2 split.3
-          (all-right (IsWhole tai) goes.closed _ each) goes.opens;
-    }
-
-run-from : (packets : List FlowPacket) (i : ℕ) → last_place (0 ∷ cuts packets i) ≤ i
-run-from packets zero = omega arith
-run-from packets (suc i) =
-    let next : i + 1 ≡ suc i = omega arith in
-    let low : last_place (0 ∷ cuts packets (suc i)) ≤ i = subst (λ k. last_place (0 ∷ cuts packets k) ≤ i) next (run_start-le packets i) in
-    omega (arith, low)
-
-pub rows-begun : (frames : Bool) (m : Media) (number tai : ℕ) (found : Verdict) (packets rest : List FlowPacket) (x : FlowRows) (rows : List ℕ)
-    → length (packets ++ rest) < 2 ^ 41 → tai ≤ 1000 → AreStamped (packets ++ rest) → found ≡ verdict_of m (judged (packets ++ rest) m.pt tai)
-    → StandsFor frames m number tai found x rows packets
-    → BeginRowsOf frames m tai (judged_parts m (packets ++ rest) tai) rows
-rows-begun frames m number tai found packets rest x rows few seconds stamped is h =
-    let all = packets ++ rest in
-    let long : length all ≡ length packets + length rest = length-append packets rest in
-    begin-at frames m tai found all (length packets) x rows (omega (arith, long)) (run-from all (length packets))
-    (parts-whole m all tai few seconds stamped)
-    (ap (λ v. planned_between v all (length all) 0 0 (cuts all (length all))) is ∙ planned-parts m all tai) (h.at rest)
+-- a flow has rows
+pub rows-of-flow : (frames : Bool) (m : Media) (tai : ℕ) (packets : List FlowPacket) → IsMedia m
+    → (rows : List ℕ) × AreRowsOfFlow frames m tai packets rows
+rows-of-flow frames m tai packets is = rows-ahead frames m tai packets 0 [] is refl (omega arith) refl

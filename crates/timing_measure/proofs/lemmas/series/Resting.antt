@@ -144,7 +144,7 @@ ends-rest old mid new before between now (Err e) ends kept sdp p =
     })
 
 -- what a front is, seen of the run from its start
-pub begins-seen : (i : Inputs) (mid : List ℕ → Option (List ℕ)) (job : SeriesJob) (m : Media) (front : List ℕ)
+begins-seen : (i : Inputs) (mid : List ℕ → Option (List ℕ)) (job : SeriesJob) (m : Media) (front : List ℕ)
     → ((n : List ℕ) → mid n ≡ i.texts n)
     → ((text : List ℕ) → i.texts job.flow.sdp ≡ Some text → IsFound (session text) job.flow.media (Ok m))
     → ((text : List ℕ) → classic_texts mid job.flow.capture ≡ Some text → (front ≡ []) ⊎ BeginsIn job.frames job.flow.tai m text front)
@@ -191,19 +191,15 @@ begun-unread : (i : Inputs) (o : Output) (job : SeriesJob) → o.new ≡ o.old �
 begun-unread i o job same = ([], subst (λ n. Appends o.old n []) (sym same) (appends-same o.old), λ sdp text media m told read is captured. inl refl)
 
 -- why the capture's part of a run has no answer
-unread-follows : (i : Inputs) (between : List ℕ → ℕ) (name : List ℕ) (Q : List ℕ → Answer → Type 0) (o : Output) (e : Failure) → i.before name ≤ between name
-    → OnFailure o e (λ x. (x ≡ input.Capture 0) × Rose (between name) (i.now name))
+unread-follows : (i : Inputs) (name : List ℕ) (Q : List ℕ → Answer → Type 0) (o : Output) (e : Failure)
+    → OnFailure o e (λ x. (x ≡ input.Capture 0) × Rose (i.before name) (i.now name))
     → (e ≡ failure.WriteFault) ⊎ Yields (Err e) (ReadsCapture i (Err e) name (λ text. Gives (Err e) (Q text)))
-unread-follows i between name Q o (failure.ReadFault x) earlier cause =
-    inr (inr (inl (
-      ap (λ y. Err (failure.ReadFault y)) cause.0,
-      rose-within (i.before name) (between name) (i.now name) (i.now name) earlier (omega arith) cause.1,
-    )))
-unread-follows i between name Q o failure.WriteFault earlier cause = inl refl
-unread-follows i between name Q o failure.OutOfMemory earlier cause = inr (inl refl)
+unread-follows i name Q o (failure.ReadFault x) cause = inr (inr (inl (ap (λ y. Err (failure.ReadFault y)) cause.0, cause.1)))
+unread-follows i name Q o failure.WriteFault cause = inl refl
+unread-follows i name Q o failure.OutOfMemory cause = inr (inl refl)
 
 -- no input was read, so nothing was written
-pub rests-unread : (i : Inputs) (o : Output) (job : SeriesJob) (e : Failure) → o.new ≡ o.old
+rests-unread : (i : Inputs) (o : Output) (job : SeriesJob) (e : Failure) → o.new ≡ o.old
     → OnReadFault e (λ x. (x ≡ input.Sdp) × HasRisen i job.flow.sdp)
     → Rests o (FollowsSeries job i) (BeginsSeries job i) (Err e)
 rests-unread i o job (failure.ReadFault x) same cause =
@@ -217,36 +213,27 @@ pub any-rests : (i : Inputs) (o : Output) (job : SeriesJob) (rest : Result Answe
 any-rests i o job (Ok answer) same failed cause = absurd (false≢true (sym failed))
 any-rests i o job (Err e) same failed cause = rests-unread i o job e same cause
 
--- no run is judged: what a first reading found is the answer
-pub rests-judged : (i : Inputs) (o : Output) (name : List ℕ) (Q : List ℕ → Answer → Type 0) (answer : Answer) → o.new ≡ o.old → ¬ i.lacks name
-    → ((text : List ℕ) → classic_texts i.texts name ≡ Some text → Q text answer)
-    → HasRest o (λ whole. Yields (Ok whole) (ReadsCapture i (Ok whole) name (λ text. Gives (Ok whole) (Q text)))) answer
-rests-judged i o name Q answer same there told =
-    ([], subst (λ n. Appends o.old n []) (sym same) (appends-same o.old), reads-capture i (Ok answer) name Q told there tt)
+-- the rows behind those that were written, where the capture was read to its end
+pub rests-whole : (i : Inputs) (o : Output) (name : List ℕ) (Q : List ℕ → Answer → Type 0) (Begins : List ℕ → List ℕ → Type 0) (rest : Answer)
+    → ¬ i.lacks name → ((text : List ℕ) → classic_texts i.texts name ≡ Some text → HasRest o (Q text) rest)
+    → (written : List ℕ) × Appended o written
+    → Rests o (λ outcome. Yields outcome (ReadsCapture i outcome name (λ text. Gives outcome (Q text))))
+    (λ front. (text : List ℕ) → classic_texts i.texts name ≡ Some text → Begins text front) (Ok rest)
+rests-whole i o name Q Begins rest there told some =
+    let w = wrote-known (classic_texts i.texts name) o (λ text written. Q text (record { text = written ++ rest.text; status = rest.status })) told some in
+    (w.0, w.1, reads-capture i (Ok (record { text = w.0 ++ rest.text; status = rest.status })) name Q w.2 there tt)
 
--- the rows of the second reading, or why they aren't all there
-pub rests-written : (i : Inputs) (mid : List ℕ → Option (List ℕ)) (between : List ℕ → ℕ) (o : Output) (name : List ℕ)
-    (Q : List ℕ → Answer → Type 0) (Begins : List ℕ → List ℕ → Type 0) (rest : Result Answer Failure)
-    → ((n : List ℕ) → mid n ≡ i.texts n) → ((n : List ℕ) → i.before n ≤ between n) → ¬ i.lacks name
-    → IfOk rest (λ r. (text : List ℕ) → classic_texts mid name ≡ Some text → HasRest o (Q text) r)
-    → IfOk rest (λ r. (written : List ℕ) × Appended o written)
-    → IfErr rest (λ _. (text : List ℕ) → classic_texts mid name ≡ Some text → HasBegun o (Begins text))
-    → IfErr rest (λ _. (front : List ℕ) × Appended o front)
-    → IfErr rest (λ e. OnFailure o e (λ x. (x ≡ input.Capture 0) × Rose (between name) (i.now name)))
+-- the rows so far, and why they aren't all there
+pub rests-part : (i : Inputs) (o : Output) (name : List ℕ) (Q : List ℕ → Answer → Type 0) (Begins : List ℕ → List ℕ → Type 0)
+    (rest : Result Answer Failure)
+    → is_ok rest ≡ false → IfErr rest (λ e. OnFailure o e (λ x. (x ≡ input.Capture 0) × Rose (i.before name) (i.now name)))
+    → ((text : List ℕ) → classic_texts i.texts name ≡ Some text → HasBegun o (Begins text))
+    → (front : List ℕ) × Appended o front
     → Rests o (λ outcome. Yields outcome (ReadsCapture i outcome name (λ text. Gives outcome (Q text))))
     (λ front. (text : List ℕ) → classic_texts i.texts name ≡ Some text → Begins text front) rest
-rests-written i mid between o name Q Begins (Ok rest) texts earlier there told some stopped front cause =
-    let w =
-    wrote-known (classic_texts i.texts name) o (λ text written. Q text (record { text = written ++ rest.text; status = rest.status }))
-    (λ text t. told text (ap (option_map classic) (texts name) ∙ t)) some in (
-      w.0,
-      w.1,
-      reads-capture i (Ok (record { text = w.0 ++ rest.text; status = rest.status })) name Q w.2 there tt,
-    )
-rests-written i mid between o name Q Begins (Err e) texts earlier there told some stopped front cause = (
-  unread-follows i between name Q o e (earlier name) cause,
-  wrote-known (classic_texts i.texts name) o Begins (λ text t. stopped text (ap (option_map classic) (texts name) ∙ t)) front,
-)
+rests-part i o name Q Begins (Ok rest) failed cause begun front = absurd (false≢true (sym failed))
+rests-part i o name Q Begins (Err e) failed cause begun front =
+    (unread-follows i name Q o e cause, wrote-known (classic_texts i.texts name) o Begins begun front)
 
 -- the capture's count rose in a part of the run
 pub stream-cause : (i : Inputs) (between : ℕ) (o : Output) (job : SeriesJob) (rest : Result Answer Failure) → i.before job.flow.capture ≤ between

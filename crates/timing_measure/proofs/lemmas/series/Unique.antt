@@ -1,15 +1,15 @@
 -- The texts of `series` have one answer.
-use Rattle.std.proofs.Common.{◌≡◌, ◌≤◌, ◌-◌, ◌+◌, ◌*◌, ◌/◌, ◌%◌, ◌^◌, ◌++◌, ◌∷◌, ℕ, ℤ, zero, suc, pos, Bool, true, false, List, [], length, refl, ap, ap₂}
+use Rattle.std.proofs.Common.{◌≡◌, ◌≤◌, ◌-◌, ◌+◌, ◌*◌, ◌/◌, ◌%◌, ◌^◌, ◌++◌, ◌∷◌, ℕ, ℤ, zero, suc, pos, Bool, true, false, List, [], length, Option, Some}
+use Rattle.std.proofs.Common.{None, refl, ap, ap₂}
 use Rattle.std.proofs.Common.{◌∙◌, sym, subst, arith, length-append}
 use Rattle.std.proofs.Math.Nat.{suc-mul}
 use Rattle.std.proofs.lemmas.Bool.{eqb-true}
 use Rattle.std.proofs.lemmas.Int.{ints}
 use Rattle.std.proofs.lemmas.List.{length-map}
 use Rattle.std.proofs.lemmas.Nat.{div-add-mod'}
-use Rattle.timing_base.specs.Captures.{Record}
+use Rattle.timing_base.specs.Flows.{FirstFault, first_fault}
 use Rattle.timing_base.specs.Judged.{judged, stamp_of}
 use Rattle.timing_base.specs.Media.{Media}
-use Rattle.timing_base.specs.declared.capture.FileNote.{FileNote}
 use Rattle.timing_base.specs.declared.packet.FlowPacket.{FlowPacket}
 use Rattle.fail_interval.specs.Row.{verdict_of}
 use Rattle.flow_measure.specs.Occupancy.{buckets_of}
@@ -19,16 +19,16 @@ use Rattle.flow_measure.proofs.Unique.{greatest-once, least-once}
 use Rattle.flow_measure.specs.report.Rows.{group_row_text, packet_row_text}
 use Rattle.flow_measure.specs.declared.report.rows.GroupRow.{GroupRow}
 use Rattle.flow_measure.specs.declared.report.rows.PacketRow.{PacketRow}
-use Rattle.flow_measure.specs.rows.Packets.{stamps_of}
-use Rattle.flow_measure.specs.rows.Rows.{Adds, AddsGroup, AreRows, IsHeld, IsOfGroup, IsPacketRow, IsRowOf, ends_group, header_text}
+use Rattle.run_meter.specs.Runs.{JudgedPart, OpenPart, stamps_of}
+use Rattle.flow_measure.specs.rows.Told.{AreRowsSoFar}
+use Rattle.flow_measure.specs.rows.Rows.{Adds, AddsGroup, AreRows, AreRowsOf, IsHeld, IsOfGroup, IsPacketRow, IsRowOf, ends_group}
 use Rattle.pcap_reader.specs.Header.{header}
 use Rattle.pcap_reader.proofs.Lists.{only_by}
-use Rattle.timing_measure.specs.Measured.{JudgedPart, judged_parts}
-use Rattle.timing_measure.specs.metering.Plan.{has_judged_run}
+use Rattle.fail_interval.specs.Parts.{judged_parts, open_before, parts_before}
 use Rattle.timing_reach.specs.steps.Answers.{Answer}
 use Rattle.udp_rtp.specs.Flow.{flow}
-use Rattle.timing_measure.specs.series.Rows.{AreRowsOf}
-use Rattle.timing_measure.specs.series.Series.{AnswersFlow, HasSeries}
+use Rattle.timing_measure.specs.series.Rows.{AreRowsOfFlow, AreRowsUpTo}
+use Rattle.timing_measure.specs.series.Series.{HasSeries, series_of}
 
 -- a packet has one row
 packet-once : (m : Media) (tai number n : ℕ) (before : List FlowPacket) (p : FlowPacket) (r s : PacketRow) → IsPacketRow m tai number n before p r
@@ -155,23 +155,29 @@ parts-once frames m tai (part ∷ parts) a b h k =
     h.2 ∙ ap₂ (λ x y. x ++ y) (rows-once frames m tai part.number part.values.n [] part.packets h.0 k.0 h.3 k.3)
     (parts-once frames m tai parts h.1 k.1 h.4 k.4) ∙ sym k.2
 
--- and the answer on a flow
-answers-once : (frames : Bool) (m : Media) (tai : ℕ) (note : FileNote) (items : List Record) (has : Bool) (a b : Answer)
-    → AnswersFlow frames m tai note items has a → AnswersFlow frames m tai note items has b → a ≡ b
-answers-once frames m tai note items false a b h k = h ∙ sym k
-answers-once frames m tai note items true a b h k =
-    let rows = parts-once frames m tai (judged_parts m (flow items m) tai) (h.0).rows (k.0).rows (h.0).are (k.0).are in
-    let text : a.text ≡ b.text = (h.0).text_is ∙ ap (λ l. header_text frames ++ l) rows ∙ sym (k.0).text_is in
-    let ends : a.status ≡ b.status = h.1 ∙ sym k.1 in
-    λ i. record { text = text i; status = ends i }
+-- and the rows of a flow, with those of the run that is open at its first fault
+so-far-once : (frames : Bool) (m : Media) (tai : ℕ) (over : List JudgedPart) (part : Option OpenPart) (a b : List ℕ)
+    → AreRowsSoFar frames m tai over part a → AreRowsSoFar frames m tai over part b → a ≡ b
+so-far-once frames m tai over None a b h k = parts-once frames m tai over a b h k
+so-far-once frames m tai over (Some part) a b h k =
+    h.2 ∙ ap₂ (λ x y. x ++ y) (parts-once frames m tai over h.0 k.0 h.3 k.3)
+    (rows-once frames m tai part.run.number part.run.n [] part.packets h.1 k.1 h.4 k.4) ∙ sym k.2
+
+up-to-once : (frames : Bool) (m : Media) (tai : ℕ) (packets : List FlowPacket) (o : Option FirstFault) (a b : List ℕ)
+    → AreRowsUpTo frames m tai packets o a → AreRowsUpTo frames m tai packets o b → a ≡ b
+up-to-once frames m tai packets None a b h k = so-far-once frames m tai (judged_parts m packets tai) None a b h k
+up-to-once frames m tai packets (Some first) a b h k =
+    so-far-once frames m tai (parts_before m packets tai first.index) (open_before packets tai first.index) a b h k
 
 -- texts have no two answers
 pub once-series : (frames : Bool) (tai : ℕ) (m : Media) (text : List ℕ) (a b : Answer) → HasSeries frames tai m text a → HasSeries frames tai m text b
     → a ≡ b
 once-series frames tai m text a b h k =
     let (items, note) = only_by (header text) (2 ^ 40) text h.items k.items h.note k.note h.records k.records in
-    let has : List Record → Bool = λ l. has_judged_run (verdict_of m (judged (flow l m) m.pt tai)) in
-    answers-once frames m tai k.note k.items (has k.items) a b
-    (subst (λ n. AnswersFlow frames m tai n k.items (has k.items) a) note
-    (subst (λ l. AnswersFlow frames m tai h.note l (has l) a) items h.answers))
-    k.answers
+    let packets = flow k.items m in
+    let rows : h.rows ≡ k.rows =
+    up-to-once frames m tai packets (first_fault packets m.pt) h.rows k.rows
+    (subst (λ l. AreRowsOfFlow frames m tai (flow l m) h.rows) items h.are) k.are in
+    h.answer_is
+    ∙ (λ i. series_of frames m (note i) (verdict_of m (judged (flow (items i) m) m.pt tai)) (rows i))
+    ∙ sym k.answer_is

@@ -1,15 +1,27 @@
-use Rattle.std.proofs.Common.{◌∙◌, ap, sym}
-use Rattle.std.specs.Option.{option_map}
-use Rattle.pcapng_reader.specs.Classic.{classic}
-use Rattle.timing_reach.proofs.Takings.{if-ok}
+use Rattle.std.proofs.Common.{true}
+use Rattle.flow_measure.specs.RunStands.{StandsFor}
+use Rattle.timing_measure.specs.Measured.{IsMeasuredFlow}
+use Rattle.timing_measure.specs.flows.Ends.{EndsMeasured, TellsNumbers}
+use Rattle.timing_measure.proofs.Taken.{flows-end}
 use Rattle.timing_measure.proofs.measure.read_flows.Goals as goal
 
-pub read_rest-requires-clause-known : goal.read_rest-requires-clause-known
-read_rest-requires-clause-known g c = λ lifetimes lives text whole.
-    (c.in_ok-first.ensures.told text (ap (option_map classic) (sym (c.read_first.ensures.stays.texts c.args.job.now.capture)) ∙ whole)).reading
-
 pub returns-clause-told : goal.returns-clause-told
-returns-clause-told g c =
-    if-ok c.read_rest.result
-    (λ _ told text whole. told text (ap (option_map classic) (c.read_first.ensures.stays.texts c.args.job.now.capture) ∙ whole))
-    c.read_rest.ensures.told
+returns-clause-told g c = λ text whole.
+    let taken = c.in_ok-taken.ensures.told text whole in
+    record {
+      items = taken.items;
+      records = taken.records;
+      are = flows-end true StandsFor TellsNumbers tt EndsMeasured IsMeasuredFlow c.args.job.now.tai c.args.media.now taken.items
+          c.in_ok-taken.taken.flows.items c.in_ok-flows.flows.items (λ f e ends m number packets h. ends m number c.args.job.now.tai packets h)
+          taken.are c.in_ok-flows.ensures;
+    }
+
+pub returns-clause-some : goal.returns-clause-some
+returns-clause-some g c =
+    let taken = c.in_ok-taken.ensures.some in
+    record {
+      items = taken.items;
+      are = flows-end true StandsFor TellsNumbers tt EndsMeasured IsMeasuredFlow c.args.job.now.tai c.args.media.now taken.items
+          c.in_ok-taken.taken.flows.items c.in_ok-flows.flows.items (λ f e ends m number packets h. ends m number c.args.job.now.tai packets h)
+          taken.are c.in_ok-flows.ensures;
+    }

@@ -1,17 +1,11 @@
-use Rattle.std.proofs.Common.{FitsSigned, ◌∙◌, rules}
-use Rattle.std.proofs.lemmas.Int.{to_z-of_z}
-use Rattle.std.specs.Int.{w128}
-use Rattle.flow_measure.specs.Groups.{firsts_of, lasts_of, since_at}
+use Rattle.flow_measure.specs.Groups.{latency_at, offset_at, since_at}
 use Rattle.flow_measure.proofs.group_meter.GroupMeter.new.Goals as goal
 
 pub returns-clause-stands : goal.returns-clause-stands
-returns-clause-stands c = λ stamp timestamp.
-    let m = c.args.params.now.media in
-    let n = c.args.params.now.n in
-    let fits : FitsSigned w128 c.args.n0 = search rules in
-    record {
-      n_is = c.new.ensures.n;
-      anchor_is = c.new.ensures.n0 ∙ to_z-of_z w128 c.args.n0 fits;
-      firsts = c.new-2.ensures.stands m c.args.n0 (firsts_of n stamp) (firsts_of n timestamp);
-      last = c.new-3.ensures.stands (since_at m c.args.n0 (lasts_of n stamp));
-    }
+returns-clause-stands c = λ m anchor first last timestamp. record {
+  first_is = c.new.ensures.stands (since_at m anchor first);
+  last_is = c.new-2.ensures.stands (since_at m anchor last);
+  offset = c.new-3.ensures.stands (offset_at m anchor timestamp);
+  latency = c.new-4.ensures.stands (latency_at first timestamp);
+  step = c.new-5.ensures.stands timestamp;
+}

@@ -1,107 +1,119 @@
-use Rattle.std.proofs.Common.{◌≡◌, ◌≤◌, ℕ, true, false, MatchOption, length, slice_index, Option, None, ap, ◌∙◌, sym, subst, refl, arith}
+use Rattle.std.proofs.Common.{◌≡◌, ◌<◌, ◌≤◌, ◌*◌, true, false, MatchOption, length, slice_index, None, FitsSigned, ap, ◌∙◌, sym, subst, refl, rules, arith}
+use Rattle.std.proofs.lemmas.Int.{to_z-of_z}
+use Rattle.std.specs.Int.{w128}
 use Rattle.std.specs.List.{slice_index_or}
 use Rattle.timing_base.specs.declared.media.Kind.TheVariants.{N, NL, W}
-use Rattle.sender_params.specs.Limits.{c_max_of, vrx_full_of}
-use Rattle.sender_params.specs.Reads.{anchor_of}
-use Rattle.flow_measure.specs.Fed.{MeasuresGroups}
+use Rattle.vrx_buffer.specs.Occupancy.{is_late}
+use Rattle.flow_measure.specs.Counts.{count_of}
 use Rattle.flow_measure.specs.Gaps.{AreGapsOf}
-use Rattle.flow_measure.specs.Kinds.{AreKindNumbers, place_below}
-use Rattle.flow_measure.specs.Metered.{IsNamed}
-use Rattle.flow_measure.specs.Occupancy.{buckets_of}
-use Rattle.flow_measure.specs.Run.{IsMeasured, packets_of}
+use Rattle.flow_measure.specs.Groups.{AreGroupNumbers, firsts_of, lasts_of}
+use Rattle.flow_measure.specs.Fed.{MeasuresGroups}
+use Rattle.flow_measure.specs.Kinds.{Packets}
+use Rattle.flow_measure.specs.Occupancy.{IsSlack, buckets_of}
+use Rattle.flow_measure.specs.Run.{anchor_in, packets_of}
 use Rattle.flow_measure.specs.Summary.{IsSummary}
-use Rattle.flow_measure.specs.declared.named.Named.{Named}
-use Rattle.flow_measure.proofs.Settled.{none-measured, settled}
+use Rattle.flow_measure.proofs.Finished.{kind-is, none-measured, whole}
 use Rattle.flow_measure.proofs.meters.RunMeters.finish.Goals as goal
 
 pub returns-in_err-bucket : goal.returns-in_err-bucket
-returns-in_err-bucket c = λ groups named origin stamps records timestamps h whole.
+returns-in_err-bucket c = λ groups named stamps records timestamps h size first.
     let p = c.args.params.now in
-    let settles = c.settle.ensures in
-    let k = settled p named origin c.args.self.now stamps records timestamps c.settle.new.self h settles.seen settles.none settles.stands in
-    let none : length stamps ≡ 0 =
-    omega (arith, c.in_err-bucket.ensures (buckets_of p.media p.n stamps) k.narrow.fed.filled, c.settle.new.self.narrow.filled_is, k.all) in
-    none-measured p groups named stamps records timestamps _ c.from_residual.ensures whole none
+    let s = c.args.self.now in
+    let w = whole p.media p.n groups s stamps records timestamps p.media_is p.n_some h size in
+    let none = sym w.all ∙ c.in_err-bucket.ensures (buckets_of p.media p.n stamps) w.narrow.filled in
+    none-measured p.media p.n groups named stamps records timestamps _ p.n_some c.from_residual.ensures size none
 
 pub returns-in_err-gapped : goal.returns-in_err-gapped
-returns-in_err-gapped c = λ groups named origin stamps records timestamps h whole.
+returns-in_err-gapped c = λ groups named stamps records timestamps h size first.
     let p = c.args.params.now in
-    let settles = c.settle.ensures in
-    let k = settled p named origin c.args.self.now stamps records timestamps c.settle.new.self h settles.seen settles.none settles.stands in
-    let first = k.some (c.in_ok-bucket.ensures (buckets_of p.media p.n stamps) k.narrow.fed.filled).some in
-    none-measured p groups named stamps records timestamps _ c.from_residual-in_err-gapped.ensures whole
-    (c.in_err-gapped.ensures p.media p.n true stamps k.gapped_at (k.gapped_follows first) k.gapped_are k.narrow.fed.occupancy k.gapped_count)
+    let s = c.args.self.now in
+    let w = whole p.media p.n groups s stamps records timestamps p.media_is p.n_some h size in
+    let held = w.narrow.held_is in
+    let empty = (packets_of p.media p.n stamps records w.gapped_at N).empty in
+    let none = sym w.all ∙ sym s.models.gapped_is ∙ c.in_err-gapped.ensures w.gapped_at empty held.occupancy held.late_are in
+    none-measured p.media p.n groups named stamps records timestamps _ p.n_some c.from_residual-in_err-gapped.ensures size none
 
 pub returns-in_err-linear : goal.returns-in_err-linear
-returns-in_err-linear c = λ groups named origin stamps records timestamps h whole.
+returns-in_err-linear c = λ groups named stamps records timestamps h size first.
     let p = c.args.params.now in
-    let settles = c.settle.ensures in
-    let k = settled p named origin c.args.self.now stamps records timestamps c.settle.new.self h settles.seen settles.none settles.stands in
-    let first = k.some (c.in_ok-bucket.ensures (buckets_of p.media p.n stamps) k.narrow.fed.filled).some in
-    none-measured p groups named stamps records timestamps _ c.from_residual-in_err-linear.ensures whole
-    (c.in_err-linear.ensures p.media p.n false stamps k.linear_at (k.linear_follows first) k.linear_are k.narrow_linear.fed.occupancy k.linear_count)
+    let s = c.args.self.now in
+    let w = whole p.media p.n groups s stamps records timestamps p.media_is p.n_some h size in
+    let held = w.wide.held_is in
+    let empty = (packets_of p.media p.n stamps records w.linear_at W).empty in
+    let none = sym w.all ∙ sym s.models.linear_is ∙ c.in_err-linear.ensures w.linear_at empty held.occupancy held.late_are in
+    none-measured p.media p.n groups named stamps records timestamps _ p.n_some c.from_residual-in_err-linear.ensures size none
 
 pub returns-in_err-groups : goal.returns-in_err-groups
-returns-in_err-groups c = λ groups named origin stamps records timestamps h whole.
-    let s = c.args.self.now in
+returns-in_err-groups c = λ groups named stamps records timestamps h size first.
     let p = c.args.params.now in
-    let fed = h.groups (slice_index stamps) (slice_index timestamps) (λ i few. refl) (λ i few. refl) in
-    let empty = c.in_err-groups.ensures p.media p.n (anchor_of p.media origin) groups (slice_index stamps) (slice_index timestamps) fed
-    (s.groups_are ∙ h.seen ∙ whole) in
-    subst (λ o. MatchOption o (groups ≡ 0) (IsMeasured p.media p.n groups stamps records timestamps named))
-    (sym c.from_residual-in_err-groups.ensures) empty
+    let s = c.args.self.now in
+    let w = whole p.media p.n groups s stamps records timestamps p.media_is p.n_some h size in
+    let fed = h.groups_are (slice_index stamps) (slice_index timestamps) (λ i few. refl) (λ i few. refl) in
+    let none : groups ≡ 0 = sym w.groups_are ∙ sym s.groups_are
+    ∙ c.in_err-groups.ensures p.media s.n0 (firsts_of p.n (slice_index stamps)) (lasts_of p.n (slice_index stamps)) (firsts_of p.n (slice_index timestamps))
+    fed in
+    let empty : length stamps ≡ 0 = (let e = ap (λ g. p.n * g) none in omega (arith, size, e)) in
+    none-measured p.media p.n groups named stamps records timestamps _ p.n_some c.from_residual-in_err-groups.ensures size empty
 
 pub returns : goal.returns
-returns c = λ groups named origin stamps records timestamps h whole.
-    let s = c.args.self.now in
+returns c = λ groups named stamps records timestamps h size first.
     let p = c.args.params.now in
+    let s = c.args.self.now in
     let m = p.media in
     let n = p.n in
     let stamp = slice_index stamps in
     let timestamp = slice_index timestamps in
-    let meters = c.settle.new.self in
-    let settles = c.settle.ensures in
-    let k = settled p named origin s stamps records timestamps meters h settles.seen settles.none settles.stands in
-    let bucket = subst (λ count. IsSummary (buckets_of m n stamps) count c.in_ok-bucket.bucket) (meters.narrow.filled_is ∙ k.all)
-    (c.in_ok-bucket.ensures (buckets_of m n stamps) k.narrow.fed.filled) in
-    let anchor = h.gapped.anchor_is bucket.some in
-    let fed_groups = subst (λ a. MeasuresGroups m n a s.groups stamp timestamp) anchor (h.groups stamp timestamp (λ i few. refl) (λ i few. refl)) in
-    let numbers = c.in_ok-groups.ensures m n (anchor_of m (slice_index stamps 0)) groups stamp timestamp fed_groups (s.groups_are ∙ h.seen ∙ whole) in
-    let place = λ (to : Option ℕ) (x : Named) (names : IsNamed stamps records to x).
-    (names (slice_index records) stamp (λ i few. refl) (λ i few. refl)).place in
-    let narrow = c.finish-5.ensures n (c_max_of m n N) (vrx_full_of m n N) groups (slice_index_or named 0 None)
-    (packets_of m n stamps records k.gapped_at N) k.narrow.fed (k.all ∙ whole)
-    (place (slice_index_or named 0 None) s.narrow h.narrow
-    ∙ ap (λ count. place_below (slice_index records) stamp count (slice_index_or named 0 None)) (sym k.all)) in
-    let narrow_linear = c.finish-6.ensures n (c_max_of m n NL) (vrx_full_of m n NL) groups (slice_index_or named 1 None)
-    (packets_of m n stamps records k.linear_at NL) k.narrow_linear.fed (meters.narrow_linear_is ∙ k.all ∙ whole)
-    (place (slice_index_or named 1 None) s.narrow_linear h.narrow_linear
-    ∙ ap (λ count. place_below (slice_index records) stamp count (slice_index_or named 1 None)) (sym (meters.narrow_linear_is ∙ k.all))) in
-    let wide = c.finish-7.ensures n (c_max_of m n W) (vrx_full_of m n W) groups (slice_index_or named 2 None)
-    (packets_of m n stamps records k.linear_at W) k.wide.fed (meters.wide_is ∙ k.all ∙ whole)
-    (place (slice_index_or named 2 None) s.wide h.wide
-    ∙ ap (λ count. place_below (slice_index records) stamp count (slice_index_or named 2 None)) (sym (meters.wide_is ∙ k.all))) in
+    let w = whole m n groups s stamps records timestamps p.media_is p.n_some h size in
+    let n0_fits : FitsSigned w128 s.n0 = search rules in
+    let gapped_fits : FitsSigned w128 c.slack-gapped.result = search rules in
+    let linear_fits : FitsSigned w128 c.slack-linear.result = search rules in
+    let bucket = subst (λ k. IsSummary (buckets_of m n stamps) k c.in_ok-bucket.bucket) w.all
+    (c.in_ok-bucket.ensures (buckets_of m n stamps) w.narrow.filled) in
+    let some : 0 < length stamps = bucket.some in
+    let anchor : s.n0 ≡ anchor_in m stamps = h.anchor_is some in
+    let over : length stamps ≡ n * s.walk.group = size ∙ ap (λ g. n * g) (sym w.groups_are) in
+    let n0 = to_z-of_z w128 s.n0 n0_fits ∙ anchor in
+    let gapped = c.in_ok-gapped.ensures w.gapped_at (packets_of m n stamps records w.gapped_at N).empty w.narrow.held_is.occupancy w.narrow.held_is.late_are in
+    let linear = c.in_ok-linear.ensures w.linear_at (packets_of m n stamps records w.linear_at W).empty w.wide.held_is.occupancy w.wide.held_is.late_are in
+    let gapped_slack = c.slack-gapped.ensures stamps _ h.gapped_is some over n0 refl in
+    let linear_slack = c.slack-linear.ensures stamps _ h.linear_is some over n0 refl in
+    let fed = subst (λ a. MeasuresGroups m a s.groups (firsts_of n stamp) (lasts_of n stamp) (firsts_of n timestamp)) anchor
+    (h.groups_are stamp timestamp (λ i few. refl) (λ i few. refl)) in
+    let numbers = subst (λ g. AreGroupNumbers m (anchor_in m stamps) g (firsts_of n stamp) (lasts_of n stamp) (firsts_of n timestamp) c.in_ok-groups.groups)
+    (s.groups_are ∙ w.groups_are)
+    (c.in_ok-groups.ensures m (anchor_in m stamps) (firsts_of n stamp) (lasts_of n stamp) (firsts_of n timestamp) fed) in
+    let whole_groups = s.models_whole ∙ w.groups_are in
     record {
-      whole = whole;
-      gapped_at = k.gapped_at;
-      linear_at = k.linear_at;
+      whole = size;
+      gapped_at = w.gapped_at;
+      linear_at = w.linear_at;
       bucket = bucket;
-      gapped = c.in_ok-gapped.ensures m n true stamps k.gapped_at (k.gapped_follows bucket.some) k.gapped_are k.narrow.fed.occupancy k.gapped_count;
-      linear = c.in_ok-linear.ensures m n false stamps k.linear_at (k.linear_follows bucket.some) k.linear_are k.narrow_linear.fed.occupancy k.linear_count;
+      gapped = record {
+        are = w.gapped_are;
+        summary = subst (λ k. IsSummary w.gapped_at k c.in_ok-gapped.gapped.occupancy) (s.models.gapped_is ∙ w.all) gapped.0;
+        slack = subst (IsSlack m n stamps true) (sym (gapped.1 ∙ to_z-of_z w128 c.slack-gapped.result gapped_fits)) gapped_slack;
+        late = gapped.2 ∙ ap (count_of (is_late m n stamps true)) (s.models.gapped_is ∙ w.all);
+      };
+      linear = record {
+        are = w.linear_are;
+        summary = subst (λ k. IsSummary w.linear_at k c.in_ok-linear.linear.occupancy) (s.models.linear_is ∙ w.all) linear.0;
+        slack = subst (IsSlack m n stamps false) (sym (linear.1 ∙ to_z-of_z w128 c.slack-linear.result linear_fits)) linear_slack;
+        late = linear.2 ∙ ap (count_of (is_late m n stamps false)) (s.models.linear_is ∙ w.all);
+      };
       kinds = (
-        subst (λ count. AreKindNumbers n groups count (c_max_of m n N) (vrx_full_of m n N) (slice_index_or named 0 None)
-            (packets_of m n stamps records k.gapped_at N) c.finish-5.result) k.all narrow,
-        subst (λ count. AreKindNumbers n groups count (c_max_of m n NL) (vrx_full_of m n NL) (slice_index_or named 1 None)
-            (packets_of m n stamps records k.linear_at NL) c.finish-6.result) (meters.narrow_linear_is ∙ k.all) narrow_linear,
-        subst (λ count. AreKindNumbers n groups count (c_max_of m n W) (vrx_full_of m n W) (slice_index_or named 2 None)
-            (packets_of m n stamps records k.linear_at W) c.finish-7.result) (meters.wide_is ∙ k.all) wide,
+        kind-is N m n groups s stamps records w.gapped_at (slice_index_or named 0 None) c.finish-5.result w.all whole_groups w.narrow first.narrow
+            c.finish-5.ensures,
+        kind-is NL m n groups s stamps records w.linear_at (slice_index_or named 1 None) c.finish-6.result w.all
+            (s.models.narrow_linear_whole ∙ whole_groups) w.narrow_linear first.narrow_linear c.finish-6.ensures,
+        kind-is W m n groups s stamps records w.linear_at (slice_index_or named 2 None) c.finish-7.result w.all (s.models.wide_whole ∙ whole_groups)
+            w.wide first.wide c.finish-7.ensures,
       );
-      first = numbers.first;
-      last = numbers.last;
+      first = numbers.first_is;
+      last = numbers.last_is;
       target = c.target_of.ensures;
       step = numbers.step;
       offset = numbers.offset;
       latency = numbers.latency;
       gap = subst (λ count. MatchOption c.finish-8.result (count ≤ 1) (AreGapsOf stamp count)) (s.gaps_are ∙ h.seen)
-          (c.finish-8.ensures stamp (h.gaps stamp (λ i few. refl)));
+          (c.finish-8.ensures stamp (h.gaps_are stamp (λ i few. refl)));
     }

@@ -1,5 +1,5 @@
 use Rattle.std.proofs.Common.{◌/◌, ◌%◌, ℕ, pos, refl}
-use Rattle.flow_measure.specs.Columns.{AreExtremes, column_at, places_in, width_of}
+use Rattle.flow_measure.specs.Columns.{AreExtremes, column_at, places_in, strip_of, width_of}
 use Rattle.flow_measure.specs.Worked.{column}
 use Rattle.flow_measure.proofs.ByHand.{each-two, extremes-by, within-by}
 use Rattle.flow_page.specs.drawing.Worked.{each_packet, held, laid_over}
@@ -7,9 +7,10 @@ use Rattle.flow_page.proofs.lemmas.drawing.ByHand.{each-four}
 use Rattle.flow_page.proofs.drawing.laws.levels_by_hand.Goals as goal
 
 pub returns : goal.returns
+unfolding width_of
 returns c =
     let curve_of = λ (i : ℕ). i / width_of 4 1000 in
-    let eye_of = λ (i : ℕ). (i % 2) / width_of 2 500 in
+    let eye_of = λ (i : ℕ). (i % 2) / strip_of 2 500 in
     record {
       curve_is = record {
         within = within-by curve_of 4 4 refl;

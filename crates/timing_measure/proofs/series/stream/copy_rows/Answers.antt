@@ -1,8 +1,8 @@
-use Rattle.std.proofs.Common.{◌≡◌, ◌∙◌, ◌+◌, ◌^◌, Ok, ap, arith, refl, subst, sym}
+use Rattle.std.proofs.Common.{◌≡◌, ◌∙◌, ◌+◌, ◌^◌, Ok, ap, arith, refl, sym}
 use Rattle.pcap_reader.specs.Readers.{WillGive, answer_note}
 use Rattle.pcap_reader.specs.declared.reader.Step.TheVariants.{Frame}
 use Rattle.timing_reach.specs.steps.Ran.{output_of}
-use Rattle.timing_measure.specs.series.Reading.{HasRoom, room_less}
+use Rattle.timing_measure.proofs.lemmas.series.Pouring.{room-less}
 use Rattle.timing_measure.proofs.lemmas.series.Copying.{any-err, copying-broken, copying-none, copying-poured, copying-stopped, copying-taken, counted}
 use Rattle.timing_measure.proofs.lemmas.series.Capturing.{front-more}
 use Rattle.timing_measure.proofs.series.stream.copy_rows.Goals as goal
@@ -14,7 +14,7 @@ loop-at-init g c = record {
   number_is = sym c.requires.first;
   most = refl;
   within = omega (arith, c.requires.first);
-  room = λ count few. room_less count (2 ^ 36 + 1) c.args.flow.now.taker.flow (omega (arith, few)) c.requires.room;
+  room = λ count few. room-less count (2 ^ 36 + 1) c.args.flow.now (omega (arith, few)) c.requires.room;
   later_out = omega arith;
   name = refl;
   later = omega arith;
@@ -49,14 +49,12 @@ loop-at-preserved g c =
           c.args.flow.now c.take.new.self _ poured.0
           (copying-taken g.S.Source.left g.S.Source.name g.S.Source.faults o c.args.reader.now c.loop-at.reader new c.args.flow.now c.loop-at.flow
           c.take.new.self c.loop-at.number at bytes c.next.result is s inv.number_is c.in_ok-take-in-Ok-Frame.ensures.takes inv.copying)
-          refl c.pour.ensures.flow poured.1 poured.2;
+          poured.1 poured.2;
       fresh = s.tells ∙ ap answer_note is;
       number_is = omega (arith, n, inv.number_is);
       most = s.same_most ∙ inv.most;
       within = s.few;
-      room = λ count few.
-          subst (λ x. HasRoom count x) (sym c.pour.ensures.flow)
-          (c.in_ok-take-in-Ok-Frame.ensures.room count (inv.room (count + 1) (omega (arith, n, few))));
+      room = λ count few. c.pour.ensures.room count (c.in_ok-take-in-Ok-Frame.ensures.room count (inv.room (count + 1) (omega (arith, n, few))));
       later_out = omega (arith, inv.later_out, c.pour.ensures.later);
       name = s.same_name ∙ inv.name;
       later = omega (arith, inv.later, s.later);
@@ -74,7 +72,7 @@ returns-in_err-pour-clause-stopped g c =
     (copying-taken g.S.Source.left g.S.Source.name g.S.Source.faults o c.args.reader.now c.loop-at.reader follows.lender-at-none c.args.flow.now
     c.loop-at.flow c.take.new.self c.loop-at.number frame.at frame.bytes c.next.result (frame.is ∙ ap Ok frame.field-0-is) follows.holds-at-none
     inv.number_is c.in_ok-take-in-Ok-Frame.ensures.takes inv.copying)
-    c.in_err-pour.ensures.failed.2)
+    c.in_err-pour.ensures.failed.2 c.in_err-pour.ensures.failed.3)
 
 pub returns-in_err-take-in-Ok-Frame-clause-front : goal.returns-in_err-take-in-Ok-Frame-clause-front
 returns-in_err-take-in-Ok-Frame-clause-front g c =
@@ -85,16 +83,4 @@ returns-in_err-pour-clause-front g c =
     let copies = c.loop-at.invariant.copying.copies in
     any-err c.from_residual-in_err-pour.result _
     (front-more (g.K.Sink.written c.args.out.now) (g.K.Sink.written c.loop-at.out) (g.K.Sink.written c.pour.new.out) copies.written _ copies.appended
-    c.in_err-pour.ensures.failed.2)
-
-pub returns-in-Ok-End-clause-room : goal.returns-in-Ok-End-clause-room
-returns-in-Ok-End-clause-room g c =
-    let inv = c.loop-at.invariant in inv.room 1 (omega (arith, inv.within, inv.most, c.requires.most))
-
-pub returns-in-Ok-Cut-clause-room : goal.returns-in-Ok-Cut-clause-room
-returns-in-Ok-Cut-clause-room g c =
-    let inv = c.loop-at.invariant in inv.room 1 (omega (arith, inv.within, inv.most, c.requires.most))
-
-pub returns-in-Err-clause-room : goal.returns-in-Err-clause-room
-returns-in-Err-clause-room g c =
-    let inv = c.loop-at.invariant in inv.room 1 (omega (arith, inv.within, inv.most, c.requires.most))
+    c.in_err-pour.ensures.failed.3)

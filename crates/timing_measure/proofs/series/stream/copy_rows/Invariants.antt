@@ -1,6 +1,7 @@
 use Rattle.std.proofs.Common.{◌≡◌, ◌≤◌, ◌+◌, ◌-◌, ◌*◌, ◌^◌, ℕ, None}
 use Rattle.pcap_reader.specs.Readers.{WillGive, end_note, frame_count, most_of, under}
-use Rattle.timing_measure.specs.series.Reading.{HasRoom, IsCopying}
+use Rattle.timing_measure.specs.series.Copies.{IsCopying}
+use Rattle.timing_measure.specs.series.Stands.{HasRoom}
 use Rattle.timing_measure.proofs.series.stream.copy_rows.Given as goal
 
 abbrev pub invariant-loop-at : goal.invariant-loop-at
@@ -17,7 +18,7 @@ invariant-loop-at g l =
       number_is : l.number ≡ frame_count l.reader;
       most : most_of l.reader ≡ most_of l.fn.reader;
       within : 16 * frame_count l.reader ≤ most_of l.reader;
-      room : (count : ℕ) → frame_count l.reader + count ≤ 2 ^ 36 + 1 → HasRoom count l.flow.taker.flow;
+      room : (count : ℕ) → frame_count l.reader + count ≤ 2 ^ 36 + 1 → HasRoom count l.flow;
       later_out : g.K.Sink.faults l.fn.out ≤ g.K.Sink.faults l.out;
       name : g.S.Source.name (under l.reader) ≡ g.S.Source.name (under l.fn.reader);
       later : g.S.Source.faults (under l.fn.reader) ≤ g.S.Source.faults (under l.reader);

@@ -1,22 +1,9 @@
-use Rattle.std.proofs.Common.{◌≡◌, ◌+◌, ◌-◌, min, length, arith}
-use Rattle.flow_page.specs.drawing.Drawn.{count_around, start_around}
-use Rattle.flow_page.proofs.lemmas.drawing.Feeding.{held-some}
+use Rattle.std.proofs.Common.{◌+◌, ◌∙◌, min, refl, sym, ap}
+use Rattle.flow_page.proofs.lemmas.drawing.Around.{region-shown}
 use Rattle.flow_page.proofs.drawing.region.RegionMeter.finish.Goals as goal
 
 pub returns : goal.returns
-returns c = λ m n kind proof stamps is some h.
-    let s = c.args.self.now in
-    let held = held-some m n stamps kind proof.model is some in
-    let count : s.count ≡ min (proof.to + 51) (length stamps) - start_around proof = h.count_is in
-    let seen : s.columns.seen ≡ min (length stamps - s.start) s.count = h.seen_is in
-    let all : s.columns.seen ≡ s.count = omega (arith, count, seen, h.start_is) in
-    record {
-      kind_is = h.kind_is;
-      proof_is = h.proof_is;
-      start_is = h.start_is;
-      count_is = h.count_is;
-      level = held.0;
-      held = held.1;
-      columns = c.in_ok-listed.ensures.curve 400 (count_around proof (length stamps)) (λ i. held.0 (start_around proof + i)) (h.draws held.0 held.1)
-          h.group_is h.most_is (omega (arith, all, h.count_is));
-    }
+returns c = λ m n kind stamps more is some count h named.
+    region-shown m n kind c.args.self.now c.args.proof stamps more c.start_around-start.result c.end_around-end.result _ is some
+    c.start_around-start.ensures (c.end_around-end.ensures.value ∙ ap (λ k. min (c.args.proof.to + 51) k) (sym count)) h named refl refl refl
+    c.saturating_sub.ensures c.in_ok-columns.ensures

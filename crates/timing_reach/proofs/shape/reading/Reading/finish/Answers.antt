@@ -8,7 +8,7 @@ pub returns : goal.returns
 returns c = λ m key tai list items seconds h.
     let few : length (flow items m) < 2 ^ 41 = omega (arith, h.judge.fed, c.requires) in
     record {
-      verdict_is = ap (λ (r : Row). r.verdict) (c.in_ok-finish.ensures.row m key tai (flow items m) h.judge);
+      verdict_is = ap (λ (r : Row). r.verdict) (c.in_ok-row.ensures.row m key tai (flow items m) h.judge);
       packets = h.packets;
       grouped = judged-grouped (flow items m) m.pt tai few seconds h.judge.stamped;
     }

@@ -1,0 +1,181 @@
+-- What stands where `series` stops before the end of a capture is a prefix of the text of an answer.
+use Rattle.std.proofs.Common.{◌≡◌, ◌≤◌, ◌<◌, ◌+◌, ◌^◌, ℕ, List, [], ◌∷◌, ◌++◌, length, drop, take, Bool, Option, Some, None, inl, inr, refl, ap, ◌∙◌, sym}
+use Rattle.std.proofs.Common.{subst, arith, append-nil, append_assoc, length-append, take-append-drop}
+use Rattle.std.specs.Prelude.{◌⊎◌}
+use Rattle.std.proofs.lemmas.List.Elements.{filter_map-append}
+use Rattle.timing_base.specs.Captures.{Record}
+use Rattle.timing_base.specs.Flows.{first_fault_below}
+use Rattle.timing_base.specs.Judged.{judged}
+use Rattle.timing_base.specs.Media.{IsMedia, Media}
+use Rattle.timing_base.specs.declared.capture.FileNote.{FileNote}
+use Rattle.timing_base.specs.declared.packet.FlowPacket.{FlowPacket}
+use Rattle.timing_base.specs.declared.row.Run.{Run}
+use Rattle.timing_base.specs.declared.row.Verdict.{Verdict}
+use Rattle.timing_base.proofs.FirstFaults.{fault-kept}
+use Rattle.udp_rtp.specs.Flow.{flow, flow_packet}
+use Rattle.pcap_reader.specs.Records.{Records}
+use Rattle.fail_interval.specs.Flowing.{OpensAt}
+use Rattle.fail_interval.specs.Measured.{StateTells}
+use Rattle.fail_interval.specs.Parts.{open_before, parts_before, sound_before}
+use Rattle.fail_interval.specs.Row.{verdict_of}
+use Rattle.fail_interval.specs.SoFar.{SoFar}
+use Rattle.fail_interval.specs.States.{IsAt}
+use Rattle.fail_interval.specs.Telling.{TellsAt}
+use Rattle.fail_interval.specs.declared.flow.OpenRun.{OpenRun}
+use Rattle.fail_interval.specs.declared.judge.State.{State}
+use Rattle.fail_interval.specs.declared.judge.State.TheVariants.{Going, Refused, Spent}
+use Rattle.flow_measure.specs.rows.Rows.{header_text}
+use Rattle.flow_measure.specs.rows.Told.{PastRows, Tells}
+use Rattle.flow_measure.specs.rows.making.Meters.{StandsFor as RowsStandsFor}
+use Rattle.flow_measure.specs.declared.rows.meter.RowsMeter.{RowsMeter}
+use Rattle.flow_measure.specs.declared.rows.rows.Rows.{Rows}
+use Rattle.timing_reach.specs.steps.Ran.{Appended, Output}
+use Rattle.timing_measure.specs.series.Copies.{Stopped}
+use Rattle.timing_measure.specs.series.Rows.{AreRowsOfFlow, AreRowsUpTo}
+use Rattle.timing_measure.specs.series.Series.{BeginsIn, series_of}
+use Rattle.timing_measure.specs.series.Stands.{StandsFor, Waits, past_of, text_of}
+use Rattle.timing_measure.specs.declared.series.flow.SeriesFlow.{SeriesFlow}
+use Rattle.timing_measure.proofs.lemmas.series.Ending.{some-put}
+use Rattle.timing_measure.proofs.lemmas.series.Fronting.{RowsBefore, rows-ahead}
+
+-- these rows were put behind the header so far, and with more they are the rows of the flow
+pub record AreBegun (frames : Bool) (m : Media) (tai : ℕ) (packets : List FlowPacket) (gone text : List ℕ) : Type 0 where
+  pub put : List ℕ
+  pub text_is : gone ++ text ≡ header_text frames ++ put
+  pub more : List ℕ
+  pub are : AreRowsOfFlow frames m tai packets (put ++ more)
+
+-- what the output tells of the packets before a place
+before-place : (past : PastRows) (m : Media) (tai : ℕ) (packets : List FlowPacket) (n : ℕ) (so_far : SoFar) (done : List Run)
+    (open_run : Option (OpenRun RowsMeter)) (out : Rows)
+    → OpensAt m tai packets n so_far done open_run → TellsAt RowsStandsFor Tells past m tai packets n open_run out
+    → Tells past out m tai (parts_before m packets tai n) (open_before packets tai n)
+before-place past m tai packets n so_far done None out o t =
+    subst (λ k. Tells past out m tai (parts_before m packets tai k) (open_before packets tai k)) (sym o.0) t
+before-place past m tai packets n so_far done (Some open_run) out o t = t.out_tells
+
+-- the rows of the first packets, of which none has a fault
+begun-going : (frames : Bool) (gone : List ℕ) (m : Media) (tai : ℕ) (packets : List FlowPacket) (n : ℕ) (out : Rows) → IsMedia m
+    → first_fault_below packets m.pt n ≡ None → n ≤ length packets
+    → Tells (past_of frames gone) out m tai (parts_before m packets tai n) (open_before packets tai n)
+    → AreBegun frames m tai packets gone out.text.items
+begun-going frames gone m tai packets n out is none within t =
+    let rows = rows-ahead frames m tai packets n t.put is none within (subst (λ f. RowsBefore f m tai packets n t.put) t.frames_is t.are) in
+    record { put = t.put; text_is = t.text_is; more = rows.0; are = rows.1 }
+
+begun-state : (frames : Bool) (gone : List ℕ) (m : Media) (tai : ℕ) (packets rest : List FlowPacket) (state : State RowsMeter) (out : Rows) → IsMedia m
+    → IsAt m tai packets state → StateTells RowsStandsFor Tells (past_of frames gone) m tai packets state out
+    → AreBegun frames m tai (packets ++ rest) gone out.text.items
+begun-state frames gone m tai packets rest (Going flow) out is at told =
+    let all = packets ++ rest in
+    let n = length packets in
+    let past = past_of frames gone in
+    let long : length all ≡ length packets + length rest = length-append packets rest in
+    let stands = at.2 in
+    let opens : OpensAt m tai all n stands.so_far flow.done.items flow.open =
+    subst (λ (x : Media). OpensAt x tai all n stands.so_far flow.done.items flow.open) at.0
+    (subst (λ s. OpensAt flow.media s all n stands.so_far flow.done.items flow.open) at.1 (stands.runs rest)) in
+    begun-going frames gone m tai all n out is
+    (subst (λ (x : Media). first_fault_below all x.pt n ≡ None) at.0 (stands.sound rest)) (omega (arith, long))
+    (before-place past m tai all n stands.so_far flow.done.items flow.open out opens (told rest))
+begun-state frames gone m tai packets rest (Refused rec fault) out is at told =
+    let all = packets ++ rest in
+    let n = length packets in
+    let past = past_of frames gone in
+    let long : length all ≡ length packets + length rest = length-append packets rest in
+    let first = at.first rest in
+    let t = subst (λ x. Tells past out m tai (parts_before m all tai (sound_before x n)) (open_before all tai (sound_before x n))) first (told rest) in
+    let whole = fault-kept all m.pt n (length all) _ (omega (arith, long)) first in
+    record {
+      put = t.put;
+      text_is = t.text_is;
+      more = [];
+      are = subst (AreRowsOfFlow frames m tai all) (sym (append-nil t.put))
+          (subst (λ o. AreRowsUpTo frames m tai all o t.put) (sym whole)
+          (subst (λ f. RowsBefore f m tai all at.index t.put) t.frames_is t.are));
+    }
+begun-state frames gone m tai packets rest Spent out is at told = absurd at
+
+-- a flow whose records were taken has begun with its rows, whatever records follow
+series-begun : (frames : Bool) (m : Media) (number tai : ℕ) (gone : List ℕ) (x : SeriesFlow) (taken rest : List Record) → IsMedia m
+    → StandsFor frames m number tai gone x taken
+    → AreBegun frames m tai (flow (taken ++ rest) m) gone (text_of x)
+series-begun frames m number tai gone x taken rest is h =
+    subst (λ l. AreBegun frames m tai l gone (text_of x)) (sym (filter_map-append (flow_packet m) taken rest))
+    (begun-state frames gone m tai (flow taken m) (flow rest m) x.flow.taker.judge.state x.flow.taker.out is h.fed.judge_is.state (h.fed.told refl))
+
+-- an answer that has rows
+text-of-rows : (frames : Bool) (m : Media) (note : FileNote) (v : Verdict) (rows : List ℕ) → 0 < length rows
+    → (series_of frames m note v rows).text ≡ header_text frames ++ rows
+text-of-rows frames m note v [] some = absurd (omega (arith, some))
+text-of-rows frames m note v (byte ∷ rows) some = refl
+
+-- the pieces of a text
+pieces : (gone text put more header : List ℕ) (count : ℕ) → gone ++ text ≡ header ++ put
+    → header ++ (put ++ more) ≡ (gone ++ take count text) ++ (drop count text ++ more)
+pieces gone text put more header count is =
+    sym (append_assoc header put more)
+    ∙ ap (λ l. l ++ more) (sym is ∙ ap (λ l. gone ++ l) (sym (take-append-drop count text)) ∙ sym (append_assoc gone (take count text) (drop count text)))
+    ∙ append_assoc (gone ++ take count text) (drop count text) more
+
+-- a prefix of what was made so far is one of the answer's text, if a row was made
+begins-some : (frames : Bool) (m : Media) (tai : ℕ) (text : List ℕ) (items : List Record) (note : FileNote) (gone made : List ℕ) (count : ℕ)
+    → Records text (2 ^ 40) items note → AreBegun frames m tai (flow items m) gone made
+    → length (header_text frames) < length gone + length made
+    → BeginsIn frames tai m text (gone ++ take count made)
+begins-some frames m tai text items note gone made count records begun more =
+    let rows = begun.put ++ begun.more in
+    let v = verdict_of m (judged (flow items m) m.pt tai) in
+    let put : 0 < length begun.put = some-put (header_text frames) begun.put gone made begun.text_is more in
+    let some : 0 < length rows = omega (arith, put, length-append begun.put begun.more) in
+    record {
+      answer = series_of frames m note v rows;
+      has = record { items = items; note = note; records = records; rows = rows; are = begun.are; answer_is = refl };
+      rest = drop count made ++ begun.more;
+      whole = text-of-rows frames m note v rows some ∙ pieces gone made begun.put begun.more (header_text frames) count begun.text_is;
+    }
+
+-- what was written behind the header has a row
+rows-gone : (frames : Bool) (gone made : List ℕ) (waiting : ℕ) → Waits frames gone waiting
+    → (gone ≡ []) ⊎ (length (header_text frames) < length gone + length made)
+rows-gone frames gone made waiting (inl w) = inl w.0
+rows-gone frames gone made waiting (inr w) = inr (omega (arith, w.1))
+
+rows-held : (frames : Bool) (gone made : List ℕ) (waiting : ℕ) → Waits frames gone waiting → waiting < length made
+    → length (header_text frames) < length gone + length made
+rows-held frames gone made waiting (inl w) some = omega (arith, w.1, some)
+rows-held frames gone made waiting (inr w) some = omega (arith, w.1)
+
+begins-none : (frames : Bool) (m : Media) (tai : ℕ) (text : List ℕ) (items : List Record) (note : FileNote) (gone made : List ℕ)
+    → Records text (2 ^ 40) items note → AreBegun frames m tai (flow items m) gone made
+    → (gone ≡ []) ⊎ (length (header_text frames) < length gone + length made)
+    → (gone ≡ []) ⊎ BeginsIn frames tai m text gone
+begins-none frames m tai text items note gone made records begun (inl none) = inl none
+begins-none frames m tai text items note gone made records begun (inr more) =
+    inr (subst (BeginsIn frames tai m text) (append-nil gone) (begins-some frames m tai text items note gone made 0 records begun more))
+
+-- what was written where it stopped
+stopped-case : (frames : Bool) (m : Media) (tai : ℕ) (text : List ℕ) (items : List Record) (note : FileNote) (gone made : List ℕ) (waiting count : ℕ)
+    → Records text (2 ^ 40) items note → AreBegun frames m tai (flow items m) gone made → Waits frames gone waiting
+    → (count ≡ 0) ⊎ (waiting < length made)
+    → (gone ++ take count made ≡ []) ⊎ BeginsIn frames tai m text (gone ++ take count made)
+stopped-case frames m tai text items note gone made waiting count records begun waits (inl none) =
+    let same : gone ≡ gone ++ take count made = sym (ap (λ k. gone ++ take k made) none ∙ append-nil gone) in
+    subst (λ l. (l ≡ []) ⊎ BeginsIn frames tai m text l) same
+    (begins-none frames m tai text items note gone made records begun (rows-gone frames gone made waiting waits))
+stopped-case frames m tai text items note gone made waiting count records begun waits (inr some) =
+    inr (begins-some frames m tai text items note gone made count records begun (rows-held frames gone made waiting waits some))
+
+-- what `series` has written where it stopped is nothing, or a prefix of the answer's text
+pub stopped-begins : (frames : Bool) (m : Media) (number tai : ℕ) (text : List ℕ) (items : List Record) (note : FileNote) (o : Output) (old : SeriesFlow)
+    → IsMedia m → Records text (2 ^ 40) items note → StandsFor frames m number tai [] old [] → Stopped o old items
+    → (front : List ℕ) × Appended o front × ((front ≡ []) ⊎ BeginsIn frames tai m text front)
+stopped-begins frames m number tai text items note o old is records fresh s =
+    let stands : StandsFor frames m number tai s.written s.stood s.taken = s.goes frames m number tai [] [] fresh in
+    let begun : AreBegun frames m tai (flow items m) s.written (text_of s.stood) =
+    subst (λ l. AreBegun frames m tai (flow l m) s.written (text_of s.stood)) (sym s.whole)
+    (series-begun frames m number tai s.written s.stood s.taken s.rest is stands) in (
+      s.written ++ take s.count (text_of s.stood),
+      s.appended,
+      stopped-case frames m tai text items note s.written (text_of s.stood) s.stood.waiting s.count records begun stands.waits s.some,
+    )

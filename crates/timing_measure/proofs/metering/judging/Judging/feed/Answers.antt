@@ -1,8 +1,0 @@
-use Rattle.timing_base.specs.Keys.{key_of}
-use Rattle.timing_measure.proofs.Judged.{judging-took}
-use Rattle.timing_measure.proofs.metering.judging.Judging.feed.Goals as goal
-
-pub returns-clause-stands : goal.returns-clause-stands
-returns-clause-stands c =
-    judging-took c.feed.result c.args.self.now _ c.args.packet.now c.in_ok-pass.ensures.stands
-    (λ m number tai packets. c.feed.ensures.takes.stands m (key_of 0 number) tai packets)

@@ -1,0 +1,5 @@
+-- these serve only the proofs
+pub mod Ends
+pub mod Fed
+pub mod Meters
+pub mod Taken

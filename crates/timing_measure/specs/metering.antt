@@ -1,9 +1,0 @@
-pub mod Agains
-pub mod Edges
-pub mod Fed
-pub mod Firsts
-pub mod Gauged
-pub mod Judgings
-pub mod Metering
-pub mod Plan
-pub mod Walks

@@ -1,0 +1,10 @@
+//! The flows of all media of a session, which are judged and measured while the capture is read.
+
+mod flow;
+mod output;
+mod source;
+mod take;
+
+pub use flow::{FlowEnd, FlowMeter};
+pub use output::FlowOutput;
+pub use take::{TakenFlows, take_flows};

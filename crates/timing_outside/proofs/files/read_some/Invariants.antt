@@ -1,0 +1,6 @@
+use Rattle.std.proofs.Common.{}
+use Rattle.std.specs.Io.KnownBytes.{Keeps}
+use Rattle.timing_outside.proofs.files.read_some.Given as goal
+
+abbrev pub invariant-loop : goal.invariant-loop
+invariant-loop g l = Keeps (g.F.Read.remaining l.fn.file) (g.F.Read.remaining l.file)

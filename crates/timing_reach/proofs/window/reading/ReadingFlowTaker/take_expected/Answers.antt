@@ -1,6 +1,0 @@
-use Rattle.timing_reach.proofs.WindowReadings.{reads-packet}
-use Rattle.timing_reach.proofs.window.reading.ReadingFlowTaker.take_expected.Goals as goal
-
-pub returns-clause-takes : goal.returns-clause-takes
-returns-clause-takes c =
-    reads-packet c.pass.result c.args.self.now _ c.args.packet.now c.args._frame.now c.in_ok-feed_expected.ensures.takes.stands c.pass.ensures.passes
