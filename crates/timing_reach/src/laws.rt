@@ -15,7 +15,7 @@ ghost use Rattle.offset_window.specs.declared.window.WindowEnd.TheVariants.{Abse
 ghost use Rattle.path_skew.specs.Examples.{at_records, told};
 ghost use Rattle.sender_params.specs.Worked.{hd_50};
 ghost use Rattle.timing_report.specs.declared.status.Status.TheVariants as status;
-ghost use Rattle.timing_reach.specs.steps.Answers.{Answer};
+ghost use Rattle.timing_steps.specs.Answers.{Answer};
 ghost use Rattle.timing_reach.specs.Asked.{HasWindow, OnRun, no_such_media, not_judged};
 ghost use Rattle.timing_reach.specs.Scanned.{HasScan};
 ghost use Rattle.timing_reach.specs.Skewed.{HasSkew, first_of, last_of, skew_status, skewed};

@@ -11,15 +11,15 @@ use Rattle.timing_report.specs.declared.status.Input.{Input}
 use Rattle.timing_report.specs.declared.status.Status.{Status}
 use Rattle.timing_report.specs.declared.status.Status.TheVariants as status
 use Rattle.pcapng_reader.specs.Classic.{classic}
-use Rattle.timing_reach.specs.steps.Answers.{Answer, AreThere, AreTold, Gives, Inputs, ReadsCaptures, ReadsSession, silent}
-use Rattle.timing_reach.specs.declared.steps.failure.Failure.{Failure}
-use Rattle.timing_reach.specs.declared.steps.failure.Failure.TheVariants as failure
+use Rattle.timing_steps.specs.Answers.{Answer, AreThere, AreTold, Gives, Inputs, ReadsCaptures, ReadsSession, silent}
+use Rattle.timing_steps.specs.declared.failure.Failure.{Failure}
+use Rattle.timing_steps.specs.declared.failure.Failure.TheVariants as failure
 use Rattle.timing_top.specs.Check.{CheckInputRose, FollowsCheck}
 use Rattle.timing_top.specs.Asked.{Follows, FollowsAtOnce, FollowsHelp, FollowsSelfTest, InputRose, MeasuresBytes, names_of, page}
 use Rattle.timing_top.specs.Report.{HasReport}
 use Rattle.timing_top.specs.SelfTest.{HasSelfTest}
-use Rattle.timing_top.proofs.Answering.{Caused, captured-failed, described-failed, not-given, only-captured, only-described, only-given, only-silent}
-use Rattle.timing_top.proofs.Answering.{only-yielded, some-captured, some-described, some-given, some-yielded, yielded-failed}
+use Rattle.timing_steps.proofs.Onces.{Caused, captured-failed, described-failed, not-given, only-captured, only-described, only-given, only-silent}
+use Rattle.timing_steps.proofs.Onces.{only-yielded, some-captured, some-described, some-given, some-yielded, yielded-failed}
 use Rattle.timing_measure.specs.Measures.{HasMeasure, MeasureInputRose}
 use Rattle.timing_measure.proofs.Unique.{once-measure}
 use Rattle.timing_measure.specs.page.Pages.{HasPage, PageInputRose}

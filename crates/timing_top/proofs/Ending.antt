@@ -9,20 +9,20 @@ use Rattle.timing_words.specs.declared.request.Request.{Request}
 use Rattle.timing_words.specs.declared.request.Request.TheVariants as request
 use Rattle.timing_report.specs.declared.status.Status.{Status}
 use Rattle.timing_report.specs.declared.status.Status.TheVariants as status
-use Rattle.timing_reach.specs.steps.Answers.{Answer, silent}
-use Rattle.timing_reach.specs.steps.Ends.{EndsWith, check_ends, is_failure, is_silent, look_ends, report_ends}
-use Rattle.timing_reach.specs.steps.Ran.{Appended, Broke, HasCause, Leaves, Output, Ran}
-use Rattle.timing_reach.specs.declared.steps.failure.Failure.{Failure}
-use Rattle.timing_reach.specs.declared.steps.failure.Failure.TheVariants as failure
+use Rattle.timing_steps.specs.Answers.{Answer, silent}
+use Rattle.timing_steps.specs.Ends.{EndsWith, check_ends, is_failure, is_silent, look_ends, report_ends}
+use Rattle.timing_steps.specs.Ran.{Appended, Broke, HasCause, Leaves, Output, Ran}
+use Rattle.timing_steps.specs.declared.failure.Failure.{Failure}
+use Rattle.timing_steps.specs.declared.failure.Failure.TheVariants as failure
 use Rattle.timing_measure.specs.Measures.{measure_ends}
 use Rattle.timing_measure.specs.page.Pages.{page_ends}
 use Rattle.timing_reach.specs.Scanned.{scan_ends}
 use Rattle.timing_top.specs.Asked.{FollowsHelp, FollowsSelfTest}
 use Rattle.timing_top.specs.Ends.{Ends, may_end, reads_inputs, reads_sdp}
 use Rattle.timing_top.specs.Runs.{prints_whole}
-use Rattle.timing_measure.specs.series.Streams.{StreamEnds, is_silent_stream}
-use Rattle.timing_reach.proofs.lemmas.steps.Endings.{kept-none}
-use Rattle.timing_top.proofs.Answering.{ok-not-err, same-ok}
+use Rattle.timing_steps.specs.Streams.{StreamEnds, is_silent_stream}
+use Rattle.timing_steps.proofs.Endings.{kept-none}
+use Rattle.timing_steps.proofs.Onces.{ok-not-err, same-ok}
 use Rattle.timing_top.proofs.Headlines.{none-broke}
 
 -- the statuses of a command are those of its request

@@ -10,15 +10,15 @@ use Rattle.pcapng_reader.proofs.Bytes.{classic-bytes}
 use Rattle.sdp_reader.proofs.Within.{session-within}
 use Rattle.timing_report.specs.declared.status.Input.{Input}
 use Rattle.timing_report.specs.declared.status.Input.TheVariants as input
-use Rattle.timing_reach.specs.steps.Answers.{Answer, AreThere, AreTold, Gives, HasRisen, Inputs, ReadsSession, Yields}
-use Rattle.timing_reach.specs.declared.steps.failure.Failure.{Failure}
+use Rattle.timing_steps.specs.Answers.{Answer, AreThere, AreTold, Gives, HasRisen, Inputs, ReadsSession, Yields}
+use Rattle.timing_steps.specs.declared.failure.Failure.{Failure}
 use Rattle.timing_reach.specs.Asked.{FlowInputRose, ReadsCapture, ReadsFlow, no_such_media}
 use Rattle.timing_reach.specs.Scanned.{FollowsScan, HasScan, ScanInputRose}
 use Rattle.timing_reach.specs.Skewed.{FollowsSkew, HasSkew, ReadsPair, SkewInputRose}
 use Rattle.timing_reach.proofs.Scannings.{once-scan, some-scan}
 use Rattle.timing_reach.proofs.Unique.{once-skew, some-skew}
-use Rattle.timing_top.proofs.Answering.{Caused, captured-failed, described-failed, not-given, ok-not-err, only-captured, only-described, only-given}
-use Rattle.timing_top.proofs.Answering.{only-silent, only-yielded, same-err, same-some, some-captured, some-described, some-given, some-yielded, yielded-failed}
+use Rattle.timing_steps.proofs.Onces.{Caused, captured-failed, described-failed, not-given, ok-not-err, only-captured, only-described, only-given}
+use Rattle.timing_steps.proofs.Onces.{only-silent, only-yielded, same-err, same-some, some-captured, some-described, some-given, some-yielded, yielded-failed}
 
 -- one capture that is read
 pub some-capture : (i : Inputs) (name text : List ℕ) (Defined : List ℕ → Answer → Type 0) → ¬ i.lacks name → i.texts name ≡ Some text → (answer : Answer)

@@ -14,16 +14,16 @@ use Rattle.timing_reach.specs.Skewed.{FollowsSkew, SkewInputRose}
 use Rattle.timing_report.specs.declared.status.Input.{Input}
 use Rattle.timing_report.specs.declared.status.Status.{Status}
 use Rattle.timing_report.specs.declared.status.Status.TheVariants as status
-use Rattle.timing_reach.specs.steps.Answers.{Answer, Inputs, silent}
-use Rattle.timing_reach.specs.steps.Ran.{HasCause, IsAnswered, Leaves, Output, Ran, TellsLine}
-use Rattle.timing_reach.specs.declared.steps.failure.Failure.{Failure}
-use Rattle.timing_reach.specs.declared.steps.failure.Failure.TheVariants as failure
+use Rattle.timing_steps.specs.Answers.{Answer, Inputs, silent}
+use Rattle.timing_steps.specs.Ran.{HasCause, IsAnswered, Leaves, Output, Ran, TellsLine}
+use Rattle.timing_steps.specs.declared.failure.Failure.{Failure}
+use Rattle.timing_steps.specs.declared.failure.Failure.TheVariants as failure
 use Rattle.timing_top.specs.Asked.{Follows, InputRose}
 use Rattle.timing_top.specs.Check.{CheckInputRose, FollowsCheck}
 use Rattle.timing_top.specs.Runs.{RanAs, prints_whole}
 use Rattle.timing_measure.specs.series.Series.{BeginsSeries, FollowsSeries}
-use Rattle.timing_measure.specs.series.Streams.{Streams}
-use Rattle.timing_reach.proofs.lemmas.steps.Endings.{kept-none}
+use Rattle.timing_steps.specs.Streams.{Streams}
+use Rattle.timing_steps.proofs.Endings.{kept-none}
 use Rattle.timing_top.specs.verify.Asked.{FollowsReport, FollowsVerify, ReportInputRose, VerifyInputRose}
 
 -- a cause by other names

@@ -6,7 +6,7 @@ ghost use Rattle.capture_scan.specs.report.Draft.{videos_of};
 ghost use Rattle.timing_reach.specs.Scanned.{drafted, scan_ends, scan_status, scanned};
 
 use crate::scan::Scanned;
-use crate::steps::Answer;
+use timing_steps::Answer;
 use capture_scan::Found;
 use capture_scan::report::{Draft, json_of, text_of};
 use std::alloc::{AllocError as OutOfMemory, Global};

@@ -1,0 +1,10 @@
+-- the definitions that the public clauses cite
+pub mod Answers
+pub mod Asks
+pub mod Ran
+pub mod Ends
+pub mod Streams
+pub mod Runs
+-- these serve only the proofs
+pub mod Fetched
+pub mod Taken
