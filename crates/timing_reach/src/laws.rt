@@ -17,7 +17,8 @@ ghost use Rattle.sender_params.specs.Worked.{hd_50};
 ghost use Rattle.timing_report.specs.declared.status.Status.TheVariants as status;
 ghost use Rattle.timing_steps.specs.Answers.{Answer};
 ghost use Rattle.timing_reach.specs.Asked.{HasWindow, OnRun, no_such_media, not_judged};
-ghost use Rattle.timing_reach.specs.Scanned.{HasScan};
+ghost use Rattle.timing_reach.specs.Scanned.{scan_asks};
+ghost use Rattle.timing_steps.specs.Asks.{HasAnswer};
 ghost use Rattle.timing_reach.specs.Skewed.{HasSkew, first_of, last_of, skew_status, skewed};
 ghost use Rattle.timing_reach.specs.Windows.{HasLines, window_line};
 ghost use Rattle.timing_reach.specs.Worked.{bound_at, from_to, narrow_frame, pair_of};
@@ -124,7 +125,8 @@ pub fn pairs_by_hand()
 
 /// The contents of the capture of `scan` have exactly one answer.
 pub fn one_scan_answer()
-    ensures some { (job : ScanJob) (text : List ℕ) → (answer : Answer) × HasScan job text answer }
-    ensures once { (job : ScanJob) (text : List ℕ) (a b : Answer)
-        → HasScan job text a → HasScan job text b → a ≡ b }
+    ensures some { (job : ScanJob) (media : List Media) (texts : List (List ℕ)) → All IsMedia media
+        → (answer : Answer) × HasAnswer (scan_asks job) media texts answer }
+    ensures once { (job : ScanJob) (media : List Media) (texts : List (List ℕ)) (a b : Answer)
+        → HasAnswer (scan_asks job) media texts a → HasAnswer (scan_asks job) media texts b → a ≡ b }
 {}

@@ -150,13 +150,13 @@ abbrev pub IsSome : Asks → (texts : List (List ℕ)) → Type 0
 IsSome asks texts = (media : List Media) (files : List (List Record)) (notes : List FileNote) → All IsMedia media → asks.early media ≡ None
     → AreRecords texts files notes → (answer : Answer) × asks.Tells media files notes answer
 
-only-has : (asks : Asks) (media : List Media) (texts : List (List ℕ)) (a b : Answer) → IsOnce asks → HasAnswer asks media texts a
+pub only-has : (asks : Asks) (media : List Media) (texts : List (List ℕ)) (a b : Answer) → IsOnce asks → HasAnswer asks media texts a
     → HasAnswer asks media texts b → a ≡ b
 only-has asks media texts a b once h k =
     let same = only-records texts h.files k.files h.notes k.notes h.records k.records in
     once media k.files k.notes a b (subst (λ n. asks.Tells media k.files n a) same.1 (subst (λ f. asks.Tells media f h.notes a) same.0 h.tells)) k.tells
 
-some-has : (asks : Asks) (media : List Media) (texts : List (List ℕ)) → All IsMedia media → asks.early media ≡ None → IsSome asks texts
+pub some-has : (asks : Asks) (media : List Media) (texts : List (List ℕ)) → All IsMedia media → asks.early media ≡ None → IsSome asks texts
     → (answer : Answer) × HasAnswer asks media texts answer
 some-has asks media texts are unsettled some =
     let all = some-records texts in
