@@ -2,11 +2,11 @@
 
 pub mod shapes;
 
-ghost use Rattle.std.specs.Prelude.{◌≡◌, ◌++◌, ◌∷◌, [], ℕ, List, None, codes, map, pos, negsuc, true, false};
+ghost use Rattle.std.specs.Prelude.{◌≡◌, ◌++◌, ◌∷◌, [], ℕ, List, All, None, codes, map, pos, negsuc, true, false};
 ghost use Rattle.timing_base.specs.Captures.{Record};
 ghost use Rattle.timing_base.specs.Jobs.{ScanJob, SkewJob};
 ghost use Rattle.timing_base.specs.Judged.{FlowRun, in_one_run, in_runs, judged, no_whole_frame};
-ghost use Rattle.timing_base.specs.Media.{Media};
+ghost use Rattle.timing_base.specs.Media.{IsMedia, Media};
 ghost use Rattle.timing_base.specs.declared.capture.FileNote.TheVariants as note;
 ghost use Rattle.timing_base.specs.declared.media.Kind.TheVariants.{N, NL, W};
 ghost use Rattle.timing_base.specs.declared.row.Verdict.TheVariants as verdict;

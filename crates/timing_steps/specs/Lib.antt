@@ -5,6 +5,7 @@ pub mod Ran
 pub mod Ends
 pub mod Streams
 pub mod Runs
+pub mod Flows
 -- these serve only the proofs
 pub mod Fetched
 pub mod Taken
