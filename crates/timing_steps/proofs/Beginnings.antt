@@ -1,5 +1,5 @@
 -- What the SDP of a command leads to.
-use Rattle.std.proofs.Common.{◌≡◌, [], List, ℕ, Bool, true, false, Option, Some, None, Ok, Err, inl, inr, refl, ap, ◌∙◌, sym, subst}
+use Rattle.std.proofs.Common.{◌≡◌, [], List, ℕ, Bool, true, false, Option, Some, None, Ok, Err, inr, refl, sym, subst}
 use Rattle.std.specs.Prelude.{IfErr, IfOk, Result}
 use Rattle.std.proofs.lemmas.Bool.{false≢true}
 use Rattle.timing_base.specs.Media.{Media}
@@ -8,8 +8,8 @@ use Rattle.sdp_reader.specs.declared.fault.SdpFault.{SdpFault}
 use Rattle.timing_report.specs.declared.status.Status.{Status}
 use Rattle.timing_report.specs.declared.status.Status.TheVariants as status
 use Rattle.timing_report.specs.declared.status.Input.TheVariants as input
-use Rattle.timing_steps.specs.Answers.{Answer, Gives, HasRisen, Inputs, OnReadFault, OnSession, silent}
-use Rattle.timing_steps.specs.Asks.{Asks, FollowsAsks, IsSettled, NameRose, OnEarly, ReadsAsked, ReadsMedia, WasRead, ends_of, judged_ends, refused_ends}
+use Rattle.timing_steps.specs.Answers.{Answer, HasRisen, Inputs, OnReadFault, OnSession, silent}
+use Rattle.timing_steps.specs.Asks.{Asks, IsSettled, NameRose, OnEarly, ReadsAsked, ReadsMedia, WasRead, ends_of, judged_ends, refused_ends}
 use Rattle.timing_steps.specs.Ends.{IsTextBeside, is_silent}
 use Rattle.timing_steps.specs.declared.failure.Failure.{Failure}
 use Rattle.timing_steps.proofs.Commanded.{from-media, judged-of}

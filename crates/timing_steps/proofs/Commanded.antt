@@ -1,8 +1,8 @@
 -- The run of a command, from what its steps did.
-use Rattle.std.proofs.Common.{◌≡◌, ◌≤◌, ◌+◌, ◌++◌, [], ◌∷◌, ℕ, Bool, true, false, List, length, take, map, Option, Some, None, Ok, Err, inl, inr, refl, ap}
-use Rattle.std.proofs.Common.{◌∙◌, sym, subst, arith, append-nil, length-append}
+use Rattle.std.proofs.Common.{◌≡◌, ◌≤◌, ◌++◌, [], ◌∷◌, ℕ, Bool, true, false, List, take, map, Option, Some, None, Ok, Err, inl, inr, refl, ap}
+use Rattle.std.proofs.Common.{◌∙◌, sym, subst, arith}
 use Rattle.std.specs.Prelude.{◌⊎◌, ◌||◌, IfErr, IfOk, Result, is_ok}
-use Rattle.std.proofs.lemmas.Bool.{false≢true, or_left, or_right}
+use Rattle.std.proofs.lemmas.Bool.{false≢true, or_left}
 use Rattle.std.specs.Io.KnownBytes.{Appends, Keeps}
 use Rattle.std.proofs.KnownBytes.{Appends-trans, Keeps-trans}
 use Rattle.timing_base.specs.Media.{Media}
@@ -10,18 +10,17 @@ use Rattle.std.specs.Option.{option_map}
 use Rattle.std.proofs.lemmas.List.Elements.{All-cons, All-nil}
 use Rattle.timing_outside.specs.Causes.{Rose}
 use Rattle.pcapng_reader.specs.Classic.{classic, classic_texts}
-use Rattle.sdp_reader.specs.Session.{session}
 use Rattle.timing_report.specs.declared.status.Input.{Input}
 use Rattle.timing_report.specs.declared.status.Input.TheVariants as input
 use Rattle.timing_report.specs.declared.status.Status.{Status}
 use Rattle.timing_report.specs.declared.status.Status.TheVariants as status
-use Rattle.timing_steps.specs.Answers.{Answer, AreTold, CaptureRose, Gives, Inputs, OnReadFault, OnSession, ReadsCaptures, Yields}
+use Rattle.timing_steps.specs.Answers.{Answer, AreTold, CaptureRose, Gives, Inputs, OnReadFault, OnSession, ReadsCaptures}
 use Rattle.timing_steps.specs.Asks.{AreMediaOf, AskedRose, Asks, BeginsAsks, BeginsCaptures, FollowsAsks, FollowsCaptures, HasAnswer, IsBegun, IsSettled, NameRose}
 use Rattle.timing_steps.specs.Asks.{OnEarly, ReadsAsked, ReadsMedia, WasRead, ends_of, judged_ends}
 use Rattle.timing_steps.specs.Ends.{IsTextBeside, is_failure, is_silent}
-use Rattle.timing_steps.specs.Ran.{Appended, HasCause, IsAnswered, Leaves, Output, Ran, TellsLine, status_of}
+use Rattle.timing_steps.specs.Ran.{HasCause, IsAnswered, Leaves, Output, TellsLine, status_of}
 use Rattle.timing_steps.specs.Runs.{EndsAs, FailsBy, IsQuiet, LeavesRest, RanAs, Stands, is_silent_for}
-use Rattle.timing_steps.specs.Streams.{HasBegun, HasRest, OnFailure, Rests, Streams, is_silent_stream}
+use Rattle.timing_steps.specs.Streams.{OnFailure}
 use Rattle.timing_steps.specs.declared.failure.Failure.{Failure}
 use Rattle.timing_steps.specs.declared.failure.Failure.TheVariants as failure
 use Rattle.timing_steps.proofs.Endings.{kept-none}
@@ -68,7 +67,8 @@ follows-on : (asks : Asks) (i j : Inputs) (media : List Media) (outcome : Result
 follows-on asks i j media outcome s begun (inl memory) = inl memory
 follows-on asks i j media outcome s begun (inr h) =
     inr (from-media i asks.sdp outcome media (λ m. OnEarly (asks.early m) outcome (ReadsAsked asks m i outcome)) begun.read
-    (subst (λ x. OnEarly x outcome (ReadsAsked asks media i outcome)) (sym begun.unsettled) (captures-seen i j outcome asks.captures _ s h)))
+    (subst (λ x. OnEarly x outcome (ReadsAsked asks media i outcome)) (sym begun.unsettled)
+    (captures-seen i j outcome asks.captures (λ texts. Gives outcome (HasAnswer asks media texts)) s h)))
 
 begins-on : (asks : Asks) (i j : Inputs) (media : List Media) (front : List ℕ) → Sees i j → IsBegun asks i.texts i.lacks media → BeginsCaptures asks media j front
     → BeginsAsks asks i front
@@ -80,14 +80,20 @@ begins-on asks i j media front s begun h = λ others are.
 begins-none : (asks : Asks) (i : Inputs) → BeginsAsks asks i []
 begins-none asks i = λ media are texts told. inl refl
 
+-- a write failed, or what follows
+written-or : (asks : Asks) (i j : Inputs) (media : List Media) (e : Failure) → Sees i j → IsBegun asks i.texts i.lacks media
+    → (e ≡ failure.WriteFault) ⊎ FollowsCaptures asks media j (Err e) → (e ≡ failure.WriteFault) ⊎ FollowsAsks asks i (Err e)
+written-or asks i j media e s begun (inl written) = inl written
+written-or asks i j media e s begun (inr h) = inr (follows-on asks i j media (Err e) s begun h)
+
 rests-on : (streams : Bool) (asks : Asks) (i j : Inputs) (media : List Media) (o : Output) (rest : Result Answer Failure) → Sees i j → IsBegun asks i.texts i.lacks media
     → LeavesRest streams o (FollowsCaptures asks media j) (BeginsCaptures asks media j) rest
     → LeavesRest streams o (FollowsAsks asks i) (BeginsAsks asks i) rest
 rests-on false asks i j media o rest s begun h = (h.0, follows-on asks i j media rest s begun h.1)
-rests-on true asks i j media o (Ok rest) s begun h = (h.0, h.1, follows-on asks i j media _ s begun h.2)
-rests-on true asks i j media o (Err e) s begun (inl written, front) = (inl written, (front.0, front.1, begins-on asks i j media front.0 s begun front.2))
-rests-on true asks i j media o (Err e) s begun (inr h, front) =
-    (inr (follows-on asks i j media (Err e) s begun h), (front.0, front.1, begins-on asks i j media front.0 s begun front.2))
+rests-on true asks i j media o (Ok rest) s begun h =
+    (h.0, h.1, follows-on asks i j media (Ok (record { text = h.0 ++ rest.text; status = rest.status })) s begun h.2)
+rests-on true asks i j media o (Err e) s begun h =
+    (written-or asks i j media e s begun h.0, (h.1.0, h.1.1, begins-on asks i j media h.1.0 s begun h.1.2))
 
 fails-map : (streams : Bool) (o : Output) (e : Failure) (P Q : Input → Type 0) → ((x : Input) → P x → Q x) → FailsBy streams o e P → FailsBy streams o e Q
 fails-map true o (failure.ReadFault x) P Q f h = f x h
@@ -109,18 +115,18 @@ cause-on streams asks i j o (Err e) s h =
     (λ x c. subst (AskedRose asks i) (sym c.1) (capture-seen i j asks.captures c.0 s c.2)) h
 
 -- it isn't the SDP that couldn't be read
+not-captures : (asks : Asks) (before now : List ℕ → ℕ) → CapturesRose asks before now input.Sdp → ⊥
+not-captures asks before now c = apart c.0 c.1
+  where
+    apart : (number : ℕ) → input.Sdp ≡ input.Capture number → ⊥
+    apart number e = cc
+
 captures-alone : (streams : Bool) (o : Output) (asks : Asks) (before now : List ℕ → ℕ) (rest : Result Answer Failure)
     → IfErr rest (λ e. FailsBy streams o e (CapturesRose asks before now)) → rest ≡ Err (failure.ReadFault input.Sdp) → ⊥
 captures-alone true o asks before now rest h is =
-    let c : CapturesRose asks before now input.Sdp = subst (λ r. IfErr r (λ e. OnFailure o e (CapturesRose asks before now))) is h in apart c.0 c.1
-  where
-    apart : (number : ℕ) → input.Sdp ≡ input.Capture number → ⊥
-    apart number e = cc
+    not-captures asks before now (subst (λ r. IfErr r (λ e. OnFailure o e (CapturesRose asks before now))) is h)
 captures-alone false o asks before now rest h is =
-    let c : CapturesRose asks before now input.Sdp = subst (λ r. IfErr r (λ e. OnReadFault e (CapturesRose asks before now))) is h in apart c.0 c.1
-  where
-    apart : (number : ℕ) → input.Sdp ≡ input.Capture number → ⊥
-    apart number e = cc
+    not-captures asks before now (subst (λ r. IfErr r (λ e. OnReadFault e (CapturesRose asks before now))) is h)
 
 -- the captures were read, or not
 pub stands-read : (streams : Bool) (asks : Asks) (i j : Inputs) (media : List Media) (o : Output) (rest : Result Answer Failure) → Sees i j

@@ -1,5 +1,5 @@
 -- A rest is printed behind what was written.
-use Rattle.std.proofs.Common.{◌≡◌, ◌≤◌, ◌+◌, ◌++◌, [], ◌∷◌, ℕ, zero, suc, List, length, take, Option, Some, Ok, Err, inl, inr, refl, ap, ◌∙◌, sym, subst, arith}
+use Rattle.std.proofs.Common.{◌≡◌, ◌≤◌, ◌+◌, ◌++◌, [], ◌∷◌, ℕ, suc, List, length, take, Option, Ok, Err, inl, inr, ap, ◌∙◌, sym, subst, arith}
 use Rattle.std.proofs.Common.{append-nil, length-append}
 use Rattle.std.specs.Prelude.{◌⊎◌, IfErr, IfOk, Result}
 use Rattle.std.specs.Io.KnownBytes.{Appends}

@@ -1,7 +1,7 @@
 -- What a command asks of its inputs, and the outcomes that their contents define, in the order in which they are read:
 -- the SDP, then the captures. This project's profile.
 use Rattle.std.specs.Prelude.{◌≡◌, ◌⊎◌, ℕ, Bool, true, List, [], ◌∷◌, ◌++◌, map, slice_index_or, Option, Some, None, Result}
-use Rattle.std.specs.Prelude.{Ok, Err, false}
+use Rattle.std.specs.Prelude.{Ok, false}
 use Rattle.timing_base.specs.Captures.{Record}
 use Rattle.timing_base.specs.Media.{Media}
 use Rattle.timing_base.specs.declared.capture.FileNote.{FileNote}

@@ -1,5 +1,5 @@
 -- What the commands on one capture ask: those on the flow of one media, and those on all media of the SDP.
-use Rattle.std.specs.Prelude.{ℕ, List, [], ◌∷◌, slice_get, Option, Some, None, codes, false}
+use Rattle.std.specs.Prelude.{List, [], ◌∷◌, slice_get, Option, Some, None, codes, false}
 use Rattle.timing_base.specs.Captures.{Record}
 use Rattle.timing_base.specs.Jobs.{CaptureJob, FlowJob}
 use Rattle.timing_base.specs.Media.{Media}

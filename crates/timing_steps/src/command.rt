@@ -3,9 +3,9 @@
 ghost use Rattle.std.specs.Prelude.{◌≡◌, ◌≤◌, ℕ, Bool, None, Some, IfErr, IfOk, IfSome, MatchOption, true};
 ghost use Rattle.timing_outside.specs.Shelves.{StaysAs};
 ghost use Rattle.timing_steps.specs.Answers.{CaptureRose, OnReadFault, seen_of};
-ghost use Rattle.timing_steps.specs.Asks.{Asks, BeginsCaptures, FollowsCaptures, IsBegun, IsSettled, NameRose, WasRead};
+ghost use Rattle.timing_steps.specs.Asks.{Asks, BeginsCaptures, FollowsCaptures, IsBegun, IsSettled, NameRose, WasRead, judged_ends};
 ghost use Rattle.timing_steps.specs.Ran.{output_of};
-ghost use Rattle.timing_steps.specs.Runs.{EndsAs, FailsBy, LeavesRest, RanAs, Stands, judged_ends};
+ghost use Rattle.timing_steps.specs.Runs.{EndsAs, FailsBy, LeavesRest, RanAs, Stands};
 
 use crate::answer::Answer;
 use crate::failure::Failure;
