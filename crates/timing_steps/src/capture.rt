@@ -8,7 +8,9 @@ ghost use Rattle.pcapng_reader.specs.Classic.{classic_texts};
 ghost use Rattle.timing_steps.specs.Answers.{OnReadFault};
 ghost use Rattle.timing_steps.specs.Taken.{TakesText};
 
-use crate::{Failure, fetch_classic, take_source};
+use crate::failure::Failure;
+use crate::fetch::fetch_classic;
+use crate::take::take_source;
 use pcap_reader::{Taken, Taker};
 use std::alloc::{AllocError as OutOfMemory, Global};
 use timing_outside::Shelf;
