@@ -25,4 +25,3 @@ mod Pairings
 mod Comparings
 mod Skewing
 pub mod Scannings
-pub mod lemmas

@@ -5,10 +5,10 @@ use Rattle.timing_base.specs.Jobs.{SkewJob}
 use Rattle.timing_base.specs.Media.{Media}
 use Rattle.pcapng_reader.specs.Classic.{classic, classic_texts}
 use Rattle.sdp_reader.specs.Session.{session}
-use Rattle.timing_reach.specs.steps.Answers.{Answer, AreThere, AreTold, Gives, Inputs, ReadsCaptures, ReadsSession, Yields}
-use Rattle.timing_reach.specs.declared.steps.failure.Failure.{Failure}
-use Rattle.timing_reach.proofs.lemmas.steps.Classics.{told-classic}
-use Rattle.timing_reach.proofs.lemmas.steps.Seeing.{Sees, captures-seen, follows-session, yields-on}
+use Rattle.timing_steps.specs.Answers.{Answer, AreThere, AreTold, Gives, Inputs, ReadsCaptures, ReadsSession, Yields}
+use Rattle.timing_steps.specs.declared.failure.Failure.{Failure}
+use Rattle.timing_steps.proofs.Classics.{told-classic}
+use Rattle.timing_steps.proofs.Seeing.{Sees, captures-seen, follows-session, yields-on}
 use Rattle.timing_reach.specs.skew.Comparing.{IsComparedIn}
 use Rattle.timing_reach.specs.Skewed.{HasSkew, ReadsPair, skewed}
 use Rattle.timing_reach.specs.declared.skew.compare.Compared.{Compared}

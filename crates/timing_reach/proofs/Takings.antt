@@ -8,7 +8,7 @@ use Rattle.timing_base.specs.declared.packet.FlowPacket.{FlowPacket}
 use Rattle.pcap_reader.specs.Taken.{TakesFew}
 use Rattle.pcap_reader.specs.declared.records.Taken.{Taken}
 use Rattle.pcap_reader.proofs.Captures.{map-raised}
-use Rattle.timing_reach.specs.steps.Taken.{TakesText}
+use Rattle.timing_steps.specs.Taken.{TakesText}
 use Rattle.timing_reach.specs.judged.Flows.{TakesFlow, TakesIn}
 use Rattle.timing_reach.specs.declared.judged.flows.FlowOf.{FlowOf}
 use Rattle.udp_rtp.specs.Flow.{flow_packet}

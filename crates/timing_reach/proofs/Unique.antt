@@ -14,7 +14,7 @@ use Rattle.pcap_reader.proofs.Captures.{only-records, some-records}
 use Rattle.pcap_reader.proofs.Lists.{only_by, some_by}
 use Rattle.udp_rtp.specs.Flow.{flow}
 use Rattle.timing_report.specs.declared.status.Status.TheVariants as status
-use Rattle.timing_reach.specs.steps.Answers.{Answer}
+use Rattle.timing_steps.specs.Answers.{Answer}
 use Rattle.timing_reach.specs.Asked.{HasWindow, OnFlow, OnRun, not_judged}
 use Rattle.timing_reach.specs.Skewed.{HasSkew, first_of, last_of, skewed}
 use Rattle.timing_reach.specs.Windows.{AreWindowsOf, HasLines, windows_text}

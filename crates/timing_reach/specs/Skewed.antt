@@ -21,9 +21,9 @@ use Rattle.timing_report.specs.declared.status.Input.{Input}
 use Rattle.timing_report.specs.declared.status.Input.TheVariants as input
 use Rattle.timing_report.specs.declared.status.Status.{Status}
 use Rattle.timing_report.specs.declared.status.Status.TheVariants as status
-use Rattle.timing_reach.specs.steps.Answers.{Answer, CaptureRose, Gives, HasRisen, Inputs, ReadsCaptures, ReadsSession}
-use Rattle.timing_reach.specs.steps.Answers.{Yields}
-use Rattle.timing_reach.specs.declared.steps.failure.Failure.{Failure}
+use Rattle.timing_steps.specs.Answers.{Answer, CaptureRose, Gives, HasRisen, Inputs, ReadsCaptures, ReadsSession}
+use Rattle.timing_steps.specs.Answers.{Yields}
+use Rattle.timing_steps.specs.declared.failure.Failure.{Failure}
 use Rattle.timing_reach.specs.Asked.{no_such_media}
 
 -- `pair 1.A F.B: `; F is the number of captures

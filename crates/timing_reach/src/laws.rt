@@ -2,11 +2,11 @@
 
 pub mod shapes;
 
-ghost use Rattle.std.specs.Prelude.{◌≡◌, ◌++◌, ◌∷◌, [], ℕ, List, None, codes, map, pos, negsuc, true, false};
+ghost use Rattle.std.specs.Prelude.{◌≡◌, ◌++◌, ◌∷◌, [], ℕ, List, All, None, codes, map, pos, negsuc, true, false};
 ghost use Rattle.timing_base.specs.Captures.{Record};
 ghost use Rattle.timing_base.specs.Jobs.{ScanJob, SkewJob};
 ghost use Rattle.timing_base.specs.Judged.{FlowRun, in_one_run, in_runs, judged, no_whole_frame};
-ghost use Rattle.timing_base.specs.Media.{Media};
+ghost use Rattle.timing_base.specs.Media.{IsMedia, Media};
 ghost use Rattle.timing_base.specs.declared.capture.FileNote.TheVariants as note;
 ghost use Rattle.timing_base.specs.declared.media.Kind.TheVariants.{N, NL, W};
 ghost use Rattle.timing_base.specs.declared.row.Verdict.TheVariants as verdict;
@@ -15,9 +15,10 @@ ghost use Rattle.offset_window.specs.declared.window.WindowEnd.TheVariants.{Abse
 ghost use Rattle.path_skew.specs.Examples.{at_records, told};
 ghost use Rattle.sender_params.specs.Worked.{hd_50};
 ghost use Rattle.timing_report.specs.declared.status.Status.TheVariants as status;
-ghost use Rattle.timing_reach.specs.steps.Answers.{Answer};
+ghost use Rattle.timing_steps.specs.Answers.{Answer};
 ghost use Rattle.timing_reach.specs.Asked.{HasWindow, OnRun, no_such_media, not_judged};
-ghost use Rattle.timing_reach.specs.Scanned.{HasScan};
+ghost use Rattle.timing_reach.specs.Scanned.{scan_asks};
+ghost use Rattle.timing_steps.specs.Asks.{HasAnswer};
 ghost use Rattle.timing_reach.specs.Skewed.{HasSkew, first_of, last_of, skew_status, skewed};
 ghost use Rattle.timing_reach.specs.Windows.{HasLines, window_line};
 ghost use Rattle.timing_reach.specs.Worked.{bound_at, from_to, narrow_frame, pair_of};
@@ -124,7 +125,8 @@ pub fn pairs_by_hand()
 
 /// The contents of the capture of `scan` have exactly one answer.
 pub fn one_scan_answer()
-    ensures some { (job : ScanJob) (text : List ℕ) → (answer : Answer) × HasScan job text answer }
-    ensures once { (job : ScanJob) (text : List ℕ) (a b : Answer)
-        → HasScan job text a → HasScan job text b → a ≡ b }
+    ensures some { (job : ScanJob) (media : List Media) (texts : List (List ℕ)) → All IsMedia media
+        → (answer : Answer) × HasAnswer (scan_asks job) media texts answer }
+    ensures once { (job : ScanJob) (media : List Media) (texts : List (List ℕ)) (a b : Answer)
+        → HasAnswer (scan_asks job) media texts a → HasAnswer (scan_asks job) media texts b → a ≡ b }
 {}

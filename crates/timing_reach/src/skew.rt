@@ -7,15 +7,15 @@ mod words;
 
 ghost use Rattle.std.specs.Prelude.{IfOk, Some, slice_get};
 ghost use Rattle.timing_outside.specs.Shelves.{StaysAs};
-ghost use Rattle.timing_reach.specs.steps.Answers.{Gives, ReadsCaptures, Yields, seen_of};
-ghost use Rattle.timing_reach.specs.steps.Ends.{EndsWith, HasStatus, look_ends};
-ghost use Rattle.timing_reach.specs.steps.Ran.{HasCause, Ran, output_of};
+ghost use Rattle.timing_steps.specs.Answers.{Gives, ReadsCaptures, Yields, seen_of};
+ghost use Rattle.timing_steps.specs.Ends.{EndsWith, HasStatus, look_ends};
+ghost use Rattle.timing_steps.specs.Ran.{HasCause, Ran, output_of};
 ghost use Rattle.timing_reach.specs.Skewed.{FollowsSkew, HasSkew, ReadsPair, SkewInputRose};
 
 use crate::judged::words::no_such_media;
 use crate::skew::compare::compare;
 use crate::skew::words::skewed;
-use crate::steps::{Answer, Failure, conclude, fetch_session};
+use timing_steps::{Answer, Failure, conclude, fetch_session};
 use std::alloc::Global;
 use timing_base::{Media, SkewJob};
 use timing_outside::{Shelf, Sink};

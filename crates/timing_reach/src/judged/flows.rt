@@ -11,15 +11,15 @@ ghost use Rattle.timing_outside.specs.Causes.{Rose};
 ghost use Rattle.timing_outside.specs.Shelves.{StaysAs};
 ghost use Rattle.pcap_reader.specs.Taken.{TakesFew};
 ghost use Rattle.pcapng_reader.specs.Classic.{classic_texts};
-ghost use Rattle.timing_reach.specs.steps.Answers.{OnReadFault};
+ghost use Rattle.timing_steps.specs.Answers.{OnReadFault};
 ghost use Rattle.timing_base.specs.Targets.{target_of};
 ghost use Rattle.udp_rtp.specs.Carried.{carries};
 ghost use Rattle.udp_rtp.specs.Flow.{flow_packet};
 ghost use Rattle.timing_base.specs.declared.packet.Rtp.{Rtp as RtpValue};
 ghost use Rattle.timing_reach.specs.judged.Flows.{TakesIn};
 
-use crate::judged::captures::take_capture;
-use crate::steps::Failure;
+use timing_steps::take_capture;
+use timing_steps::Failure;
 use pcap_reader::Taker;
 use std::alloc::{AllocError as OutOfMemory, Global};
 use timing_base::{FlowPacket, Media, Rtp};

@@ -15,7 +15,7 @@ use Rattle.flow_measure.specs.rows.Rows.{header_text}
 use Rattle.flow_measure.specs.rows.Told.{AreRowsSoFar, Tells}
 use Rattle.flow_measure.specs.declared.rows.rows.Rows.{Rows}
 use Rattle.timing_reach.specs.Asked.{not_judged}
-use Rattle.timing_reach.specs.steps.Answers.{Answer}
+use Rattle.timing_steps.specs.Answers.{Answer}
 use Rattle.timing_measure.specs.series.Ends.{IsRestOf}
 use Rattle.timing_measure.specs.series.Rows.{AreRowsOfFlow, AreRowsUpTo}
 use Rattle.timing_measure.specs.series.Series.{series_of}

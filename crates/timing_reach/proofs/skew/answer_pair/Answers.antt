@@ -1,4 +1,4 @@
-use Rattle.timing_reach.specs.steps.Answers.{seen_of}
+use Rattle.timing_steps.specs.Answers.{seen_of}
 use Rattle.timing_reach.proofs.Skewing.{pair-follows}
 use Rattle.timing_reach.proofs.skew.answer_pair.Goals as goal
 

@@ -1,6 +1,6 @@
 use Rattle.std.proofs.Common.{rules, ◌≡◌, ◌∙◌}
-use Rattle.timing_reach.specs.steps.Answers.{seen_of}
-use Rattle.timing_reach.proofs.lemmas.steps.Seeing.{sees-rest}
+use Rattle.timing_steps.specs.Answers.{seen_of}
+use Rattle.timing_steps.proofs.Seeing.{sees-rest}
 use Rattle.timing_reach.proofs.Skewing.{skew-session}
 use Rattle.timing_reach.proofs.skew.answer_skew.Goals as goal
 

@@ -1,5 +1,5 @@
 use Rattle.std.proofs.Common.{◌∙◌, refl, subst, sym}
-use Rattle.timing_reach.specs.steps.Ran.{output_of}
+use Rattle.timing_steps.specs.Ran.{output_of}
 use Rattle.timing_reach.proofs.Takings.{if-ok}
 use Rattle.timing_measure.specs.series.Copies.{CopiesIn}
 use Rattle.timing_measure.proofs.lemmas.series.Capturing.{copied-stopped, copies-in, front-none, stopped-none}

@@ -1,0 +1,332 @@
+-- The run of a command, from what its steps did.
+use Rattle.std.proofs.Common.{◌≡◌, ◌≤◌, ◌++◌, [], ◌∷◌, ℕ, Bool, true, false, List, take, map, Option, Some, None, Ok, Err, inl, inr, refl, ap}
+use Rattle.std.proofs.Common.{◌∙◌, sym, subst, arith}
+use Rattle.std.specs.Prelude.{◌⊎◌, ◌||◌, IfErr, IfOk, Result, is_ok}
+use Rattle.std.proofs.lemmas.Bool.{false≢true, or_left}
+use Rattle.std.specs.Io.KnownBytes.{Appends, Keeps}
+use Rattle.std.proofs.KnownBytes.{Appends-trans, Keeps-trans}
+use Rattle.timing_base.specs.Media.{Media}
+use Rattle.std.specs.Option.{option_map}
+use Rattle.std.proofs.lemmas.List.Elements.{All-cons, All-nil}
+use Rattle.timing_outside.specs.Causes.{Rose}
+use Rattle.pcapng_reader.specs.Classic.{classic, classic_texts}
+use Rattle.timing_report.specs.declared.status.Input.{Input}
+use Rattle.timing_report.specs.declared.status.Input.TheVariants as input
+use Rattle.timing_report.specs.declared.status.Status.{Status}
+use Rattle.timing_report.specs.declared.status.Status.TheVariants as status
+use Rattle.timing_steps.specs.Answers.{Answer, AreTold, CaptureRose, Gives, Inputs, OnReadFault, OnSession, ReadsCaptures}
+use Rattle.timing_steps.specs.Asks.{AreMediaOf, AskedRose, Asks, BeginsAsks, BeginsCaptures, FollowsAsks, FollowsCaptures, HasAnswer, IsBegun, IsSettled, NameRose}
+use Rattle.timing_steps.specs.Asks.{OnEarly, ReadsAsked, ReadsMedia, WasRead, ends_of, judged_ends}
+use Rattle.timing_steps.specs.Ends.{IsTextBeside, is_failure, is_silent}
+use Rattle.timing_steps.specs.Ran.{HasCause, IsAnswered, Leaves, Output, TellsLine, status_of}
+use Rattle.timing_steps.specs.Runs.{EndsAs, FailsBy, IsQuiet, LeavesRest, RanAs, Stands, is_silent_for}
+use Rattle.timing_steps.specs.Streams.{OnFailure}
+use Rattle.timing_steps.specs.declared.failure.Failure.{Failure}
+use Rattle.timing_steps.specs.declared.failure.Failure.TheVariants as failure
+use Rattle.timing_steps.proofs.Endings.{kept-none}
+use Rattle.timing_steps.proofs.Resting.{printed-rest}
+use Rattle.timing_steps.proofs.Seeing.{Sees, capture-seen, captures-seen, told-seen}
+
+-- statuses of answers that captures define: none is that of a failure, and none is silent
+judged-loud : (streams checks : Bool) (s : Status) → judged_ends checks s ≡ true → is_silent_for streams s ≡ true → ⊥
+judged-loud true checks status.Pass h q = false≢true q
+judged-loud true checks status.Fail h q = false≢true q
+judged-loud true checks status.NotAllJudged h q = false≢true q
+judged-loud true checks s h q = false≢true h
+judged-loud false checks status.Pass h q = false≢true q
+judged-loud false checks status.Fail h q = false≢true q
+judged-loud false checks status.NotAllJudged h q = false≢true q
+judged-loud false checks s h q = false≢true h
+
+pub judged-of : (asks : Asks) (s : Status) → judged_ends asks.checks s ≡ true → ends_of asks s ≡ true
+judged-of asks (status.SdpRefused fault) h = absurd (false≢true h)
+judged-of asks s h = h
+
+pub ends-answered : (asks : Asks) (s : Status) → ends_of asks s ≡ true → IsAnswered s
+ends-answered asks (status.ReadFault x) h = absurd (false≢true h)
+ends-answered asks status.WriteFault h = absurd (false≢true h)
+ends-answered asks status.OutOfMemory h = absurd (false≢true h)
+ends-answered asks s h = tt
+
+-- the media that were read are those of the SDP
+media-of : (i : Inputs) (sdp : Option (List ℕ)) (media others : List Media) → WasRead i.texts i.lacks sdp (Ok media) → AreMediaOf i sdp others → media ≡ others
+media-of i None media others read are = let same : Ok media ≡ Ok [] = read in let none : media ≡ [] = cc in none ∙ sym are
+media-of i (Some name) media others read are =
+    let same : Ok media ≡ Ok others = sym (read.1 are.0 are.1) ∙ are.2 in cc
+
+-- what follows over the media that were read follows for the command
+pub from-media : (i : Inputs) (sdp : Option (List ℕ)) (outcome : Result Answer Failure) (media : List Media) (next : List Media → Type 0) → WasRead i.texts i.lacks sdp (Ok media)
+    → next media → ReadsMedia i outcome sdp next
+from-media i None outcome media next read h = let same : Ok media ≡ Ok [] = read in let none : media ≡ [] = cc in subst next none h
+from-media i (Some name) outcome media next read h =
+    inr (read.0, λ text t. subst (λ s. OnSession s outcome next) (sym (read.1 text t)) h)
+
+-- what a part of the run followed, the whole follows
+follows-on : (asks : Asks) (i j : Inputs) (media : List Media) (outcome : Result Answer Failure) → Sees i j → IsBegun asks i.texts i.lacks media
+    → FollowsCaptures asks media j outcome → FollowsAsks asks i outcome
+follows-on asks i j media outcome s begun (inl memory) = inl memory
+follows-on asks i j media outcome s begun (inr h) =
+    inr (from-media i asks.sdp outcome media (λ m. OnEarly (asks.early m) outcome (ReadsAsked asks m i outcome)) begun.read
+    (subst (λ x. OnEarly x outcome (ReadsAsked asks media i outcome)) (sym begun.unsettled)
+    (captures-seen i j outcome asks.captures (λ texts. Gives outcome (HasAnswer asks media texts)) s h)))
+
+begins-on : (asks : Asks) (i j : Inputs) (media : List Media) (front : List ℕ) → Sees i j → IsBegun asks i.texts i.lacks media → BeginsCaptures asks media j front
+    → BeginsAsks asks i front
+begins-on asks i j media front s begun h = λ others are.
+    subst (λ m. BeginsCaptures asks m i front) (media-of i asks.sdp media others begun.read are)
+    (λ texts told. h texts (told-seen i j asks.captures texts s told))
+
+-- with nothing printed
+begins-none : (asks : Asks) (i : Inputs) → BeginsAsks asks i []
+begins-none asks i = λ media are texts told. inl refl
+
+-- a write failed, or what follows
+written-or : (asks : Asks) (i j : Inputs) (media : List Media) (e : Failure) → Sees i j → IsBegun asks i.texts i.lacks media
+    → (e ≡ failure.WriteFault) ⊎ FollowsCaptures asks media j (Err e) → (e ≡ failure.WriteFault) ⊎ FollowsAsks asks i (Err e)
+written-or asks i j media e s begun (inl written) = inl written
+written-or asks i j media e s begun (inr h) = inr (follows-on asks i j media (Err e) s begun h)
+
+rests-on : (streams : Bool) (asks : Asks) (i j : Inputs) (media : List Media) (o : Output) (rest : Result Answer Failure) → Sees i j → IsBegun asks i.texts i.lacks media
+    → LeavesRest streams o (FollowsCaptures asks media j) (BeginsCaptures asks media j) rest
+    → LeavesRest streams o (FollowsAsks asks i) (BeginsAsks asks i) rest
+rests-on false asks i j media o rest s begun h = (h.0, follows-on asks i j media rest s begun h.1)
+rests-on true asks i j media o (Ok rest) s begun h =
+    (h.0, h.1, follows-on asks i j media (Ok (record { text = h.0 ++ rest.text; status = rest.status })) s begun h.2)
+rests-on true asks i j media o (Err e) s begun h =
+    (written-or asks i j media e s begun h.0, (h.1.0, h.1.1, begins-on asks i j media h.1.0 s begun h.1.2))
+
+fails-map : (streams : Bool) (o : Output) (e : Failure) (P Q : Input → Type 0) → ((x : Input) → P x → Q x) → FailsBy streams o e P → FailsBy streams o e Q
+fails-map true o (failure.ReadFault x) P Q f h = f x h
+fails-map true o failure.WriteFault P Q f h = h
+fails-map true o failure.OutOfMemory P Q f h = tt
+fails-map false o (failure.ReadFault x) P Q f h = f x h
+fails-map false o failure.WriteFault P Q f h = h
+fails-map false o failure.OutOfMemory P Q f h = tt
+
+-- the causes that the captures of a command may have
+abbrev pub CapturesRose : Asks → (before now : List ℕ → ℕ) → Input → Type 0
+CapturesRose asks before now x = (number : ℕ) × (x ≡ input.Capture number) × CaptureRose before now asks.captures number
+
+cause-on : (streams : Bool) (asks : Asks) (i j : Inputs) (o : Output) (rest : Result Answer Failure) → Sees i j
+    → IfErr rest (λ e. FailsBy streams o e (CapturesRose asks j.before j.now)) → IfErr rest (λ e. FailsBy streams o e (AskedRose asks i))
+cause-on streams asks i j o (Ok r) s h = tt
+cause-on streams asks i j o (Err e) s h =
+    fails-map streams o e (CapturesRose asks j.before j.now) (AskedRose asks i)
+    (λ x c. subst (AskedRose asks i) (sym c.1) (capture-seen i j asks.captures c.0 s c.2)) h
+
+-- it isn't the SDP that couldn't be read
+not-captures : (asks : Asks) (before now : List ℕ → ℕ) → CapturesRose asks before now input.Sdp → ⊥
+not-captures asks before now c = apart c.0 c.1
+  where
+    apart : (number : ℕ) → input.Sdp ≡ input.Capture number → ⊥
+    apart number e = cc
+
+captures-alone : (streams : Bool) (o : Output) (asks : Asks) (before now : List ℕ → ℕ) (rest : Result Answer Failure)
+    → IfErr rest (λ e. FailsBy streams o e (CapturesRose asks before now)) → rest ≡ Err (failure.ReadFault input.Sdp) → ⊥
+captures-alone true o asks before now rest h is =
+    not-captures asks before now (subst (λ r. IfErr r (λ e. OnFailure o e (CapturesRose asks before now))) is h)
+captures-alone false o asks before now rest h is =
+    not-captures asks before now (subst (λ r. IfErr r (λ e. OnReadFault e (CapturesRose asks before now))) is h)
+
+-- the captures were read, or not
+pub stands-read : (streams : Bool) (asks : Asks) (i j : Inputs) (media : List Media) (o : Output) (rest : Result Answer Failure) → Sees i j
+    → IsBegun asks i.texts i.lacks media
+    → LeavesRest streams o (FollowsCaptures asks media j) (BeginsCaptures asks media j) rest
+    → IfOk rest (λ r. judged_ends asks.checks r.status ≡ true)
+    → IfErr rest (λ e. FailsBy streams o e (CapturesRose asks j.before j.now)) → Stands streams asks i o rest
+stands-read streams asks i j media o (Ok r) s begun rests ends cause = record {
+  rests = rests-on streams asks i j media o (Ok r) s begun rests;
+  ends = judged-of asks r.status ends;
+  quiet = λ q. absurd (judged-loud streams asks.checks r.status ends q);
+  cause = tt;
+  unread = λ is. absurd (captures-alone streams o asks j.before j.now (Ok r) tt is);
+}
+stands-read streams asks i j media o (Err e) s begun rests ends cause = record {
+  rests = rests-on streams asks i j media o (Err e) s begun rests;
+  ends = tt;
+  quiet = tt;
+  cause = cause-on streams asks i j o (Err e) s cause;
+  unread = λ is. absurd (captures-alone streams o asks j.before j.now (Err e) cause is);
+}
+
+-- nothing was printed: an outcome of a command of either kind
+pub rests-kept : (streams : Bool) (o : Output) (Follows : Result Answer Failure → Type 0) (Begins : List ℕ → Type 0) (rest : Result Answer Failure)
+    → Keeps o.old o.new → Begins [] → Follows rest → LeavesRest streams o Follows Begins rest
+rests-kept false o Follows Begins rest kept begins h = (kept, h)
+rests-kept true o Follows Begins (Ok r) kept begins h = ([], kept-none o.old o.new kept, h)
+rests-kept true o Follows Begins (Err e) kept begins h = (inr h, ([], kept-none o.old o.new kept, begins))
+
+quiet-kept : (streams : Bool) (o : Output) (answer : Answer) → Keeps o.old o.new → IsTextBeside (is_silent answer.status) answer.text
+    → is_silent_for streams answer.status ≡ true → IsQuiet o answer
+quiet-kept streams o answer kept beside q = record {
+  before = kept-none o.old o.new kept;
+  after = subst (λ (b : Bool). IsTextBeside b answer.text) (silent-of streams answer.status q) beside;
+}
+  where
+    silent-of : (streams : Bool) (s : Status) → is_silent_for streams s ≡ true → is_silent s ≡ true
+    silent-of false s q = q
+    silent-of true (status.SdpRefused fault) q = refl
+    silent-of true (status.ReadFault x) q = refl
+    silent-of true s q = absurd (false≢true q)
+
+-- the SDP is refused, or its media settle the answer
+pub stands-settled : (streams : Bool) (asks : Asks) (i : Inputs) (o : Output) (answer : Answer) → Keeps o.old o.new → IsSettled asks i answer
+    → Stands streams asks i o (Ok answer)
+stands-settled streams asks i o answer kept h = record {
+  rests = rests-kept streams o (FollowsAsks asks i) (BeginsAsks asks i) (Ok answer) kept (begins-none asks i) h.follows;
+  ends = h.ends;
+  quiet = quiet-kept streams o answer kept h.beside;
+  cause = tt;
+  unread = λ is. kept-none o.old o.new kept;
+}
+
+-- the SDP couldn't be read
+unread-follows : (asks : Asks) (i : Inputs) (e : Failure) → OnReadFault e (λ x. (x ≡ input.Sdp) × NameRose i asks.sdp) → FollowsAsks asks i (Err e)
+unread-follows asks i (failure.ReadFault x) h = inr (go asks.sdp h.1)
+  where
+    go : (sdp : Option (List ℕ)) → NameRose i sdp
+        → ReadsMedia i (Err (failure.ReadFault x)) sdp (λ m. OnEarly (asks.early m) (Err (failure.ReadFault x)) (ReadsAsked asks m i (Err (failure.ReadFault x))))
+    go None rose = absurd rose
+    go (Some name) rose = inl (ap (λ y. Err (failure.ReadFault y)) h.0, rose)
+unread-follows asks i failure.WriteFault h = absurd h
+unread-follows asks i failure.OutOfMemory h = inl refl
+
+unread-cause : (streams : Bool) (asks : Asks) (i : Inputs) (o : Output) (e : Failure) → OnReadFault e (λ x. (x ≡ input.Sdp) × NameRose i asks.sdp)
+    → FailsBy streams o e (AskedRose asks i)
+unread-cause true asks i o (failure.ReadFault x) h = subst (AskedRose asks i) (sym h.0) h.1
+unread-cause true asks i o failure.WriteFault h = absurd h
+unread-cause true asks i o failure.OutOfMemory h = tt
+unread-cause false asks i o (failure.ReadFault x) h = subst (AskedRose asks i) (sym h.0) h.1
+unread-cause false asks i o failure.WriteFault h = absurd h
+unread-cause false asks i o failure.OutOfMemory h = tt
+
+pub stands-unread : (streams : Bool) (asks : Asks) (i : Inputs) (o : Output) (rest : Result Answer Failure) → Keeps o.old o.new → is_ok rest ≡ false
+    → IfErr rest (λ e. OnReadFault e (λ x. (x ≡ input.Sdp) × NameRose i asks.sdp)) → Stands streams asks i o rest
+stands-unread streams asks i o (Ok r) kept failed cause = absurd (false≢true (sym failed))
+stands-unread streams asks i o (Err e) kept failed cause = record {
+  rests = rests-kept streams o (FollowsAsks asks i) (BeginsAsks asks i) (Err e) kept (begins-none asks i) (unread-follows asks i e cause);
+  ends = tt;
+  quiet = tt;
+  cause = unread-cause streams asks i o e cause;
+  unread = λ is. kept-none o.old o.new kept;
+}
+
+-- an answer that was printed behind nothing
+kept-appends : (old mid new : Option (List ℕ)) (text : List ℕ) → Keeps old mid → Appends mid new text → Appends old new text
+kept-appends old mid new text kept h = Appends-trans old mid new [] text (kept-none old mid kept) h
+
+leaves-kept : (old mid new : Option (List ℕ)) (before between now : ℕ) (rest : Result Answer Failure) (ends : Status) → before ≤ between → Keeps old mid
+    → Leaves (record { old = mid; new = new; before = between; now = now }) rest ends
+    → Leaves (record { old = old; new = new; before = before; now = now }) rest ends
+leaves-kept old mid new before between now (Ok r) ends later kept (inl p) = inl (p.0, kept-appends old mid new r.text kept p.1)
+leaves-kept old mid new before between now (Ok r) ends later kept (inr p) =
+    inr (p.0, (omega (arith, later, p.1.0), (p.1.1.0, p.1.1.1, kept-appends old mid new (take p.1.1.0 r.text) kept p.1.1.2)))
+leaves-kept old mid new before between now (Err e) ends later kept p = (p.0, Keeps-trans old mid new kept p.1)
+
+whole-cause : (asks : Asks) (i : Inputs) (rest : Result Answer Failure) → IfOk rest (λ r. ends_of asks r.status ≡ true)
+    → IfErr rest (λ e. OnReadFault e (AskedRose asks i)) → HasCause rest (AskedRose asks i)
+whole-cause asks i (Ok r) ends cause = ends-answered asks r.status ends
+whole-cause asks i (Err e) ends cause = cause
+
+-- the end of a run
+pub ran-by : (streams : Bool) (asks : Asks) (i : Inputs) (old mid new : Option (List ℕ)) (before between now : ℕ) (e : Output) (rest : Result Answer Failure)
+    (ends : Status) → before ≤ between → between ≤ now
+    → Stands streams asks i (record { old = old; new = mid; before = before; now = between }) rest
+    → Leaves (record { old = mid; new = new; before = between; now = now }) rest ends → TellsLine e ends → e.before ≤ e.now
+    → RanAs streams asks i (record { old = old; new = new; before = before; now = now }) e ends
+ran-by false asks i old mid new before between now e rest ends first second h p told later = record {
+  outcome = rest;
+  follows = h.rests.1;
+  cause = whole-cause asks i rest h.ends h.cause;
+  printed = leaves-kept old mid new before between now rest ends first h.rests.0 p;
+  told = told;
+  later_out = omega (arith, first, second);
+  later_err = later;
+}
+ran-by true asks i old mid new before between now e rest ends first second h p told later =
+    let r = printed-rest old mid new before between now (FollowsAsks asks i) (BeginsAsks asks i) (AskedRose asks i) rest ends first second h.rests
+    (answered rest h.ends) h.cause p in
+    record {
+      outcome = r.outcome;
+      follows = r.follows;
+      cause = r.cause;
+      printed = r.printed;
+      told = told;
+      later_out = omega (arith, first, second);
+      later_err = later;
+    }
+  where
+    answered : (rest : Result Answer Failure) → IfOk rest (λ r. ends_of asks r.status ≡ true) → IfOk rest (λ r. IsAnswered r.status)
+    answered (Ok r) h = ends-answered asks r.status h
+    answered (Err e) h = tt
+
+failed-ends : (asks : Asks) (e : Failure) → ends_of asks (status_of e) || is_failure (status_of e) ≡ true
+failed-ends asks (failure.ReadFault x) = refl
+failed-ends asks failure.WriteFault = refl
+failed-ends asks failure.OutOfMemory = refl
+
+-- the failures whose status is silent
+failed-quiet : (streams : Bool) (asks : Asks) (i : Inputs) (old mid new : Option (List ℕ)) (before between : ℕ) (e : Failure)
+    → Stands streams asks i (record { old = old; new = mid; before = before; now = between }) (Err e) → Keeps mid new
+    → is_silent_for streams (status_of e) ≡ true → Appends old new []
+failed-quiet false asks i old mid new before between e h kept q = kept-none old new (Keeps-trans old mid new h.rests.0 kept)
+failed-quiet true asks i old mid new before between (failure.ReadFault input.Sdp) h kept q =
+    Appends-trans old mid new [] [] (h.unread refl) (kept-none mid new kept)
+failed-quiet true asks i old mid new before between e h kept q = absurd (false≢true q)
+
+write-loud : (streams : Bool) → is_silent_for streams status.WriteFault ≡ true → ⊥
+write-loud true q = false≢true q
+write-loud false q = false≢true q
+
+pub ends-by : (streams : Bool) (asks : Asks) (i : Inputs) (old mid new : Option (List ℕ)) (before between now : ℕ) (rest : Result Answer Failure) (ends : Status)
+    → Stands streams asks i (record { old = old; new = mid; before = before; now = between }) rest
+    → Leaves (record { old = mid; new = new; before = between; now = now }) rest ends
+    → EndsAs streams asks (record { old = old; new = new; before = before; now = now }) ends
+ends-by streams asks i old mid new before between now (Ok r) ends h (inl p) =
+    subst (EndsAs streams asks (record { old = old; new = new; before = before; now = now })) (sym p.0) (record {
+      status_is = or_left (ends_of asks r.status) (is_failure r.status) h.ends;
+      silent = λ q. subst (Appends old new) (h.quiet q).after (Appends-trans old mid new [] r.text (h.quiet q).before p.1);
+    })
+ends-by streams asks i old mid new before between now (Ok r) ends h (inr p) =
+    subst (EndsAs streams asks (record { old = old; new = new; before = before; now = now })) (sym p.0) (record { status_is = refl; silent = λ q. absurd (write-loud streams q) })
+ends-by streams asks i old mid new before between now (Err e) ends h p =
+    subst (EndsAs streams asks (record { old = old; new = new; before = before; now = now })) (sym p.0) (record {
+      status_is = failed-ends asks e;
+      silent = failed-quiet streams asks i old mid new before between e h p.1;
+    })
+
+-- one capture that was read, or couldn't be
+pub reads-one : (asks : Asks) (media : List Media) (i : Inputs) (name : List ℕ) (outcome : Result Answer Failure) → asks.captures ≡ name ∷ []
+    → IfOk outcome (λ answer. (text : List ℕ) → classic_texts i.texts name ≡ Some text → HasAnswer asks media (text ∷ []) answer)
+    → IfOk outcome (λ _. ¬ i.lacks name)
+    → IfErr outcome (λ e. OnReadFault e (λ x. (x ≡ input.Capture 0) × Rose (i.before name) (i.now name)))
+    → FollowsCaptures asks media i outcome
+reads-one asks media i name (Ok answer) is told there cause =
+    inr (subst (λ names. ReadsCaptures i (Ok answer) names (λ texts. Gives (Ok answer) (HasAnswer asks media texts))) (sym is) (inr (
+      All-cons (λ n. ¬ i.lacks n) name [] there (All-nil (λ n. ¬ i.lacks n)),
+      given,
+    )))
+  where
+    given : (texts : List (List ℕ)) → AreTold i.texts (name ∷ []) texts → Gives (Ok answer) (HasAnswer asks media (map classic texts))
+    given [] are = absurd are
+    given (text ∷ []) are = (answer, refl, told (classic text) (ap (option_map classic) are.0))
+    given (text ∷ other ∷ others) are = absurd are.1
+reads-one asks media i name (Err (failure.ReadFault x)) is told there cause =
+    inr (subst (λ names. ReadsCaptures i (Err (failure.ReadFault x)) names (λ texts. Gives (Err (failure.ReadFault x)) (HasAnswer asks media texts)))
+    (sym is) (inl (0, ap (λ y. Err (failure.ReadFault y)) cause.0, record { within = omega arith; rose = cause.1 })))
+reads-one asks media i name (Err failure.WriteFault) is told there cause = absurd cause
+reads-one asks media i name (Err failure.OutOfMemory) is told there cause = inl refl
+
+-- the one capture is the first of the list of captures
+pub only-capture : (before now : List ℕ → ℕ) (name : List ℕ) (e : Failure) → OnReadFault e (λ x. (x ≡ input.Capture 0) × Rose (before name) (now name))
+    → OnReadFault e (λ x. (number : ℕ) × (x ≡ input.Capture number) × CaptureRose before now (name ∷ []) number)
+only-capture before now name (failure.ReadFault x) h = (0, h.0, record { within = omega arith; rose = h.1 })
+only-capture before now name failure.WriteFault h = h
+only-capture before now name failure.OutOfMemory h = tt
+
+-- a step that reads nothing has no read fault
+pub captures-cause : (outcome : Result Answer Failure) (P : Input → Type 0) → IfErr outcome (λ e. OnReadFault e (λ _. ⊥)) → IfErr outcome (λ e. OnReadFault e P)
+captures-cause (Ok answer) P h = tt
+captures-cause (Err (failure.ReadFault x)) P h = absurd h
+captures-cause (Err failure.WriteFault) P h = absurd h
+captures-cause (Err failure.OutOfMemory) P h = tt
