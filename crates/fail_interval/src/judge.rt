@@ -166,13 +166,13 @@ impl<M: RunMeter> FlowJudge<M> {
     /// The packet is taken, and the result is `true`, if the first frame or field of its run is complete and the packet
     /// has no fault. Else the result is `false`, nothing changes, and the caller passes the packet to `feed`. The
     /// result is also `false` if no packet is expected, or if memory ran out before. Returns `Err` if memory runs out;
-    /// every later call of `feed` then returns `Err` too.
+    /// the packet then counts as fed, and every later call of `feed` returns `Err` too.
     #[inline(always)]
     pub fn feed_judged(&mut self, rec: u64, at: u64) -> Result<bool, OutOfMemory>
         requires stamp { IsStamp at }
         requires few { count_fed self.old < 2 ^ 41 }
 
-        ensures fed { count_fed self.new ≤ count_fed self.old + 1 }
+        ensures fed { OnErr result (count_fed self.new ≡ count_fed self.old + 1) }
         ensures other { result ≡ Ok false → self.new ≡ self.old }
         ensures took { result ≡ Ok true → TakesExpected self.old self.new at }
         ensures tells { result ≡ Ok true → M.WANTS_LEVELS ≡ true

@@ -124,8 +124,22 @@ impl<F: FlowTaker> Demux<F> {
         if !self.flows[ahead].take_next(number, at, frame)? {
             return Ok(false);
         }
-        Order::pass_in(&mut self.order, ahead);
+        self.pass(ahead);
         Ok(true)
+    }
+
+    /// Notes that the flow with the next turn took its packet. With one media there is nothing to note: it is always
+    /// its turn.
+    #[inline(always)]
+    fn pass(&mut self, ahead: usize)
+        requires ready { IsReady F.expects self.old }
+        requires within { ahead < length (flows_of self.old) }
+        ensures flows { flows_of self.new ≡ flows_of self.old }
+        ensures ready { IsReady F.expects self.new }
+    {
+        if self.flows.len() > 1 {
+            Order::pass_in(&mut self.order, ahead);
+        }
     }
 
     /// Returns the position of the flow with the next turn, counted from 0, or `None` if no order is kept. With one

@@ -8,9 +8,10 @@ ghost use Rattle.udp_rtp.specs.Frames.{datagram_of};
 ghost use Rattle.flow_demux.specs.Readings.{IsReading};
 
 use crate::taker::FlowTaker;
+use pcap_reader::Taker;
 use std::alloc::AllocError as OutOfMemory;
 use timing_base::{FlowPacket, Media};
-use udp_rtp::{Awaited, Datagram, read_rtp};
+use udp_rtp::{Awaited, Datagram, datagram, read_rtp};
 
 /// The flow of a media, and its taker.
 #[derive(Drop)]
@@ -147,5 +148,79 @@ impl<F: FlowTaker> MediaFlow<F> {
         };
         self.take_packet(&packet, frame)?;
         Ok(true)
+    }
+
+    /// Takes a packet record: its number, counted from 1, its capture timestamp in nanoseconds since 1970-01-01
+    /// 00:00:00, and the captured bytes of its Ethernet frame. Returns `Err` if memory runs out; what was taken is then
+    /// unspecified.
+    #[inline(always)]
+    pub fn take_record(&mut self, number: u64, at: u64, frame: &[u8]) -> Result<(), OutOfMemory>
+        requires stamp { IsStamp at }
+        requires short { length frame.now ≤ 262144 }
+        requires room { F.room 1 self.old.taker }
+        requires awaits { AwaitsExpected F.expects self.old }
+        ensures media { self.new.media ≡ self.old.media }
+        ensures awaits { AwaitsExpected F.expects self.new }
+        ensures room { (count : ℕ) → IfOk result (λ _. F.room (count + 1) self.old.taker
+            → F.room count self.new.taker) }
+        ensures takes { IfOk result (λ _. TakesFlow F.takes self.old self.new
+            (record { number = number; stamp = at; bytes = frame.now } ∷ [])) }
+    {
+        if self.take_next(number, at, frame)? {
+            return Ok(());
+        }
+        self.take_read(number, at, frame)
+    }
+
+    /// Takes a packet record as [`MediaFlow::take_record`] does, whatever its frame contains.
+    #[cold]
+    #[inline(never)]
+    fn take_read(&mut self, number: u64, at: u64, frame: &[u8]) -> Result<(), OutOfMemory>
+        requires stamp { IsStamp at }
+        requires short { length frame.now ≤ 262144 }
+        requires room { F.room 1 self.old.taker }
+        requires awaits { AwaitsExpected F.expects self.old }
+        ensures media { self.new.media ≡ self.old.media }
+        ensures awaits { AwaitsExpected F.expects self.new }
+        ensures room { (count : ℕ) → IfOk result (λ _. F.room (count + 1) self.old.taker
+            → F.room count self.new.taker) }
+        ensures takes { IfOk result (λ _. TakesFlow F.takes self.old self.new
+            (record { number = number; stamp = at; bytes = frame.now } ∷ [])) }
+    {
+        let Some(datagram) = datagram(frame) else {
+            return Ok(());
+        };
+        self.take_datagram(number, at, frame, &datagram)?;
+        Ok(())
+    }
+}
+
+impl<F: FlowTaker> Taker for MediaFlow<F> {
+    ghost use Rattle.pcap_reader.specs.Taken.{StopsAnyhow};
+    ghost use Rattle.flow_demux.specs.Awaits.{AwaitsExpected};
+    ghost use Rattle.flow_demux.specs.Takings.{TakesFlow, flow_more, flow_none};
+
+    /// Memory ran out.
+    type Stop = OutOfMemory;
+
+    ghost takes = { λ old new items. TakesFlow F.takes old new items };
+
+    ghost stops = { StopsAnyhow };
+
+    ghost room = { λ number count x. AwaitsExpected F.expects x × F.room count x.taker };
+
+    ghost none = { λ x. flow_none F.takes F.none x };
+
+    ghost more = { λ x y z a b first second. flow_more F.takes F.more x y z a b first second };
+
+    ghost ends = { λ _ _ _ _ _ _ _ _. tt };
+
+    ghost halts = { λ _ _ _ _ _ _. tt };
+
+    ghost less = { λ number few many x le room. (room.0, F.less few many x.taker le room.1) };
+
+    #[inline(always)]
+    fn take(&mut self, number: u64, at: u64, frame: &[u8]) -> Result<(), OutOfMemory> {
+        self.take_record(number, at, frame)
     }
 }
