@@ -10,19 +10,23 @@ use Rattle.std.specs.Option.{option_map}
 use Rattle.std.proofs.lemmas.List.Elements.{All-cons, All-nil}
 use Rattle.timing_outside.specs.Causes.{Rose}
 use Rattle.pcapng_reader.specs.Classic.{classic, classic_texts}
+use Rattle.sdp_reader.specs.Session.{session}
+use Rattle.sdp_reader.specs.declared.fault.SdpFault.{SdpFault}
 use Rattle.timing_report.specs.declared.status.Input.{Input}
 use Rattle.timing_report.specs.declared.status.Input.TheVariants as input
 use Rattle.timing_report.specs.declared.status.Status.{Status}
 use Rattle.timing_report.specs.declared.status.Status.TheVariants as status
-use Rattle.timing_steps.specs.Answers.{Answer, AreTold, CaptureRose, Gives, Inputs, OnReadFault, OnSession, ReadsCaptures}
-use Rattle.timing_steps.specs.Asks.{AreMediaOf, AskedRose, Asks, BeginsAsks, BeginsCaptures, FollowsAsks, FollowsCaptures, HasAnswer, IsBegun, IsSettled, NameRose}
-use Rattle.timing_steps.specs.Asks.{OnEarly, ReadsAsked, ReadsMedia, WasRead, ends_of, judged_ends}
+use Rattle.timing_steps.specs.Answers.{Answer, AreTold, CaptureRose, Gives, HasRisen, Inputs, OnReadFault, ReadsCaptures}
+use Rattle.timing_steps.specs.Begun.{IsBegun, IsSettled}
+use Rattle.timing_steps.specs.Queries.{AnswersCaptures, BeginsCaptures, BeginsQuery, FollowsCaptures, FollowsQuery, HasAnswer, OnEarly, Query, QueryInputRose}
+use Rattle.timing_steps.specs.Queries.{ends_of, judged_ends}
 use Rattle.timing_steps.specs.Ends.{IsTextBeside, is_failure, is_silent}
 use Rattle.timing_steps.specs.Ran.{HasCause, IsAnswered, Leaves, Output, TellsLine, status_of}
-use Rattle.timing_steps.specs.Runs.{EndsAs, FailsBy, IsQuiet, LeavesRest, RanAs, Stands, is_silent_for}
+use Rattle.timing_steps.specs.Runs.{EndsAs, FailsBy, IsQuiet, LeavesRest, RanAs, BeforeEnd, is_silent_for}
 use Rattle.timing_steps.specs.Streams.{OnFailure}
 use Rattle.timing_steps.specs.declared.failure.Failure.{Failure}
 use Rattle.timing_steps.specs.declared.failure.Failure.TheVariants as failure
+use Rattle.timing_steps.proofs.Beginnings.{from-media, judged-of}
 use Rattle.timing_steps.proofs.Endings.{kept-none}
 use Rattle.timing_steps.proofs.Resting.{printed-rest}
 use Rattle.timing_steps.proofs.Seeing.{Sees, capture-seen, captures-seen, told-seen}
@@ -38,62 +42,48 @@ judged-loud false checks status.Fail h q = false≢true q
 judged-loud false checks status.NotAllJudged h q = false≢true q
 judged-loud false checks s h q = false≢true h
 
-pub judged-of : (asks : Asks) (s : Status) → judged_ends asks.checks s ≡ true → ends_of asks s ≡ true
-judged-of asks (status.SdpRefused fault) h = absurd (false≢true h)
-judged-of asks s h = h
+pub ends-answered : (query : Query) (s : Status) → ends_of query s ≡ true → IsAnswered s
+ends-answered query (status.ReadFault x) h = absurd (false≢true h)
+ends-answered query status.WriteFault h = absurd (false≢true h)
+ends-answered query status.OutOfMemory h = absurd (false≢true h)
+ends-answered query s h = tt
 
-pub ends-answered : (asks : Asks) (s : Status) → ends_of asks s ≡ true → IsAnswered s
-ends-answered asks (status.ReadFault x) h = absurd (false≢true h)
-ends-answered asks status.WriteFault h = absurd (false≢true h)
-ends-answered asks status.OutOfMemory h = absurd (false≢true h)
-ends-answered asks s h = tt
+-- a session has one list of media
+same-media : (read : Result (List Media) SdpFault) (media others : List Media) → read ≡ Ok media → read ≡ Ok others → media ≡ others
+same-media read media others h k = cc
 
--- the media that were read are those of the SDP
-media-of : (i : Inputs) (sdp : Option (List ℕ)) (media others : List Media) → WasRead i.texts i.lacks sdp (Ok media) → AreMediaOf i sdp others → media ≡ others
-media-of i None media others read are = let same : Ok media ≡ Ok [] = read in let none : media ≡ [] = cc in none ∙ sym are
-media-of i (Some name) media others read are =
-    let same : Ok media ≡ Ok others = sym (read.1 are.0 are.1) ∙ are.2 in cc
+-- what follows in the part of a run that reads the captures follows in the run
+follows-on : (query : Query) (i j : Inputs) (media : List Media) (outcome : Result Answer Failure) → Sees i j → IsBegun query i.texts i.lacks media
+    → FollowsCaptures query media j outcome → FollowsQuery query i outcome
+follows-on query i j media outcome s begun (inl memory) = inl memory
+follows-on query i j media outcome s begun (inr h) =
+    from-media query i media outcome begun.read (subst (λ x. OnEarly x outcome (AnswersCaptures query media i outcome)) (sym begun.unsettled)
+    (captures-seen i j outcome query.captures (λ texts. Gives outcome (HasAnswer query media texts)) s h))
 
--- what follows over the media that were read follows for the command
-pub from-media : (i : Inputs) (sdp : Option (List ℕ)) (outcome : Result Answer Failure) (media : List Media) (next : List Media → Type 0) → WasRead i.texts i.lacks sdp (Ok media)
-    → next media → ReadsMedia i outcome sdp next
-from-media i None outcome media next read h = let same : Ok media ≡ Ok [] = read in let none : media ≡ [] = cc in subst next none h
-from-media i (Some name) outcome media next read h =
-    inr (read.0, λ text t. subst (λ s. OnSession s outcome next) (sym (read.1 text t)) h)
-
--- what a part of the run followed, the whole follows
-follows-on : (asks : Asks) (i j : Inputs) (media : List Media) (outcome : Result Answer Failure) → Sees i j → IsBegun asks i.texts i.lacks media
-    → FollowsCaptures asks media j outcome → FollowsAsks asks i outcome
-follows-on asks i j media outcome s begun (inl memory) = inl memory
-follows-on asks i j media outcome s begun (inr h) =
-    inr (from-media i asks.sdp outcome media (λ m. OnEarly (asks.early m) outcome (ReadsAsked asks m i outcome)) begun.read
-    (subst (λ x. OnEarly x outcome (ReadsAsked asks media i outcome)) (sym begun.unsettled)
-    (captures-seen i j outcome asks.captures (λ texts. Gives outcome (HasAnswer asks media texts)) s h)))
-
-begins-on : (asks : Asks) (i j : Inputs) (media : List Media) (front : List ℕ) → Sees i j → IsBegun asks i.texts i.lacks media → BeginsCaptures asks media j front
-    → BeginsAsks asks i front
-begins-on asks i j media front s begun h = λ others are.
-    subst (λ m. BeginsCaptures asks m i front) (media-of i asks.sdp media others begun.read are)
-    (λ texts told. h texts (told-seen i j asks.captures texts s told))
+begins-on : (query : Query) (i j : Inputs) (media : List Media) (front : List ℕ) → Sees i j → IsBegun query i.texts i.lacks media
+    → BeginsCaptures query media j front → BeginsQuery query i front
+begins-on query i j media front s begun h = λ sdp others is reads.
+    subst (λ m. BeginsCaptures query m i front) (same-media (session sdp) media others (begun.read.1 sdp is) reads)
+    (λ texts told. h texts (told-seen i j query.captures texts s told))
 
 -- with nothing printed
-begins-none : (asks : Asks) (i : Inputs) → BeginsAsks asks i []
-begins-none asks i = λ media are texts told. inl refl
+begins-none : (query : Query) (i : Inputs) → BeginsQuery query i []
+begins-none query i = λ sdp media is reads texts told. inl refl
 
 -- a write failed, or what follows
-written-or : (asks : Asks) (i j : Inputs) (media : List Media) (e : Failure) → Sees i j → IsBegun asks i.texts i.lacks media
-    → (e ≡ failure.WriteFault) ⊎ FollowsCaptures asks media j (Err e) → (e ≡ failure.WriteFault) ⊎ FollowsAsks asks i (Err e)
-written-or asks i j media e s begun (inl written) = inl written
-written-or asks i j media e s begun (inr h) = inr (follows-on asks i j media (Err e) s begun h)
+written-or : (query : Query) (i j : Inputs) (media : List Media) (e : Failure) → Sees i j → IsBegun query i.texts i.lacks media
+    → (e ≡ failure.WriteFault) ⊎ FollowsCaptures query media j (Err e) → (e ≡ failure.WriteFault) ⊎ FollowsQuery query i (Err e)
+written-or query i j media e s begun (inl written) = inl written
+written-or query i j media e s begun (inr h) = inr (follows-on query i j media (Err e) s begun h)
 
-rests-on : (streams : Bool) (asks : Asks) (i j : Inputs) (media : List Media) (o : Output) (rest : Result Answer Failure) → Sees i j → IsBegun asks i.texts i.lacks media
-    → LeavesRest streams o (FollowsCaptures asks media j) (BeginsCaptures asks media j) rest
-    → LeavesRest streams o (FollowsAsks asks i) (BeginsAsks asks i) rest
-rests-on false asks i j media o rest s begun h = (h.0, follows-on asks i j media rest s begun h.1)
-rests-on true asks i j media o (Ok rest) s begun h =
-    (h.0, h.1, follows-on asks i j media (Ok (record { text = h.0 ++ rest.text; status = rest.status })) s begun h.2)
-rests-on true asks i j media o (Err e) s begun h =
-    (written-or asks i j media e s begun h.0, (h.1.0, h.1.1, begins-on asks i j media h.1.0 s begun h.1.2))
+rests-on : (streams : Bool) (query : Query) (i j : Inputs) (media : List Media) (o : Output) (rest : Result Answer Failure) → Sees i j → IsBegun query i.texts i.lacks media
+    → LeavesRest streams o (FollowsCaptures query media j) (BeginsCaptures query media j) rest
+    → LeavesRest streams o (FollowsQuery query i) (BeginsQuery query i) rest
+rests-on false query i j media o rest s begun h = (h.0, follows-on query i j media rest s begun h.1)
+rests-on true query i j media o (Ok rest) s begun h =
+    (h.0, h.1, follows-on query i j media (Ok (record { text = h.0 ++ rest.text; status = rest.status })) s begun h.2)
+rests-on true query i j media o (Err e) s begun h =
+    (written-or query i j media e s begun h.0, (h.1.0, h.1.1, begins-on query i j media h.1.0 s begun h.1.2))
 
 fails-map : (streams : Bool) (o : Output) (e : Failure) (P Q : Input → Type 0) → ((x : Input) → P x → Q x) → FailsBy streams o e P → FailsBy streams o e Q
 fails-map true o (failure.ReadFault x) P Q f h = f x h
@@ -104,49 +94,49 @@ fails-map false o failure.WriteFault P Q f h = h
 fails-map false o failure.OutOfMemory P Q f h = tt
 
 -- the causes that the captures of a command may have
-abbrev pub CapturesRose : Asks → (before now : List ℕ → ℕ) → Input → Type 0
-CapturesRose asks before now x = (number : ℕ) × (x ≡ input.Capture number) × CaptureRose before now asks.captures number
+abbrev pub CapturesRose : Query → (before now : List ℕ → ℕ) → Input → Type 0
+CapturesRose query before now x = (number : ℕ) × (x ≡ input.Capture number) × CaptureRose before now query.captures number
 
-cause-on : (streams : Bool) (asks : Asks) (i j : Inputs) (o : Output) (rest : Result Answer Failure) → Sees i j
-    → IfErr rest (λ e. FailsBy streams o e (CapturesRose asks j.before j.now)) → IfErr rest (λ e. FailsBy streams o e (AskedRose asks i))
-cause-on streams asks i j o (Ok r) s h = tt
-cause-on streams asks i j o (Err e) s h =
-    fails-map streams o e (CapturesRose asks j.before j.now) (AskedRose asks i)
-    (λ x c. subst (AskedRose asks i) (sym c.1) (capture-seen i j asks.captures c.0 s c.2)) h
+cause-on : (streams : Bool) (query : Query) (i j : Inputs) (o : Output) (rest : Result Answer Failure) → Sees i j
+    → IfErr rest (λ e. FailsBy streams o e (CapturesRose query j.before j.now)) → IfErr rest (λ e. FailsBy streams o e (QueryInputRose query i))
+cause-on streams query i j o (Ok r) s h = tt
+cause-on streams query i j o (Err e) s h =
+    fails-map streams o e (CapturesRose query j.before j.now) (QueryInputRose query i)
+    (λ x c. subst (QueryInputRose query i) (sym c.1) (capture-seen i j query.captures c.0 s c.2)) h
 
 -- it isn't the SDP that couldn't be read
-not-captures : (asks : Asks) (before now : List ℕ → ℕ) → CapturesRose asks before now input.Sdp → ⊥
-not-captures asks before now c = apart c.0 c.1
+not-captures : (query : Query) (before now : List ℕ → ℕ) → CapturesRose query before now input.Sdp → ⊥
+not-captures query before now c = apart c.0 c.1
   where
     apart : (number : ℕ) → input.Sdp ≡ input.Capture number → ⊥
     apart number e = cc
 
-captures-alone : (streams : Bool) (o : Output) (asks : Asks) (before now : List ℕ → ℕ) (rest : Result Answer Failure)
-    → IfErr rest (λ e. FailsBy streams o e (CapturesRose asks before now)) → rest ≡ Err (failure.ReadFault input.Sdp) → ⊥
-captures-alone true o asks before now rest h is =
-    not-captures asks before now (subst (λ r. IfErr r (λ e. OnFailure o e (CapturesRose asks before now))) is h)
-captures-alone false o asks before now rest h is =
-    not-captures asks before now (subst (λ r. IfErr r (λ e. OnReadFault e (CapturesRose asks before now))) is h)
+captures-alone : (streams : Bool) (o : Output) (query : Query) (before now : List ℕ → ℕ) (rest : Result Answer Failure)
+    → IfErr rest (λ e. FailsBy streams o e (CapturesRose query before now)) → rest ≡ Err (failure.ReadFault input.Sdp) → ⊥
+captures-alone true o query before now rest h is =
+    not-captures query before now (subst (λ r. IfErr r (λ e. OnFailure o e (CapturesRose query before now))) is h)
+captures-alone false o query before now rest h is =
+    not-captures query before now (subst (λ r. IfErr r (λ e. OnReadFault e (CapturesRose query before now))) is h)
 
 -- the captures were read, or not
-pub stands-read : (streams : Bool) (asks : Asks) (i j : Inputs) (media : List Media) (o : Output) (rest : Result Answer Failure) → Sees i j
-    → IsBegun asks i.texts i.lacks media
-    → LeavesRest streams o (FollowsCaptures asks media j) (BeginsCaptures asks media j) rest
-    → IfOk rest (λ r. judged_ends asks.checks r.status ≡ true)
-    → IfErr rest (λ e. FailsBy streams o e (CapturesRose asks j.before j.now)) → Stands streams asks i o rest
-stands-read streams asks i j media o (Ok r) s begun rests ends cause = record {
-  rests = rests-on streams asks i j media o (Ok r) s begun rests;
-  ends = judged-of asks r.status ends;
-  quiet = λ q. absurd (judged-loud streams asks.checks r.status ends q);
+pub before-read : (streams : Bool) (query : Query) (i j : Inputs) (media : List Media) (o : Output) (rest : Result Answer Failure) → Sees i j
+    → IsBegun query i.texts i.lacks media
+    → LeavesRest streams o (FollowsCaptures query media j) (BeginsCaptures query media j) rest
+    → IfOk rest (λ r. judged_ends query.checks r.status ≡ true)
+    → IfErr rest (λ e. FailsBy streams o e (CapturesRose query j.before j.now)) → BeforeEnd streams query i o rest
+before-read streams query i j media o (Ok r) s begun rests ends cause = record {
+  rests = rests-on streams query i j media o (Ok r) s begun rests;
+  ends = judged-of query r.status ends;
+  quiet = λ q. absurd (judged-loud streams query.checks r.status ends q);
   cause = tt;
-  unread = λ is. absurd (captures-alone streams o asks j.before j.now (Ok r) tt is);
+  unread = λ is. absurd (captures-alone streams o query j.before j.now (Ok r) tt is);
 }
-stands-read streams asks i j media o (Err e) s begun rests ends cause = record {
-  rests = rests-on streams asks i j media o (Err e) s begun rests;
+before-read streams query i j media o (Err e) s begun rests ends cause = record {
+  rests = rests-on streams query i j media o (Err e) s begun rests;
   ends = tt;
   quiet = tt;
-  cause = cause-on streams asks i j o (Err e) s cause;
-  unread = λ is. absurd (captures-alone streams o asks j.before j.now (Err e) cause is);
+  cause = cause-on streams query i j o (Err e) s cause;
+  unread = λ is. absurd (captures-alone streams o query j.before j.now (Err e) cause is);
 }
 
 -- nothing was printed: an outcome of a command of either kind
@@ -170,10 +160,10 @@ quiet-kept streams o answer kept beside q = record {
     silent-of true s q = absurd (false≢true q)
 
 -- the SDP is refused, or its media settle the answer
-pub stands-settled : (streams : Bool) (asks : Asks) (i : Inputs) (o : Output) (answer : Answer) → Keeps o.old o.new → IsSettled asks i answer
-    → Stands streams asks i o (Ok answer)
-stands-settled streams asks i o answer kept h = record {
-  rests = rests-kept streams o (FollowsAsks asks i) (BeginsAsks asks i) (Ok answer) kept (begins-none asks i) h.follows;
+pub before-settled : (streams : Bool) (query : Query) (i : Inputs) (o : Output) (answer : Answer) → Keeps o.old o.new → IsSettled query i answer
+    → BeforeEnd streams query i o (Ok answer)
+before-settled streams query i o answer kept h = record {
+  rests = rests-kept streams o (FollowsQuery query i) (BeginsQuery query i) (Ok answer) kept (begins-none query i) h.follows;
   ends = h.ends;
   quiet = quiet-kept streams o answer kept h.beside;
   cause = tt;
@@ -181,33 +171,28 @@ stands-settled streams asks i o answer kept h = record {
 }
 
 -- the SDP couldn't be read
-unread-follows : (asks : Asks) (i : Inputs) (e : Failure) → OnReadFault e (λ x. (x ≡ input.Sdp) × NameRose i asks.sdp) → FollowsAsks asks i (Err e)
-unread-follows asks i (failure.ReadFault x) h = inr (go asks.sdp h.1)
-  where
-    go : (sdp : Option (List ℕ)) → NameRose i sdp
-        → ReadsMedia i (Err (failure.ReadFault x)) sdp (λ m. OnEarly (asks.early m) (Err (failure.ReadFault x)) (ReadsAsked asks m i (Err (failure.ReadFault x))))
-    go None rose = absurd rose
-    go (Some name) rose = inl (ap (λ y. Err (failure.ReadFault y)) h.0, rose)
-unread-follows asks i failure.WriteFault h = absurd h
-unread-follows asks i failure.OutOfMemory h = inl refl
+unread-follows : (query : Query) (i : Inputs) (e : Failure) → OnReadFault e (λ x. (x ≡ input.Sdp) × HasRisen i query.sdp) → FollowsQuery query i (Err e)
+unread-follows query i (failure.ReadFault x) h = inr (inl (ap (λ y. Err (failure.ReadFault y)) h.0, h.1))
+unread-follows query i failure.WriteFault h = absurd h
+unread-follows query i failure.OutOfMemory h = inl refl
 
-unread-cause : (streams : Bool) (asks : Asks) (i : Inputs) (o : Output) (e : Failure) → OnReadFault e (λ x. (x ≡ input.Sdp) × NameRose i asks.sdp)
-    → FailsBy streams o e (AskedRose asks i)
-unread-cause true asks i o (failure.ReadFault x) h = subst (AskedRose asks i) (sym h.0) h.1
-unread-cause true asks i o failure.WriteFault h = absurd h
-unread-cause true asks i o failure.OutOfMemory h = tt
-unread-cause false asks i o (failure.ReadFault x) h = subst (AskedRose asks i) (sym h.0) h.1
-unread-cause false asks i o failure.WriteFault h = absurd h
-unread-cause false asks i o failure.OutOfMemory h = tt
+unread-cause : (streams : Bool) (query : Query) (i : Inputs) (o : Output) (e : Failure) → OnReadFault e (λ x. (x ≡ input.Sdp) × HasRisen i query.sdp)
+    → FailsBy streams o e (QueryInputRose query i)
+unread-cause true query i o (failure.ReadFault x) h = subst (QueryInputRose query i) (sym h.0) h.1
+unread-cause true query i o failure.WriteFault h = absurd h
+unread-cause true query i o failure.OutOfMemory h = tt
+unread-cause false query i o (failure.ReadFault x) h = subst (QueryInputRose query i) (sym h.0) h.1
+unread-cause false query i o failure.WriteFault h = absurd h
+unread-cause false query i o failure.OutOfMemory h = tt
 
-pub stands-unread : (streams : Bool) (asks : Asks) (i : Inputs) (o : Output) (rest : Result Answer Failure) → Keeps o.old o.new → is_ok rest ≡ false
-    → IfErr rest (λ e. OnReadFault e (λ x. (x ≡ input.Sdp) × NameRose i asks.sdp)) → Stands streams asks i o rest
-stands-unread streams asks i o (Ok r) kept failed cause = absurd (false≢true (sym failed))
-stands-unread streams asks i o (Err e) kept failed cause = record {
-  rests = rests-kept streams o (FollowsAsks asks i) (BeginsAsks asks i) (Err e) kept (begins-none asks i) (unread-follows asks i e cause);
+pub before-unread : (streams : Bool) (query : Query) (i : Inputs) (o : Output) (rest : Result Answer Failure) → Keeps o.old o.new → is_ok rest ≡ false
+    → IfErr rest (λ e. OnReadFault e (λ x. (x ≡ input.Sdp) × HasRisen i query.sdp)) → BeforeEnd streams query i o rest
+before-unread streams query i o (Ok r) kept failed cause = absurd (false≢true (sym failed))
+before-unread streams query i o (Err e) kept failed cause = record {
+  rests = rests-kept streams o (FollowsQuery query i) (BeginsQuery query i) (Err e) kept (begins-none query i) (unread-follows query i e cause);
   ends = tt;
   quiet = tt;
-  cause = unread-cause streams asks i o e cause;
+  cause = unread-cause streams query i o e cause;
   unread = λ is. kept-none o.old o.new kept;
 }
 
@@ -223,28 +208,28 @@ leaves-kept old mid new before between now (Ok r) ends later kept (inr p) =
     inr (p.0, (omega (arith, later, p.1.0), (p.1.1.0, p.1.1.1, kept-appends old mid new (take p.1.1.0 r.text) kept p.1.1.2)))
 leaves-kept old mid new before between now (Err e) ends later kept p = (p.0, Keeps-trans old mid new kept p.1)
 
-whole-cause : (asks : Asks) (i : Inputs) (rest : Result Answer Failure) → IfOk rest (λ r. ends_of asks r.status ≡ true)
-    → IfErr rest (λ e. OnReadFault e (AskedRose asks i)) → HasCause rest (AskedRose asks i)
-whole-cause asks i (Ok r) ends cause = ends-answered asks r.status ends
-whole-cause asks i (Err e) ends cause = cause
+whole-cause : (query : Query) (i : Inputs) (rest : Result Answer Failure) → IfOk rest (λ r. ends_of query r.status ≡ true)
+    → IfErr rest (λ e. OnReadFault e (QueryInputRose query i)) → HasCause rest (QueryInputRose query i)
+whole-cause query i (Ok r) ends cause = ends-answered query r.status ends
+whole-cause query i (Err e) ends cause = cause
 
 -- the end of a run
-pub ran-by : (streams : Bool) (asks : Asks) (i : Inputs) (old mid new : Option (List ℕ)) (before between now : ℕ) (e : Output) (rest : Result Answer Failure)
+pub ran-by : (streams : Bool) (query : Query) (i : Inputs) (old mid new : Option (List ℕ)) (before between now : ℕ) (e : Output) (rest : Result Answer Failure)
     (ends : Status) → before ≤ between → between ≤ now
-    → Stands streams asks i (record { old = old; new = mid; before = before; now = between }) rest
+    → BeforeEnd streams query i (record { old = old; new = mid; before = before; now = between }) rest
     → Leaves (record { old = mid; new = new; before = between; now = now }) rest ends → TellsLine e ends → e.before ≤ e.now
-    → RanAs streams asks i (record { old = old; new = new; before = before; now = now }) e ends
-ran-by false asks i old mid new before between now e rest ends first second h p told later = record {
+    → RanAs streams query i (record { old = old; new = new; before = before; now = now }) e ends
+ran-by false query i old mid new before between now e rest ends first second h p told later = record {
   outcome = rest;
   follows = h.rests.1;
-  cause = whole-cause asks i rest h.ends h.cause;
+  cause = whole-cause query i rest h.ends h.cause;
   printed = leaves-kept old mid new before between now rest ends first h.rests.0 p;
   told = told;
   later_out = omega (arith, first, second);
   later_err = later;
 }
-ran-by true asks i old mid new before between now e rest ends first second h p told later =
-    let r = printed-rest old mid new before between now (FollowsAsks asks i) (BeginsAsks asks i) (AskedRose asks i) rest ends first second h.rests
+ran-by true query i old mid new before between now e rest ends first second h p told later =
+    let r = printed-rest old mid new before between now (FollowsQuery query i) (BeginsQuery query i) (QueryInputRose query i) rest ends first second h.rests
     (answered rest h.ends) h.cause p in
     record {
       outcome = r.outcome;
@@ -256,66 +241,66 @@ ran-by true asks i old mid new before between now e rest ends first second h p t
       later_err = later;
     }
   where
-    answered : (rest : Result Answer Failure) → IfOk rest (λ r. ends_of asks r.status ≡ true) → IfOk rest (λ r. IsAnswered r.status)
-    answered (Ok r) h = ends-answered asks r.status h
+    answered : (rest : Result Answer Failure) → IfOk rest (λ r. ends_of query r.status ≡ true) → IfOk rest (λ r. IsAnswered r.status)
+    answered (Ok r) h = ends-answered query r.status h
     answered (Err e) h = tt
 
-failed-ends : (asks : Asks) (e : Failure) → ends_of asks (status_of e) || is_failure (status_of e) ≡ true
-failed-ends asks (failure.ReadFault x) = refl
-failed-ends asks failure.WriteFault = refl
-failed-ends asks failure.OutOfMemory = refl
+failed-ends : (query : Query) (e : Failure) → ends_of query (status_of e) || is_failure (status_of e) ≡ true
+failed-ends query (failure.ReadFault x) = refl
+failed-ends query failure.WriteFault = refl
+failed-ends query failure.OutOfMemory = refl
 
 -- the failures whose status is silent
-failed-quiet : (streams : Bool) (asks : Asks) (i : Inputs) (old mid new : Option (List ℕ)) (before between : ℕ) (e : Failure)
-    → Stands streams asks i (record { old = old; new = mid; before = before; now = between }) (Err e) → Keeps mid new
+failed-quiet : (streams : Bool) (query : Query) (i : Inputs) (old mid new : Option (List ℕ)) (before between : ℕ) (e : Failure)
+    → BeforeEnd streams query i (record { old = old; new = mid; before = before; now = between }) (Err e) → Keeps mid new
     → is_silent_for streams (status_of e) ≡ true → Appends old new []
-failed-quiet false asks i old mid new before between e h kept q = kept-none old new (Keeps-trans old mid new h.rests.0 kept)
-failed-quiet true asks i old mid new before between (failure.ReadFault input.Sdp) h kept q =
+failed-quiet false query i old mid new before between e h kept q = kept-none old new (Keeps-trans old mid new h.rests.0 kept)
+failed-quiet true query i old mid new before between (failure.ReadFault input.Sdp) h kept q =
     Appends-trans old mid new [] [] (h.unread refl) (kept-none mid new kept)
-failed-quiet true asks i old mid new before between e h kept q = absurd (false≢true q)
+failed-quiet true query i old mid new before between e h kept q = absurd (false≢true q)
 
 write-loud : (streams : Bool) → is_silent_for streams status.WriteFault ≡ true → ⊥
 write-loud true q = false≢true q
 write-loud false q = false≢true q
 
-pub ends-by : (streams : Bool) (asks : Asks) (i : Inputs) (old mid new : Option (List ℕ)) (before between now : ℕ) (rest : Result Answer Failure) (ends : Status)
-    → Stands streams asks i (record { old = old; new = mid; before = before; now = between }) rest
+pub ends-by : (streams : Bool) (query : Query) (i : Inputs) (old mid new : Option (List ℕ)) (before between now : ℕ) (rest : Result Answer Failure) (ends : Status)
+    → BeforeEnd streams query i (record { old = old; new = mid; before = before; now = between }) rest
     → Leaves (record { old = mid; new = new; before = between; now = now }) rest ends
-    → EndsAs streams asks (record { old = old; new = new; before = before; now = now }) ends
-ends-by streams asks i old mid new before between now (Ok r) ends h (inl p) =
-    subst (EndsAs streams asks (record { old = old; new = new; before = before; now = now })) (sym p.0) (record {
-      status_is = or_left (ends_of asks r.status) (is_failure r.status) h.ends;
+    → EndsAs streams query (record { old = old; new = new; before = before; now = now }) ends
+ends-by streams query i old mid new before between now (Ok r) ends h (inl p) =
+    subst (EndsAs streams query (record { old = old; new = new; before = before; now = now })) (sym p.0) (record {
+      status_is = or_left (ends_of query r.status) (is_failure r.status) h.ends;
       silent = λ q. subst (Appends old new) (h.quiet q).after (Appends-trans old mid new [] r.text (h.quiet q).before p.1);
     })
-ends-by streams asks i old mid new before between now (Ok r) ends h (inr p) =
-    subst (EndsAs streams asks (record { old = old; new = new; before = before; now = now })) (sym p.0) (record { status_is = refl; silent = λ q. absurd (write-loud streams q) })
-ends-by streams asks i old mid new before between now (Err e) ends h p =
-    subst (EndsAs streams asks (record { old = old; new = new; before = before; now = now })) (sym p.0) (record {
-      status_is = failed-ends asks e;
-      silent = failed-quiet streams asks i old mid new before between e h p.1;
+ends-by streams query i old mid new before between now (Ok r) ends h (inr p) =
+    subst (EndsAs streams query (record { old = old; new = new; before = before; now = now })) (sym p.0) (record { status_is = refl; silent = λ q. absurd (write-loud streams q) })
+ends-by streams query i old mid new before between now (Err e) ends h p =
+    subst (EndsAs streams query (record { old = old; new = new; before = before; now = now })) (sym p.0) (record {
+      status_is = failed-ends query e;
+      silent = failed-quiet streams query i old mid new before between e h p.1;
     })
 
 -- one capture that was read, or couldn't be
-pub reads-one : (asks : Asks) (media : List Media) (i : Inputs) (name : List ℕ) (outcome : Result Answer Failure) → asks.captures ≡ name ∷ []
-    → IfOk outcome (λ answer. (text : List ℕ) → classic_texts i.texts name ≡ Some text → HasAnswer asks media (text ∷ []) answer)
+pub reads-one : (query : Query) (media : List Media) (i : Inputs) (name : List ℕ) (outcome : Result Answer Failure) → query.captures ≡ name ∷ []
+    → IfOk outcome (λ answer. (text : List ℕ) → classic_texts i.texts name ≡ Some text → HasAnswer query media (text ∷ []) answer)
     → IfOk outcome (λ _. ¬ i.lacks name)
     → IfErr outcome (λ e. OnReadFault e (λ x. (x ≡ input.Capture 0) × Rose (i.before name) (i.now name)))
-    → FollowsCaptures asks media i outcome
-reads-one asks media i name (Ok answer) is told there cause =
-    inr (subst (λ names. ReadsCaptures i (Ok answer) names (λ texts. Gives (Ok answer) (HasAnswer asks media texts))) (sym is) (inr (
+    → FollowsCaptures query media i outcome
+reads-one query media i name (Ok answer) is told there cause =
+    inr (subst (λ names. ReadsCaptures i (Ok answer) names (λ texts. Gives (Ok answer) (HasAnswer query media texts))) (sym is) (inr (
       All-cons (λ n. ¬ i.lacks n) name [] there (All-nil (λ n. ¬ i.lacks n)),
       given,
     )))
   where
-    given : (texts : List (List ℕ)) → AreTold i.texts (name ∷ []) texts → Gives (Ok answer) (HasAnswer asks media (map classic texts))
+    given : (texts : List (List ℕ)) → AreTold i.texts (name ∷ []) texts → Gives (Ok answer) (HasAnswer query media (map classic texts))
     given [] are = absurd are
     given (text ∷ []) are = (answer, refl, told (classic text) (ap (option_map classic) are.0))
     given (text ∷ other ∷ others) are = absurd are.1
-reads-one asks media i name (Err (failure.ReadFault x)) is told there cause =
-    inr (subst (λ names. ReadsCaptures i (Err (failure.ReadFault x)) names (λ texts. Gives (Err (failure.ReadFault x)) (HasAnswer asks media texts)))
+reads-one query media i name (Err (failure.ReadFault x)) is told there cause =
+    inr (subst (λ names. ReadsCaptures i (Err (failure.ReadFault x)) names (λ texts. Gives (Err (failure.ReadFault x)) (HasAnswer query media texts)))
     (sym is) (inl (0, ap (λ y. Err (failure.ReadFault y)) cause.0, record { within = omega arith; rose = cause.1 })))
-reads-one asks media i name (Err failure.WriteFault) is told there cause = absurd cause
-reads-one asks media i name (Err failure.OutOfMemory) is told there cause = inl refl
+reads-one query media i name (Err failure.WriteFault) is told there cause = absurd cause
+reads-one query media i name (Err failure.OutOfMemory) is told there cause = inl refl
 
 -- the one capture is the first of the list of captures
 pub only-capture : (before now : List ℕ → ℕ) (name : List ℕ) (e : Failure) → OnReadFault e (λ x. (x ≡ input.Capture 0) × Rose (before name) (now name))

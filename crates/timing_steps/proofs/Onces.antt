@@ -16,7 +16,7 @@ use Rattle.timing_report.specs.declared.status.Input.TheVariants as input
 use Rattle.timing_report.specs.declared.status.Status.TheVariants as status
 use Rattle.timing_steps.specs.Answers.{Answer, AreThere, AreTold, CaptureRose, Gives, HasRisen, Inputs, OnSession, ReadsCaptures, ReadsSession, Yields}
 use Rattle.timing_steps.specs.Answers.{silent}
-use Rattle.timing_steps.specs.Asks.{AskedRose, Asks, FollowsAsks, HasAnswer, NameRose, OnEarly, ReadsAsked, ReadsMedia, names_in}
+use Rattle.timing_steps.specs.Queries.{AnswersCaptures, AnswersMedia, FollowsQuery, HasAnswer, OnEarly, Query, QueryInputRose, inputs_of}
 use Rattle.timing_steps.specs.declared.failure.Failure.{Failure}
 use Rattle.timing_steps.specs.declared.failure.Failure.TheVariants as failure
 
@@ -140,94 +140,73 @@ pub described-failed : (i : Inputs) (name sdp : List ℕ) (Next : List Media →
 described-failed i name sdp Next e Rises told rises caused (inl h) = inr (input.Sdp, same-err e _ (Err e) refl h.0, rises h.1)
 described-failed i name sdp Next e Rises told rises caused (inr h) = session-failed (session sdp) Next e Rises caused (h.1 sdp told)
 
--- the same media and records have at most one answer
-abbrev pub IsOnce : Asks → Type 0
-IsOnce asks = (media : List Media) (files : List (List Record)) (notes : List FileNote) (a b : Answer) → asks.Tells media files notes a
-    → asks.Tells media files notes b → a ≡ b
+-- the same media and records define at most one answer
+abbrev pub DefinesOnce : Query → Type 0
+DefinesOnce query = (media : List Media) (files : List (List Record)) (notes : List FileNote) (a b : Answer) → query.Defines media files notes a
+    → query.Defines media files notes b → a ≡ b
 
--- the records of captures with these contents have an answer, over the media of every SDP that don't settle it
-abbrev pub IsSome : Asks → (texts : List (List ℕ)) → Type 0
-IsSome asks texts = (media : List Media) (files : List (List Record)) (notes : List FileNote) → All IsMedia media → asks.early media ≡ None
-    → AreRecords texts files notes → (answer : Answer) × asks.Tells media files notes answer
+-- the records of captures with these contents define an answer, over all media that don't settle it
+abbrev pub DefinesSome : Query → (texts : List (List ℕ)) → Type 0
+DefinesSome query texts = (media : List Media) (files : List (List Record)) (notes : List FileNote) → All IsMedia media → query.early media ≡ None
+    → AreRecords texts files notes → (answer : Answer) × query.Defines media files notes answer
 
-pub only-has : (asks : Asks) (media : List Media) (texts : List (List ℕ)) (a b : Answer) → IsOnce asks → HasAnswer asks media texts a
-    → HasAnswer asks media texts b → a ≡ b
-only-has asks media texts a b once h k =
+pub only-has : (query : Query) (media : List Media) (texts : List (List ℕ)) (a b : Answer) → DefinesOnce query → HasAnswer query media texts a
+    → HasAnswer query media texts b → a ≡ b
+only-has query media texts a b once h k =
     let same = only-records texts h.files k.files h.notes k.notes h.records k.records in
-    once media k.files k.notes a b (subst (λ n. asks.Tells media k.files n a) same.1 (subst (λ f. asks.Tells media f h.notes a) same.0 h.tells)) k.tells
+    once media k.files k.notes a b
+    (subst (λ n. query.Defines media k.files n a) same.1 (subst (λ f. query.Defines media f h.notes a) same.0 h.defined)) k.defined
 
-pub some-has : (asks : Asks) (media : List Media) (texts : List (List ℕ)) → All IsMedia media → asks.early media ≡ None → IsSome asks texts
-    → (answer : Answer) × HasAnswer asks media texts answer
-some-has asks media texts are unsettled some =
+pub some-has : (query : Query) (media : List Media) (texts : List (List ℕ)) → All IsMedia media → query.early media ≡ None → DefinesSome query texts
+    → (answer : Answer) × HasAnswer query media texts answer
+some-has query media texts are unsettled some =
     let all = some-records texts in
-    let told = some media all.0 all.1 are unsettled all.2 in
-    (told.0, record { files = all.0; notes = all.1; records = all.2; tells = told.1 })
+    let made = some media all.0 all.1 are unsettled all.2 in
+    (made.0, record { files = all.0; notes = all.1; records = all.2; defined = made.1 })
 
--- what follows the media, once captures are told
-module _ (asks : Asks) (i : Inputs) (told : List (List ℕ)) (are : AreTold i.texts asks.captures told) where
-  only-after : (media : List Media) (early : Option Answer) (a b : Answer) → IsOnce asks → OnEarly early (Ok a) (ReadsAsked asks media i (Ok a))
-      → OnEarly early (Ok b) (ReadsAsked asks media i (Ok b)) → a ≡ b
-  only-after media (Some settled) a b once h k = only-given (λ x. x ≡ settled) a b (λ x y p q. only-silent x y settled p q) h k
-  only-after media None a b once h k =
-      only-captured i asks.captures told (HasAnswer asks media) a b are (λ x y p q. only-has asks media (map classic told) x y once p q) h k
+-- what follows over media, once the captures are told
+module _ (query : Query) (i : Inputs) (told : List (List ℕ)) (are : AreTold i.texts query.captures told) where
+  only-over : (media : List Media) (early : Option Answer) (a b : Answer) → DefinesOnce query → OnEarly early (Ok a) (AnswersCaptures query media i (Ok a))
+      → OnEarly early (Ok b) (AnswersCaptures query media i (Ok b)) → a ≡ b
+  only-over media (Some settled) a b once h k = only-given (λ x. x ≡ settled) a b (λ x y p q. only-silent x y settled p q) h k
+  only-over media None a b once h k =
+      only-captured i query.captures told (HasAnswer query media) a b are (λ x y p q. only-has query media (map classic told) x y once p q) h k
 
-  some-after : (media : List Media) (early : Option Answer) → asks.early media ≡ early → AreThere i.lacks asks.captures → All IsMedia media
-      → IsSome asks (map classic told) → (answer : Answer) × OnEarly early (Ok answer) (ReadsAsked asks media i (Ok answer))
-  some-after media (Some settled) is there within some = some-given (λ x. x ≡ settled) (settled, refl)
-  some-after media None is there within some =
-      some-captured i asks.captures told (HasAnswer asks media) there are (some-has asks media (map classic told) within is some)
+  some-over : (media : List Media) (early : Option Answer) → query.early media ≡ early → AreThere i.lacks query.captures → All IsMedia media
+      → DefinesSome query (map classic told) → (answer : Answer) × OnEarly early (Ok answer) (AnswersCaptures query media i (Ok answer))
+  some-over media (Some settled) is there within some = some-given (λ x. x ≡ settled) (settled, refl)
+  some-over media None is there within some =
+      some-captured i query.captures told (HasAnswer query media) there are (some-has query media (map classic told) within is some)
 
-  after-failed : (media : List Media) (early : Option Answer) (e : Failure) → OnEarly early (Err e) (ReadsAsked asks media i (Err e))
-      → Caused e (AskedRose asks i)
-  after-failed media (Some settled) e h = absurd (not-given (λ x. x ≡ settled) e h)
-  after-failed media None e h = captured-failed i asks.captures told (HasAnswer asks media) e (AskedRose asks i) are (λ number r. r) h
+  over-failed : (media : List Media) (early : Option Answer) (e : Failure) → OnEarly early (Err e) (AnswersCaptures query media i (Err e))
+      → Caused e (QueryInputRose query i)
+  over-failed media (Some settled) e h = absurd (not-given (λ x. x ≡ settled) e h)
+  over-failed media None e h = captured-failed i query.captures told (HasAnswer query media) e (QueryInputRose query i) are (λ number r. r) h
 
 -- the contents of the inputs of a command have one answer
-module _ (asks : Asks) (i : Inputs) where
-  only-read : (sdp : Option (List ℕ)) (told : List (List ℕ)) (a b : Answer) → IsOnce asks → AreTold i.texts (names_in sdp asks.captures) told
-      → ReadsMedia i (Ok a) sdp (λ m. OnEarly (asks.early m) (Ok a) (ReadsAsked asks m i (Ok a)))
-      → ReadsMedia i (Ok b) sdp (λ m. OnEarly (asks.early m) (Ok b) (ReadsAsked asks m i (Ok b))) → a ≡ b
-  only-read None told a b once are h k = only-after asks i told are [] (asks.early []) a b once h k
-  only-read (Some name) [] a b once are h k = absurd are
-  only-read (Some name) (sdp ∷ told) a b once are h k =
-      only-described i name sdp (λ answer media. OnEarly (asks.early media) (Ok answer) (ReadsAsked asks media i (Ok answer))) a b are.0
-      (λ media x y. only-after asks i told are.1 media (asks.early media) a b once x y) h k
+module _ (query : Query) (i : Inputs) where
+  pub only-queried : (told : List (List ℕ)) (a b : Answer) → DefinesOnce query → AreTold i.texts (inputs_of query) told → FollowsQuery query i (Ok a)
+      → FollowsQuery query i (Ok b) → a ≡ b
+  only-queried [] a b once are h k = absurd are
+  only-queried (sdp ∷ told) a b once are h k =
+      only-yielded (λ answer. ReadsSession i (Ok answer) query.sdp (AnswersMedia query i (Ok answer))) a b
+      (only-described i query.sdp sdp (λ answer. AnswersMedia query i (Ok answer)) a b are.0
+      (λ media x y. only-over query i told are.1 media (query.early media) a b once x y)) h k
 
-  pub only-asked : (told : List (List ℕ)) (a b : Answer) → IsOnce asks → AreTold i.texts (names_in asks.sdp asks.captures) told
-      → FollowsAsks asks i (Ok a) → FollowsAsks asks i (Ok b) → a ≡ b
-  only-asked told a b once are h k =
-      only-yielded (λ answer. ReadsMedia i (Ok answer) asks.sdp (λ m. OnEarly (asks.early m) (Ok answer) (ReadsAsked asks m i (Ok answer)))) a b
-      (λ p q. only-read asks.sdp told a b once are p q) h k
+  pub some-queried : (told : List (List ℕ)) → AreThere i.lacks (inputs_of query) → AreTold i.texts (inputs_of query) told
+      → ((texts : List (List ℕ)) → AreTold i.texts query.captures texts → DefinesSome query (map classic texts))
+      → (answer : Answer) × FollowsQuery query i (Ok answer)
+  some-queried [] there are some = absurd are
+  some-queried (sdp ∷ told) there are some =
+      some-yielded (λ answer. ReadsSession i (Ok answer) query.sdp (AnswersMedia query i (Ok answer)))
+      (some-described i query.sdp sdp (λ answer. AnswersMedia query i (Ok answer)) (All-head (λ n. ¬ i.lacks n) query.sdp query.captures there) are.0
+      (λ media e. some-over query i told are.1 media (query.early media) refl (All-tail (λ n. ¬ i.lacks n) query.sdp query.captures there)
+      (session-within sdp media e) (some told are.1)))
 
-  some-read : (sdp : Option (List ℕ)) (told : List (List ℕ)) → AreThere i.lacks (names_in sdp asks.captures)
-      → AreTold i.texts (names_in sdp asks.captures) told
-      → ((texts : List (List ℕ)) → AreTold i.texts asks.captures texts → IsSome asks (map classic texts))
-      → (answer : Answer) × ReadsMedia i (Ok answer) sdp (λ m. OnEarly (asks.early m) (Ok answer) (ReadsAsked asks m i (Ok answer)))
-  some-read None told there are some = some-after asks i told are [] (asks.early []) refl there (All-nil IsMedia) (some told are)
-  some-read (Some name) [] there are some = absurd are
-  some-read (Some name) (sdp ∷ told) there are some =
-      some-described i name sdp (λ answer media. OnEarly (asks.early media) (Ok answer) (ReadsAsked asks media i (Ok answer)))
-      (All-head (λ n. ¬ i.lacks n) name asks.captures there) are.0
-      (λ media e. some-after asks i told are.1 media (asks.early media) refl (All-tail (λ n. ¬ i.lacks n) name asks.captures there)
-      (session-within sdp media e) (some told are.1))
-
-  pub some-asked : (told : List (List ℕ)) → AreThere i.lacks (names_in asks.sdp asks.captures) → AreTold i.texts (names_in asks.sdp asks.captures) told
-      → ((texts : List (List ℕ)) → AreTold i.texts asks.captures texts → IsSome asks (map classic texts)) → (answer : Answer) × FollowsAsks asks i (Ok answer)
-  some-asked told there are some =
-      some-yielded (λ answer. ReadsMedia i (Ok answer) asks.sdp (λ m. OnEarly (asks.early m) (Ok answer) (ReadsAsked asks m i (Ok answer))))
-      (some-read asks.sdp told there are some)
-
-  read-failed : (sdp : Option (List ℕ)) (told : List (List ℕ)) (e : Failure) → (NameRose i sdp → AskedRose asks i input.Sdp)
-      → AreTold i.texts (names_in sdp asks.captures) told
-      → ReadsMedia i (Err e) sdp (λ m. OnEarly (asks.early m) (Err e) (ReadsAsked asks m i (Err e))) → Caused e (AskedRose asks i)
-  read-failed None told e rises are h = after-failed asks i told are [] (asks.early []) e h
-  read-failed (Some name) [] e rises are h = absurd are
-  read-failed (Some name) (sdp ∷ told) e rises are h =
-      described-failed i name sdp (λ media. OnEarly (asks.early media) (Err e) (ReadsAsked asks media i (Err e))) e (AskedRose asks i) are.0 rises
-      (λ media x. after-failed asks i told are.1 media (asks.early media) e x) h
-
-  pub asked-failed : (told : List (List ℕ)) (e : Failure) → AreTold i.texts (names_in asks.sdp asks.captures) told → FollowsAsks asks i (Err e)
-      → Caused e (AskedRose asks i)
-  asked-failed told e are h =
-      yielded-failed (ReadsMedia i (Err e) asks.sdp (λ m. OnEarly (asks.early m) (Err e) (ReadsAsked asks m i (Err e)))) e (AskedRose asks i)
-      (λ p. read-failed asks.sdp told e (λ r. r) are p) h
+  pub queried-failed : (told : List (List ℕ)) (e : Failure) → AreTold i.texts (inputs_of query) told → FollowsQuery query i (Err e)
+      → Caused e (QueryInputRose query i)
+  queried-failed [] e are h = absurd are
+  queried-failed (sdp ∷ told) e are h =
+      yielded-failed (ReadsSession i (Err e) query.sdp (AnswersMedia query i (Err e))) e (QueryInputRose query i)
+      (described-failed i query.sdp sdp (AnswersMedia query i (Err e)) e (QueryInputRose query i) are.0 (λ r. r)
+      (λ media x. over-failed query i told are.1 media (query.early media) e x)) h

@@ -1,6 +1,6 @@
 -- the definitions that the public clauses cite
 pub mod Answers
-pub mod Asks
+pub mod Queries
 pub mod Ran
 pub mod Ends
 pub mod Streams
@@ -9,3 +9,4 @@ pub mod Flows
 -- these serve only the proofs
 pub mod Fetched
 pub mod Taken
+pub mod Begun

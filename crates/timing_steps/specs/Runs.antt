@@ -6,7 +6,7 @@ use Rattle.timing_report.specs.declared.status.Input.{Input}
 use Rattle.timing_report.specs.declared.status.Input.TheVariants as input
 use Rattle.timing_report.specs.declared.status.Status.{Status}
 use Rattle.timing_steps.specs.Answers.{Answer, Inputs, OnReadFault}
-use Rattle.timing_steps.specs.Asks.{AskedRose, Asks, BeginsAsks, FollowsAsks, ends_of}
+use Rattle.timing_steps.specs.Queries.{QueryInputRose, Query, BeginsQuery, FollowsQuery, ends_of}
 use Rattle.timing_steps.specs.Ends.{is_failure, is_silent}
 use Rattle.timing_steps.specs.Ran.{Appended, Output, Ran}
 use Rattle.timing_steps.specs.Streams.{OnFailure, Rests, Streams, is_silent_stream}
@@ -14,9 +14,9 @@ use Rattle.timing_steps.specs.declared.failure.Failure.{Failure}
 use Rattle.timing_steps.specs.declared.failure.Failure.TheVariants as failure
 
 -- a run of a command on the inputs that it saw on its shelf
-abbrev pub RanAs : (streams : Bool) → Asks → Inputs → (o e : Output) → Status → Type 0
-RanAs true asks i o e ends = Streams (FollowsAsks asks i) (BeginsAsks asks i) (AskedRose asks i) o e ends
-RanAs false asks i o e ends = Ran (FollowsAsks asks i) (AskedRose asks i) o e ends
+abbrev pub RanAs : (streams : Bool) → Query → Inputs → (o e : Output) → Status → Type 0
+RanAs true query i o e ends = Streams (FollowsQuery query i) (BeginsQuery query i) (QueryInputRose query i) o e ends
+RanAs false query i o e ends = Ran (FollowsQuery query i) (QueryInputRose query i) o e ends
 
 -- with this status nothing is printed on standard output
 abbrev pub is_silent_for : (streams : Bool) → Status → Bool
@@ -25,8 +25,8 @@ is_silent_for false ends = is_silent ends
 
 -- the run ends with a status of its answers or with a failure, and if its status is silent, nothing was printed; this
 -- holds whatever the inputs contain
-pub record EndsAs (streams : Bool) (asks : Asks) (o : Output) (ends : Status) : Type 0 where
-  pub status_is : ends_of asks ends || is_failure ends ≡ true
+pub record EndsAs (streams : Bool) (query : Query) (o : Output) (ends : Status) : Type 0 where
+  pub status_is : ends_of query ends || is_failure ends ≡ true
   pub silent : is_silent_for streams ends ≡ true → Appended o []
 
 -- the state of a run before its end. Of a command that prints while it reads: what was printed and then this rest is an
@@ -47,9 +47,9 @@ pub record IsQuiet (o : Output) (rest : Answer) : Type 0 where
   pub after : rest.text ≡ []
 
 -- the state of a run before its end, with the statuses and the causes
-pub record Stands (streams : Bool) (asks : Asks) (i : Inputs) (o : Output) (rest : Result Answer Failure) : Type 0 where
-  pub rests : LeavesRest streams o (FollowsAsks asks i) (BeginsAsks asks i) rest
-  pub ends : IfOk rest (λ r. ends_of asks r.status ≡ true)
+pub record BeforeEnd (streams : Bool) (query : Query) (i : Inputs) (o : Output) (rest : Result Answer Failure) : Type 0 where
+  pub rests : LeavesRest streams o (FollowsQuery query i) (BeginsQuery query i) rest
+  pub ends : IfOk rest (λ r. ends_of query r.status ≡ true)
   pub quiet : IfOk rest (λ r. is_silent_for streams r.status ≡ true → IsQuiet o r)
-  pub cause : IfErr rest (λ e. FailsBy streams o e (AskedRose asks i))
+  pub cause : IfErr rest (λ e. FailsBy streams o e (QueryInputRose query i))
   pub unread : rest ≡ Err (failure.ReadFault input.Sdp) → Appended o []

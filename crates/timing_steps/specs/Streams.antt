@@ -74,7 +74,7 @@ Rests o Follows Begins (Ok rest) = HasRest o (λ answer. Follows (Ok answer)) re
 Rests o Follows Begins (Err e) = ((e ≡ failure.WriteFault) ⊎ Follows (Err e)) × HasBegun o Begins
 
 -- the rest of an answer has one of its statuses, and if that is silent, nothing was printed and the rest is empty (goes
--- once `series` is a `Command`: `Stands` says it)
+-- once `series` is a `Command`: `BeforeEnd` says it)
 pub record HasRestStatus (o : Output) (rest : Answer) : Type 0 where
   pub ends : look_ends rest.status ≡ true
   pub silent : is_silent_stream rest.status ≡ true → Appended o [] × (rest.text ≡ [])

@@ -1,45 +1,46 @@
 //! Commands that read an SDP and captures, and their run.
 
-ghost use Rattle.std.specs.Prelude.{◌≡◌, ◌≤◌, ℕ, Bool, None, Some, IfErr, IfOk, IfSome, MatchOption, true};
+ghost use Rattle.std.specs.Prelude.{◌≡◌, ◌≤◌, ℕ, Bool, None, IfErr, IfOk, IfSome, true};
+ghost use Rattle.timing_base.specs.Targets.{HaveOwnTargets};
 ghost use Rattle.timing_outside.specs.Shelves.{StaysAs};
-ghost use Rattle.timing_steps.specs.Answers.{CaptureRose, OnReadFault, seen_of};
-ghost use Rattle.timing_steps.specs.Asks.{Asks, BeginsCaptures, FollowsCaptures, IsBegun, IsSettled, NameRose, WasRead, judged_ends};
+ghost use Rattle.timing_steps.specs.Answers.{CaptureRose, HasRisen, OnReadFault, seen_of};
+ghost use Rattle.timing_steps.specs.Begun.{IsBegun, IsSettled};
+ghost use Rattle.timing_steps.specs.Queries.{BeginsCaptures, FollowsCaptures, Query, judged_ends};
 ghost use Rattle.timing_steps.specs.Ran.{output_of};
-ghost use Rattle.timing_steps.specs.Runs.{EndsAs, FailsBy, LeavesRest, RanAs, Stands};
+ghost use Rattle.timing_steps.specs.Runs.{BeforeEnd, EndsAs, FailsBy, LeavesRest, RanAs};
 
 use crate::answer::Answer;
 use crate::failure::Failure;
 use crate::fetch::fetch_session;
 use crate::print::conclude;
-use sdp_reader::SdpFault;
 use std::alloc::{AllocError as OutOfMemory, Global};
-use timing_base::{FileName, Items, Session};
+use timing_base::{FileName, Session};
 use timing_outside::{Shelf, Sink};
 use timing_report::{Input, Status};
 
-/// A command that reads an SDP, or none, and then captures.
+/// A command that reads an SDP, and then captures.
 pub trait Command {
     /// What the command asks of its inputs: their names, and the answers that their contents define.
-    ghost asks: { Self → Asks };
+    ghost query: { Self → Query };
 
     /// The command prints while it reads. If not, it prints its answer once it is whole.
     ghost streams: { Bool };
 
-    /// Returns the name of the SDP, or `None` if the command reads none.
-    fn sdp(&self) -> Option<&FileName>
-        ensures { MatchOption result ((asks self.now).sdp ≡ None)
-            (λ name. (asks self.now).sdp ≡ Some name.now) };
+    /// Returns the name of the SDP.
+    fn sdp(&self) -> &FileName
+        ensures { result.now ≡ (query self.now).sdp };
 
-    /// Returns the answer if the media of the SDP settle it, as if they lack the one that is asked for; then no capture
-    /// is opened. Returns `Err` if memory runs out.
+    /// Returns the answer if the media of the SDP settle it, for example if the media of the job isn't among them. Then
+    /// no capture is opened. Returns `Err` if memory runs out.
     fn early(&self, alloc: Global, session: &Session) -> Result<Option<Answer>, OutOfMemory>
-        ensures early { IfOk result (λ found. found ≡ (asks self.now).early session.now) }
+        ensures early { IfOk result (λ found. found ≡ (query self.now).early session.now) }
         ensures ends { IfOk result (λ found. IfSome found (λ answer.
-            judged_ends (asks self.now).checks answer.status ≡ true)) };
+            judged_ends (query self.now).checks answer.status ≡ true)) };
 
-    /// Opens and reads the captures. Returns the answer, or of a command that prints while it reads the rest of it that
-    /// isn't printed yet; or the reason why there is no answer, or not the whole. Only such a command prints on `out`.
-    /// A command that reads no SDP gets a session without media.
+    /// Opens and reads the captures, and returns the answer, or the reason why there is none.
+    ///
+    /// A command that prints while it reads prints the first part of its answer on `out`, and returns the rest. If it
+    /// fails, `out` has nothing, or a prefix of the answer. Any other command prints nothing here.
     fn answer<H: Shelf, K: Sink>(
         &self,
         alloc: Global,
@@ -47,53 +48,35 @@ pub trait Command {
         shelf: &mut H,
         out: &mut K,
     ) -> Result<Answer, Failure>
-        requires { (asks self.now).early session.now ≡ None }
+        requires targets { HaveOwnTargets session.now }
+        requires unsettled { (query self.now).early session.now ≡ None }
         ensures rests { LeavesRest streams (output_of K.Sink out.old out.new)
-            (FollowsCaptures (asks self.now) session.now (seen_of H.Shelf shelf.old shelf.new))
-            (BeginsCaptures (asks self.now) session.now (seen_of H.Shelf shelf.old shelf.new)) result }
-        ensures ends { IfOk result (λ rest. judged_ends (asks self.now).checks rest.status ≡ true) }
+            (FollowsCaptures (query self.now) session.now (seen_of H.Shelf shelf.old shelf.new))
+            (BeginsCaptures (query self.now) session.now (seen_of H.Shelf shelf.old shelf.new)) result }
+        ensures ends { IfOk result (λ rest. judged_ends (query self.now).checks rest.status ≡ true) }
         ensures cause { IfErr result (λ e. FailsBy streams (output_of K.Sink out.old out.new) e (λ i.
             (number : ℕ) × (i ≡ Input.Capture number) × CaptureRose (H.faults shelf.old)
-            (H.faults shelf.new) (asks self.now).captures number)) }
+            (H.faults shelf.new) (query self.now).captures number)) }
         ensures later { K.faults out.old ≤ K.faults out.new }
         ensures stays { StaysAs H.text H.lacks H.faults shelf.old shelf.new };
 }
 
-/// Reads the SDP of a command as a session, or returns its first fault. Without an SDP the session has no media.
-fn read_sdp_of<H: Shelf, C: Command>(
-    alloc: Global,
-    command: &C,
-    shelf: &mut H,
-) -> Result<Result<Session, SdpFault>, Failure>
-    ensures read { IfOk result (WasRead (H.text shelf.old) (H.lacks shelf.old) (C.asks command.now).sdp) }
-    ensures cause { IfErr result (λ e. OnReadFault e (λ i. (i ≡ Input.Sdp)
-        × NameRose (seen_of H.Shelf shelf.old shelf.new) (C.asks command.now).sdp)) }
-    ensures stays { StaysAs H.text H.lacks H.faults shelf.old shelf.new }
-{
-    match command.sdp() {
-        Some(name) => fetch_session(alloc, shelf, name.as_str()),
-        None => Ok(Ok(Session {
-            media: Items::from_vec(Vec::new(alloc)),
-        })),
-    }
-}
-
-/// Returns the session of the SDP of a command, without media if it reads none. `Ok(Err(_))` is the answer if the SDP is
-/// invalid, or if its media settle the answer.
+/// Reads the SDP of a command as a session. `Ok(Err(_))` is the answer if the SDP is invalid, or if its media settle the
+/// answer.
 fn begin<H: Shelf, C: Command>(
     alloc: Global,
     command: &C,
     shelf: &mut H,
 ) -> Result<Result<Session, Answer>, Failure>
     ensures begun { IfOk result (λ begun. IfOk begun (λ session.
-        IsBegun (C.asks command.now) (H.text shelf.old) (H.lacks shelf.old) session)) }
+        IsBegun (C.query command.now) (H.text shelf.old) (H.lacks shelf.old) session)) }
     ensures settled { IfOk result (λ begun. IfErr begun (λ answer.
-        IsSettled (C.asks command.now) (seen_of H.Shelf shelf.old shelf.new) answer)) }
+        IsSettled (C.query command.now) (seen_of H.Shelf shelf.old shelf.new) answer)) }
     ensures cause { IfErr result (λ e. OnReadFault e (λ i. (i ≡ Input.Sdp)
-        × NameRose (seen_of H.Shelf shelf.old shelf.new) (C.asks command.now).sdp)) }
+        × HasRisen (seen_of H.Shelf shelf.old shelf.new) (C.query command.now).sdp)) }
     ensures stays { StaysAs H.text H.lacks H.faults shelf.old shelf.new }
 {
-    match read_sdp_of(alloc, command, shelf)? {
+    match fetch_session(alloc, shelf, command.sdp().as_str())? {
         Ok(session) => match command.early(alloc, &session)? {
             Some(answer) => Ok(Err(answer)),
             None => Ok(Ok(session)),
@@ -110,7 +93,7 @@ fn answer_command<H: Shelf, K: Sink, C: Command>(
     shelf: &mut H,
     out: &mut K,
 ) -> Result<Answer, Failure>
-    ensures stands { Stands C.streams (C.asks command.now) (seen_of H.Shelf shelf.old shelf.new)
+    ensures stands { BeforeEnd C.streams (C.query command.now) (seen_of H.Shelf shelf.old shelf.new)
         (output_of K.Sink out.old out.new) result }
     ensures later { K.faults out.old ≤ K.faults out.new }
     ensures stays { StaysAs H.text H.lacks H.faults shelf.old shelf.new }
@@ -130,11 +113,11 @@ pub fn run_command<H: Shelf, K: Sink, C: Command>(
     out: &mut K,
     err: &mut K,
 ) -> Status
-    ensures ran { RanAs C.streams (C.asks command.now) (seen_of H.Shelf shelf.old shelf.new)
+    ensures ran { RanAs C.streams (C.query command.now) (seen_of H.Shelf shelf.old shelf.new)
         (output_of K.Sink out.old out.new)
         (output_of K.Sink err.old err.new)
         result }
-    ensures ends { EndsAs C.streams (C.asks command.now) (output_of K.Sink out.old out.new) result }
+    ensures ends { EndsAs C.streams (C.query command.now) (output_of K.Sink out.old out.new) result }
     ensures stays { StaysAs H.text H.lacks H.faults shelf.old shelf.new }
 {
     let outcome = answer_command(alloc, command, shelf, out);

@@ -1,7 +1,7 @@
 //! The media that a command on one flow names.
 
 ghost use Rattle.std.specs.Prelude.{◌≡◌, IfOk, IfSome, false, slice_get, true};
-ghost use Rattle.timing_steps.specs.Asks.{judged_ends};
+ghost use Rattle.timing_steps.specs.Queries.{judged_ends};
 ghost use Rattle.timing_steps.specs.Flows.{no_media, no_such_media};
 
 use crate::answer::Answer;
