@@ -1,4 +1,4 @@
-use Rattle.std.proofs.Common.{refl, rules}
+use Rattle.std.proofs.Common.{rules}
 use Rattle.std.proofs.KnownBytes.{Keeps-refl}
 use Rattle.timing_steps.specs.Answers.{seen_of}
 use Rattle.timing_steps.specs.Ran.{output_of}
@@ -22,4 +22,4 @@ returns-in-Err-clause-stands g c =
 pub returns-in_err-session-clause-stands : goal.returns-in_err-session-clause-stands
 returns-in_err-session-clause-stands g c =
     before-unread g.C.Command.streams (g.C.Command.query c.args.command.now) (seen_of g.H.Shelf c.args.shelf.now c.begin.new.shelf)
-    (output_of g.K.Sink c.args.out.now c.args.out.now) c.from_residual.result (Keeps-refl (g.K.Sink.written c.args.out.now)) refl (search rules)
+    (output_of g.K.Sink c.args.out.now c.args.out.now) c.from_residual.result (Keeps-refl (g.K.Sink.written c.args.out.now)) (search rules) (search rules)
