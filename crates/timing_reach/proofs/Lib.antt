@@ -23,5 +23,5 @@ mod Shapings
 mod KeptShapes
 mod Pairings
 mod Comparings
-mod Skewing
+pub mod Skewing
 pub mod Scannings

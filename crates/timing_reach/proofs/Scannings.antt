@@ -1,8 +1,8 @@
 -- What follows for `scan` from what was found in its capture, and that a text has one answer.
-use Rattle.std.proofs.Common.{◌≡◌, ◌^◌, ◌==◌, ◌||◌, if◌then◌else◌, ℕ, Bool, true, false, List, [], ◌∷◌, refl, ap, ◌∙◌, sym, subst}
+use Rattle.std.specs.Prelude.{IfErr, IfOk, Result, Ok, Err}
+use Rattle.std.proofs.Common.{◌≡◌, ◌^◌, ◌==◌, ◌||◌, if◌then◌else◌, ℕ, Bool, true, false, List, [], refl, ap, ◌∙◌, sym, subst}
 use Rattle.timing_base.specs.Captures.{Record}
 use Rattle.timing_base.specs.Jobs.{ScanJob}
-use Rattle.timing_base.specs.Media.{Media}
 use Rattle.timing_base.specs.declared.capture.FileNote.{FileNote}
 use Rattle.timing_base.specs.declared.job.ScanForm.{ScanForm}
 use Rattle.timing_base.specs.declared.job.ScanForm.TheVariants.{Draft, Json, Lines}
@@ -10,16 +10,24 @@ use Rattle.capture_scan.specs.Scans.{IsFound}
 use Rattle.capture_scan.specs.Stands.{StandsFor, Takes}
 use Rattle.capture_scan.specs.declared.found.Found.{Found}
 use Rattle.capture_scan.specs.declared.scan.Scan.{Scan}
+use Rattle.std.proofs.lemmas.Bool.{false≢true}
+use Rattle.pcap_reader.specs.Header.{header}
 use Rattle.pcap_reader.specs.Records.{Records}
 use Rattle.pcap_reader.specs.declared.records.Taken.{Taken}
+use Rattle.pcap_reader.proofs.Lists.{only_by, some_by}
 use Rattle.capture_scan.specs.report.Contents.{Contents, contents_of}
 use Rattle.timing_report.specs.Outcomes.{is_refused}
+use Rattle.timing_report.specs.declared.status.Status.{Status}
 use Rattle.timing_report.specs.declared.status.Status.TheVariants as status
-use Rattle.timing_steps.specs.Answers.{Answer}
-use Rattle.timing_steps.specs.Asks.{HasAnswer, judged_ends, only_file, only_note}
+use Rattle.timing_report.specs.declared.status.Input.TheVariants as input
+use Rattle.timing_outside.specs.Causes.{Rose}
+use Rattle.timing_steps.specs.Answers.{Answer, Inputs, OnReadFault}
+use Rattle.timing_steps.specs.Ends.{HasStatus}
+use Rattle.timing_steps.specs.Ran.{HasCause, IsAnswered}
 use Rattle.timing_steps.specs.Taken.{TakesText}
-use Rattle.timing_steps.proofs.Onces.{IsOnce, IsSome}
-use Rattle.timing_reach.specs.Scanned.{contents, scan_asks, scan_status, scanned}
+use Rattle.timing_steps.specs.declared.failure.Failure.{Failure}
+use Rattle.timing_steps.specs.declared.failure.Failure.TheVariants as failure
+use Rattle.timing_reach.specs.Scanned.{HasScan, ScanInputRose, contents, scan_ends, scan_status, scanned}
 use Rattle.timing_reach.specs.scan.Scanning.{IsScannedIn}
 use Rattle.timing_reach.specs.declared.scan.Scanned.{Scanned}
 use Rattle.timing_reach.proofs.Takings.{fed-alone}
@@ -43,35 +51,60 @@ scanned-in text old new read s none t finds note =
     record { items = t.items; records = subst (λ n. Records text (2 ^ 40) t.items n) (sym note) t.records; found_is = found }
 
 -- the answer on what was found
-pub has-scan : (job : ScanJob) (media : List Media) (text : List ℕ) (s : Scanned) (answer : Answer) → IsScannedIn text s
-    → answer ≡ scanned job.form job.capture s.note (contents_of s.found) → HasAnswer (scan_asks job) media (text ∷ []) answer
-has-scan job media text s answer h e = record {
-  files = h.items ∷ [];
-  notes = s.note ∷ [];
-  records = (h.records, tt);
-  tells = e ∙ ap (scanned job.form job.capture s.note) (found-contents h.items s.found h.found_is);
+pub has-scan : (job : ScanJob) (text : List ℕ) (s : Scanned) (answer : Answer) → IsScannedIn text s
+    → answer ≡ scanned job.form job.capture s.note (contents_of s.found) → HasScan job text answer
+has-scan job text s answer h e = record {
+  items = h.items;
+  note = s.note;
+  records = h.records;
+  answer_is = e ∙ ap (scanned job.form job.capture s.note) (found-contents h.items s.found h.found_is);
 }
 
 -- each answer has one of the two statuses
-status-ends : (note : FileNote) (n : ℕ) → judged_ends false (scan_status note n) ≡ true
-status-ends note n = go ((n == 0) || is_refused note)
+status-ends : (note : FileNote) (n : ℕ) (text : List ℕ) → HasStatus scan_ends (record { text = text; status = scan_status note n })
+status-ends note n text = go ((n == 0) || is_refused note)
   where
-    go : (b : Bool) → judged_ends false (if b then status.NotAllJudged else status.Pass) ≡ true
-    go true = refl
-    go false = refl
+    go : (b : Bool) → HasStatus scan_ends (record { text = text; status = if b then status.NotAllJudged else status.Pass })
+    go true = (refl, tt)
+    go false = (refl, tt)
 
-scanned-ends : (form : ScanForm) (name : List ℕ) (note : FileNote) (c : Contents) → judged_ends false (scanned form name note c).status ≡ true
-scanned-ends Lines name note c = status-ends note _
-scanned-ends Json name note c = status-ends note _
-scanned-ends Draft name note c = status-ends note _
+scanned-ends : (form : ScanForm) (name : List ℕ) (note : FileNote) (c : Contents) → HasStatus scan_ends (scanned form name note c)
+scanned-ends Lines name note c = status-ends note _ _
+scanned-ends Json name note c = status-ends note _ _
+scanned-ends Draft name note c = status-ends note _ _
 
 pub scan-ends : (form : ScanForm) (name : List ℕ) (note : FileNote) (c : Contents) (answer : Answer) → answer ≡ scanned form name note c
-    → judged_ends false answer.status ≡ true
-scan-ends form name note c answer is = subst (λ (a : Answer). judged_ends false a.status ≡ true) (sym is) (scanned-ends form name note c)
+    → HasStatus scan_ends answer
+scan-ends form name note c answer is = subst (HasStatus scan_ends) (sym is) (scanned-ends form name note c)
+
+-- none of them is that of a failure
+scan-status : (s : Status) → scan_ends s ≡ true → IsAnswered s
+scan-status status.Pass h = tt
+scan-status status.Fail h = tt
+scan-status status.Usage h = tt
+scan-status (status.SdpRefused fault) h = tt
+scan-status status.NotAllJudged h = tt
+scan-status (status.ReadFault input) h = absurd (false≢true h)
+scan-status status.WriteFault h = absurd (false≢true h)
+scan-status status.OutOfMemory h = absurd (false≢true h)
+scan-status status.ReportRefused h = tt
+
+-- the capture is the one input that couldn't be read
+pub scan-cause : (i : Inputs) (job : ScanJob) (outcome : Result Answer Failure) → IfOk outcome (HasStatus scan_ends)
+    → IfErr outcome (λ e. OnReadFault e (λ x. (x ≡ input.Capture 0) × Rose (i.before job.capture) (i.now job.capture))) → HasCause outcome (ScanInputRose job i)
+scan-cause i job (Ok answer) answers cause = scan-status answer.status answers.0
+scan-cause i job (Err (failure.ReadFault x)) answers cause = subst (ScanInputRose job i) (sym cause.0) (refl, cause.1)
+scan-cause i job (Err failure.WriteFault) answers cause = cause
+scan-cause i job (Err failure.OutOfMemory) answers cause = tt
 
 -- a text has one answer
-pub once-scan : (job : ScanJob) → IsOnce (scan_asks job)
-once-scan job media files notes a b h k = h ∙ sym k
+pub some-scan : (job : ScanJob) (text : List ℕ) → (answer : Answer) × HasScan job text answer
+some-scan job text =
+    let all = some_by (header text) (2 ^ 40) text in
+    (scanned job.form job.capture all.1 (contents all.0), record { items = all.0; note = all.1; records = all.2; answer_is = refl })
 
-pub some-scan : (job : ScanJob) (texts : List (List ℕ)) → IsSome (scan_asks job) texts
-some-scan job texts media files notes are unsettled records = (scanned job.form job.capture (only_note notes) (contents (only_file files)), refl)
+pub once-scan : (job : ScanJob) (text : List ℕ) (a b : Answer) → HasScan job text a → HasScan job text b → a ≡ b
+once-scan job text a b h k =
+    let same = only_by (header text) (2 ^ 40) text h.items k.items h.note k.note h.records k.records in
+    h.answer_is ∙ ap (λ items. scanned job.form job.capture h.note (contents items)) same.0
+    ∙ ap (λ note. scanned job.form job.capture note (contents k.items)) same.1 ∙ sym k.answer_is

@@ -14,7 +14,6 @@
 //! - `judged`: the common parts of the commands on one flow.
 //! - `laws`: contents have one answer; what `shape` writes is read back; answers that are worked by hand.
 //! - `scan`, `shape`, `skew`, `window`: the commands.
-
 #![tactic(auto)]
 
 pub mod judged;
@@ -24,7 +23,7 @@ mod shape;
 mod skew;
 mod window;
 
-pub use scan::ScanCommand;
+pub use scan::scan_one;
 pub use shape::shape_one;
-pub use skew::skew_one;
+pub use skew::SkewCommand;
 pub use window::window_one;

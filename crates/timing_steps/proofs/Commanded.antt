@@ -279,39 +279,3 @@ ends-by streams query i old mid new before between now (Err e) ends h p =
       status_is = failed-ends query e;
       silent = failed-quiet streams query i old mid new before between e h p.1;
     })
-
--- one capture that was read, or couldn't be
-pub reads-one : (query : Query) (media : List Media) (i : Inputs) (name : List ℕ) (outcome : Result Answer Failure) → query.captures ≡ name ∷ []
-    → IfOk outcome (λ answer. (text : List ℕ) → classic_texts i.texts name ≡ Some text → HasAnswer query media (text ∷ []) answer)
-    → IfOk outcome (λ _. ¬ i.lacks name)
-    → IfErr outcome (λ e. OnReadFault e (λ x. (x ≡ input.Capture 0) × Rose (i.before name) (i.now name)))
-    → FollowsCaptures query media i outcome
-reads-one query media i name (Ok answer) is told there cause =
-    inr (subst (λ names. ReadsCaptures i (Ok answer) names (λ texts. Gives (Ok answer) (HasAnswer query media texts))) (sym is) (inr (
-      All-cons (λ n. ¬ i.lacks n) name [] there (All-nil (λ n. ¬ i.lacks n)),
-      given,
-    )))
-  where
-    given : (texts : List (List ℕ)) → AreTold i.texts (name ∷ []) texts → Gives (Ok answer) (HasAnswer query media (map classic texts))
-    given [] are = absurd are
-    given (text ∷ []) are = (answer, refl, told (classic text) (ap (option_map classic) are.0))
-    given (text ∷ other ∷ others) are = absurd are.1
-reads-one query media i name (Err (failure.ReadFault x)) is told there cause =
-    inr (subst (λ names. ReadsCaptures i (Err (failure.ReadFault x)) names (λ texts. Gives (Err (failure.ReadFault x)) (HasAnswer query media texts)))
-    (sym is) (inl (0, ap (λ y. Err (failure.ReadFault y)) cause.0, record { within = omega arith; rose = cause.1 })))
-reads-one query media i name (Err failure.WriteFault) is told there cause = absurd cause
-reads-one query media i name (Err failure.OutOfMemory) is told there cause = inl refl
-
--- the one capture is the first of the list of captures
-pub only-capture : (before now : List ℕ → ℕ) (name : List ℕ) (e : Failure) → OnReadFault e (λ x. (x ≡ input.Capture 0) × Rose (before name) (now name))
-    → OnReadFault e (λ x. (number : ℕ) × (x ≡ input.Capture number) × CaptureRose before now (name ∷ []) number)
-only-capture before now name (failure.ReadFault x) h = (0, h.0, record { within = omega arith; rose = h.1 })
-only-capture before now name failure.WriteFault h = h
-only-capture before now name failure.OutOfMemory h = tt
-
--- a step that reads nothing has no read fault
-pub captures-cause : (outcome : Result Answer Failure) (P : Input → Type 0) → IfErr outcome (λ e. OnReadFault e (λ _. ⊥)) → IfErr outcome (λ e. OnReadFault e P)
-captures-cause (Ok answer) P h = tt
-captures-cause (Err (failure.ReadFault x)) P h = absurd h
-captures-cause (Err failure.WriteFault) P h = absurd h
-captures-cause (Err failure.OutOfMemory) P h = tt

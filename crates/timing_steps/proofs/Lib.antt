@@ -8,4 +8,5 @@ pub mod Takings
 pub mod Resting
 pub mod Commanded
 pub mod Beginnings
+pub mod Capturing
 pub mod Onces

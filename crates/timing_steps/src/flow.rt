@@ -1,12 +1,12 @@
-//! The media that a command on one flow names.
+//! The media that a job names.
 
-ghost use Rattle.std.specs.Prelude.{◌≡◌, IfOk, IfSome, false, slice_get, true};
-ghost use Rattle.timing_steps.specs.Queries.{judged_ends};
+ghost use Rattle.std.specs.Prelude.{◌≡◌, IfOk, IfSome, None, Some, false, slice_get, true};
 ghost use Rattle.timing_steps.specs.Flows.{no_media, no_such_media};
+ghost use Rattle.timing_steps.specs.Queries.{judged_ends};
 
 use crate::answer::Answer;
 use std::alloc::{AllocError as OutOfMemory, Global};
-use timing_base::Session;
+use timing_base::{Media, Session};
 use timing_report::Status;
 
 /// Returns the answer if the SDP doesn't have the media. Returns `Err` if memory runs out.
@@ -21,7 +21,7 @@ fn no_such_media(alloc: Global) -> Result<Answer, OutOfMemory>
 
 /// Returns the answer that a session doesn't have the media with this number, counted from 0, or `None` if it has it.
 /// Returns `Err` if memory runs out.
-pub fn early_of_flow(
+pub fn early_of_media(
     alloc: Global,
     session: &Session,
     number: u32,
@@ -34,4 +34,13 @@ pub fn early_of_flow(
         Some(_) => Ok(None),
         None => Ok(Some(no_such_media(alloc)?)),
     }
+}
+
+/// Returns the media with this number, counted from 0, of a session that has it.
+#[tactic(auto, using(crate::proofs::Capturing::media_within, std::proofs::lemmas::Option::slice_get_read))]
+pub fn media_of(session: &Session, number: u32) -> &Media
+    requires has { no_media (slice_get session.now number) ≡ None }
+    ensures found { slice_get session.now number ≡ Some result.now }
+{
+    &session.media.as_slice()[number as usize]
 }

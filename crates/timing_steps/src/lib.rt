@@ -23,7 +23,7 @@ pub use capture::take_capture;
 pub use command::{Command, run_command};
 pub use failure::Failure;
 pub use fetch::{fetch_captures, fetch_classic, fetch_session, give_back, give_back_all};
-pub use flow::early_of_flow;
+pub use flow::{early_of_media, media_of};
 pub use print::conclude;
 pub use take::take_source;
 pub use text::fetch_front;

@@ -32,11 +32,8 @@ use Rattle.timing_measure.specs.series.Series.{HasSeries}
 use Rattle.timing_measure.proofs.lemmas.series.Unique.{once-series}
 use Rattle.timing_top.proofs.Measurable.{some-measure, some-page, some-series}
 use Rattle.timing_top.proofs.Measuring.{flows-failed, only-flows, some-flows}
-use Rattle.timing_top.proofs.Reaching.{only-reach, only-skewed, reach-failed, skewed-failed}
-use Rattle.timing_top.proofs.Reaching.{some-reach, some-reach-bytes, some-skewed}
-use Rattle.timing_reach.specs.Scanned.{scan_asks}
-use Rattle.timing_reach.proofs.Scannings.{once-scan, some-scan}
-use Rattle.timing_steps.proofs.Onces.{asked-failed, only-asked, some-asked}
+use Rattle.timing_top.proofs.Reaching.{only-reach, only-scanned, only-skewed, reach-failed, scanned-failed, skewed-failed}
+use Rattle.timing_top.proofs.Reaching.{some-reach, some-reach-bytes, some-scanned, some-skewed}
 use Rattle.timing_top.proofs.Reports.{only-report, some-report}
 use Rattle.timing_top.proofs.Reported.{only-reread, reread-failed, some-reread}
 use Rattle.timing_top.proofs.SelfTests.{only-self_test, some-self_test}
@@ -117,7 +114,7 @@ some-answer (Some (request.Window job)) i texts there told bytes =
 some-answer (Some (request.Shape job)) i texts there told bytes =
     some-reach job.flow i texts (HasShapeIn job) there told (λ m is text. some-shape-in job m text is)
 some-answer (Some (request.Skew job)) i texts there told bytes = some-skewed job i texts there told
-some-answer (Some (request.Scan job)) i texts there told bytes = some-asked (scan_asks job) i texts there told (λ told are. some-scan job (map classic told))
+some-answer (Some (request.Scan job)) i texts there told bytes = some-scanned job i texts there told
 some-answer (Some (request.Measure job)) i texts there told bytes =
     some-flows job i texts (HasMeasure job) there told bytes.1 (λ media text. some-measure job media text bytes.0)
 some-answer (Some (request.Series job)) i texts there told bytes =
@@ -139,7 +136,7 @@ only-answer (Some (request.Window job)) i texts a b told h k =
     only-reach job i texts (HasWindow job.tai) a b told (λ m text. once-window job.tai m text) h k
 only-answer (Some (request.Shape job)) i texts a b told h k = only-reach job.flow i texts (HasShapeIn job) a b told (once-shape-in job) h k
 only-answer (Some (request.Skew job)) i texts a b told h k = only-skewed job i texts a b told h k
-only-answer (Some (request.Scan job)) i texts a b told h k = only-asked (scan_asks job) i texts a b (once-scan job) told h k
+only-answer (Some (request.Scan job)) i texts a b told h k = only-scanned job i texts a b told h k
 only-answer (Some (request.Measure job)) i texts a b told h k =
     only-flows job i texts (HasMeasure job) a b told (λ media text. once-measure job media text) h k
 only-answer (Some (request.Series job)) i texts a b told h k =
@@ -161,7 +158,7 @@ answer-failed (Some (request.SelfTest job)) i texts e told h =
 answer-failed (Some (request.Window job)) i texts e told h = reach-failed job i texts (HasWindow job.tai) e told h
 answer-failed (Some (request.Shape job)) i texts e told h = reach-failed job.flow i texts (HasShapeIn job) e told h
 answer-failed (Some (request.Skew job)) i texts e told h = skewed-failed job i texts e told h
-answer-failed (Some (request.Scan job)) i texts e told h = asked-failed (scan_asks job) i texts e told h
+answer-failed (Some (request.Scan job)) i texts e told h = scanned-failed job i texts e told h
 answer-failed (Some (request.Measure job)) i texts e told h =
     flows-failed job i texts (HasMeasure job) e (MeasureInputRose job i) told (λ r. r) (λ r. (refl, r)) h
 answer-failed (Some (request.Series job)) i texts e told h =

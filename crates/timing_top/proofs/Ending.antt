@@ -1,5 +1,5 @@
 -- How a run of a request ends, whatever its texts are.
-use Rattle.std.proofs.Common.{◌≡◌, ℕ, true, false, Some, None, Option, Ok, Err, refl, ap, ◌∙◌, sym, subst, inl, inr}
+use Rattle.std.proofs.Common.{◌≡◌, ℕ, true, Some, None, Option, Ok, Err, refl, ap, ◌∙◌, sym, subst, inl, inr}
 use Rattle.std.specs.Prelude.{◌||◌, if◌then◌else◌, Bool, Result}
 use Rattle.std.proofs.lemmas.Bool.{false≢true}
 use Rattle.timing_base.specs.Jobs.{CaptureJob, CheckJob, FlowJob, ReportJob, ScanJob, SelfTestJob, SeriesJob, ShapeJob, SkewJob}
@@ -16,9 +16,7 @@ use Rattle.timing_steps.specs.declared.failure.Failure.{Failure}
 use Rattle.timing_steps.specs.declared.failure.Failure.TheVariants as failure
 use Rattle.timing_measure.specs.Measures.{measure_ends}
 use Rattle.timing_measure.specs.page.Pages.{page_ends}
-use Rattle.timing_steps.specs.Asks.{ends_of}
-use Rattle.timing_steps.specs.Runs.{EndsAs}
-use Rattle.timing_reach.specs.Scanned.{scan_asks}
+use Rattle.timing_reach.specs.Scanned.{scan_ends}
 use Rattle.timing_top.specs.Asked.{FollowsHelp, FollowsSelfTest}
 use Rattle.timing_top.specs.Ends.{Ends, may_end, reads_inputs, reads_sdp}
 use Rattle.timing_top.specs.Runs.{prints_whole}
@@ -82,7 +80,7 @@ look-all asked inputs sdp status.WriteFault h = refl
 look-all asked inputs sdp status.OutOfMemory h = refl
 look-all asked inputs sdp status.ReportRefused h = absurd (false≢true h)
 
-scan-all : (job : ScanJob) (s : Status) → ends_of (scan_asks job) s || is_failure s ≡ true → may_end (Some (request.Scan job)) s ≡ true
+scan-all : (job : ScanJob) (s : Status) → scan_ends s || is_failure s ≡ true → may_end (Some (request.Scan job)) s ≡ true
 scan-all job status.Pass h = refl
 scan-all job status.Fail h = h
 scan-all job status.Usage h = h
@@ -124,9 +122,9 @@ pub ends-skew : (asked : Request) (job : SkewJob) (o : Output) (ends : Status) �
 ends-skew asked job o ends is h =
     subst (EndsFor o ends) (sym is) (ends-as look_ends (request.Skew job) o ends refl (look-all (request.Skew job) refl refl) h)
 
-pub ends-scan : (asked : Request) (job : ScanJob) (o : Output) (ends : Status) → asked ≡ request.Scan job → EndsAs false (scan_asks job) o ends
+pub ends-scan : (asked : Request) (job : ScanJob) (o : Output) (ends : Status) → asked ≡ request.Scan job → EndsWith scan_ends o ends
     → Ends (Some asked) o ends
-ends-scan asked job o ends is h = subst (EndsFor o ends) (sym is) (record { status_is = scan-all job ends h.status_is; silent = h.silent })
+ends-scan asked job o ends is h = subst (EndsFor o ends) (sym is) (ends-as scan_ends (request.Scan job) o ends refl (scan-all job) h)
 
 pub ends-measure : (asked : Request) (job : CaptureJob) (o : Output) (ends : Status) → asked ≡ request.Measure job → EndsWith measure_ends o ends
     → Ends (Some asked) o ends

@@ -2,7 +2,7 @@
 use Rattle.std.proofs.Common.{◌≡◌, ℕ, zero, suc, List, [], ◌∷◌, Option, Some, None, refl, subst, inl, inr}
 use Rattle.std.specs.Prelude.{All, Result, Ok, Err, map, slice_get}
 use Rattle.std.proofs.lemmas.List.Elements.{All-head, All-tail}
-use Rattle.timing_base.specs.Jobs.{FlowJob, SkewJob}
+use Rattle.timing_base.specs.Jobs.{FlowJob, ScanJob, SkewJob}
 use Rattle.timing_base.specs.Media.{IsMedia, Media}
 use Rattle.pcapng_reader.specs.Bytes.{AreBytes}
 use Rattle.pcapng_reader.specs.Classic.{classic}
@@ -13,7 +13,9 @@ use Rattle.timing_report.specs.declared.status.Input.TheVariants as input
 use Rattle.timing_steps.specs.Answers.{Answer, AreThere, AreTold, Gives, HasRisen, Inputs, ReadsSession, Yields}
 use Rattle.timing_steps.specs.declared.failure.Failure.{Failure}
 use Rattle.timing_reach.specs.Asked.{FlowInputRose, ReadsCapture, ReadsFlow, no_such_media}
+use Rattle.timing_reach.specs.Scanned.{FollowsScan, HasScan, ScanInputRose}
 use Rattle.timing_reach.specs.Skewed.{FollowsSkew, HasSkew, ReadsPair, SkewInputRose}
+use Rattle.timing_reach.proofs.Scannings.{once-scan, some-scan}
 use Rattle.timing_reach.proofs.Unique.{once-skew, some-skew}
 use Rattle.timing_steps.proofs.Onces.{Caused, captured-failed, described-failed, not-given, ok-not-err, only-captured, only-described, only-given}
 use Rattle.timing_steps.proofs.Onces.{only-silent, only-yielded, same-err, same-some, some-captured, some-described, some-given, some-yielded, yielded-failed}
@@ -180,3 +182,23 @@ skewed-failed job i (sdp ∷ texts) e told h =
     (λ media x. pair-failed job i texts (slice_get media job.media) (slice_get media job.pair) e told.1 x) p) h
 
 -- what a capture holds
+pub some-scanned : (job : ScanJob) (i : Inputs) (texts : List (List ℕ)) → AreThere i.lacks (job.capture ∷ []) → AreTold i.texts (job.capture ∷ []) texts
+    → (answer : Answer) × FollowsScan job i (Ok answer)
+some-scanned job i [] there told = absurd told
+some-scanned job i (text ∷ texts) there told =
+    some-yielded (λ answer. ReadsCapture i (Ok answer) job.capture (λ t. Gives (Ok answer) (HasScan job t)))
+    (some-capture i job.capture text (HasScan job) (All-head (λ n. ¬ i.lacks n) job.capture [] there) told.0 (some-scan job (classic text)))
+
+pub only-scanned : (job : ScanJob) (i : Inputs) (texts : List (List ℕ)) (a b : Answer) → AreTold i.texts (job.capture ∷ []) texts
+    → FollowsScan job i (Ok a) → FollowsScan job i (Ok b) → a ≡ b
+only-scanned job i [] a b told h k = absurd told
+only-scanned job i (text ∷ texts) a b told h k =
+    only-yielded (λ answer. ReadsCapture i (Ok answer) job.capture (λ t. Gives (Ok answer) (HasScan job t))) a b
+    (λ p q. only-capture i job.capture text (HasScan job) a b told.0 (once-scan job (classic text)) p q) h k
+
+pub scanned-failed : (job : ScanJob) (i : Inputs) (texts : List (List ℕ)) (e : Failure) → AreTold i.texts (job.capture ∷ []) texts
+    → FollowsScan job i (Err e) → Caused e (ScanInputRose job i)
+scanned-failed job i [] e told h = absurd told
+scanned-failed job i (text ∷ texts) e told h =
+    yielded-failed (ReadsCapture i (Err e) job.capture (λ t. Gives (Err e) (HasScan job t))) e (ScanInputRose job i)
+    (λ p. capture-failed i job.capture text (HasScan job) e (ScanInputRose job i) told.0 (λ r. (refl, r)) p) h

@@ -1,5 +1,5 @@
 -- What the run of a command is to the request that asks for it.
-use Rattle.std.proofs.Common.{◌≡◌, ◌≤◌, [], Some, None, Option, true, false, refl, ap, sym, subst, inl, inr}
+use Rattle.std.proofs.Common.{◌≡◌, ◌≤◌, [], Some, None, Option, true, refl, ap, sym, subst, inl, inr}
 use Rattle.std.proofs.lemmas.Bool.{false≢true}
 use Rattle.std.specs.Prelude.{Result, Ok, Err}
 use Rattle.timing_base.specs.Jobs.{CaptureJob, CheckJob, FlowJob, ReportJob, ScanJob, SeriesJob, ShapeJob, SkewJob, VerifyJob}
@@ -8,8 +8,7 @@ use Rattle.timing_words.specs.declared.request.Request.TheVariants as request
 use Rattle.timing_measure.specs.Measures.{FollowsMeasure, MeasureInputRose}
 use Rattle.timing_measure.specs.page.Pages.{FollowsPage, PageInputRose}
 use Rattle.timing_reach.specs.Asked.{FlowInputRose, FollowsWindow}
-use Rattle.timing_steps.specs.Runs.{RanAs as CommandRan}
-use Rattle.timing_reach.specs.Scanned.{scan_asks}
+use Rattle.timing_reach.specs.Scanned.{FollowsScan, ScanInputRose}
 use Rattle.timing_reach.specs.Shaped.{FollowsShape}
 use Rattle.timing_reach.specs.Skewed.{FollowsSkew, SkewInputRose}
 use Rattle.timing_report.specs.declared.status.Input.{Input}
@@ -82,8 +81,9 @@ serves-skew asked job i o e ends is ran =
     subst (RanFor i o e ends) (sym is) (ran-as (FollowsSkew job i) _ (SkewInputRose job i) _ o e ends (λ r h. h) (λ x h. h) ran)
 
 pub serves-scan : (asked : Request) (job : ScanJob) (i : Inputs) (o e : Output) (ends : Status) → asked ≡ request.Scan job
-    → CommandRan false (scan_asks job) i o e ends → RanAs (Some asked) i o e ends
-serves-scan asked job i o e ends is ran = subst (RanFor i o e ends) (sym is) ran
+    → Ran (FollowsScan job i) (ScanInputRose job i) o e ends → RanAs (Some asked) i o e ends
+serves-scan asked job i o e ends is ran =
+    subst (RanFor i o e ends) (sym is) (ran-as (FollowsScan job i) _ (ScanInputRose job i) _ o e ends (λ r h. h) (λ x h. h) ran)
 
 pub serves-measure : (asked : Request) (job : CaptureJob) (i : Inputs) (o e : Output) (ends : Status) → asked ≡ request.Measure job
     → Ran (FollowsMeasure job i) (MeasureInputRose job i) o e ends → RanAs (Some asked) i o e ends

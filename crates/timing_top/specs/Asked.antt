@@ -16,8 +16,7 @@ use Rattle.timing_top.specs.Check.{CheckInputRose, FollowsCheck}
 use Rattle.timing_measure.specs.Measures.{FollowsMeasure, MeasureInputRose}
 use Rattle.timing_measure.specs.page.Pages.{FollowsPage, PageInputRose}
 use Rattle.timing_reach.specs.Asked.{FlowInputRose, FollowsWindow}
-use Rattle.timing_steps.specs.Asks.{AskedRose, FollowsAsks}
-use Rattle.timing_reach.specs.Scanned.{scan_asks}
+use Rattle.timing_reach.specs.Scanned.{FollowsScan, ScanInputRose}
 use Rattle.timing_reach.specs.Shaped.{FollowsShape}
 use Rattle.timing_reach.specs.Skewed.{FollowsSkew, SkewInputRose}
 use Rattle.timing_measure.specs.series.Series.{FollowsSeries}
@@ -50,7 +49,7 @@ Follows (Some (request.SelfTest job)) i outcome = FollowsSelfTest job.frames out
 Follows (Some (request.Window job)) i outcome = FollowsWindow job i outcome
 Follows (Some (request.Shape job)) i outcome = FollowsShape job i outcome
 Follows (Some (request.Skew job)) i outcome = FollowsSkew job i outcome
-Follows (Some (request.Scan job)) i outcome = FollowsAsks (scan_asks job) i outcome
+Follows (Some (request.Scan job)) i outcome = FollowsScan job i outcome
 Follows (Some (request.Measure job)) i outcome = FollowsMeasure job i outcome
 Follows (Some (request.Series job)) i outcome = FollowsSeries job i outcome
 Follows (Some (request.Page job)) i outcome = FollowsPage job i outcome
@@ -64,7 +63,7 @@ InputRose (Some (request.VerifyReport job)) i input = ReportInputRose job i inpu
 InputRose (Some (request.Window job)) i input = FlowInputRose job i input
 InputRose (Some (request.Shape job)) i input = FlowInputRose job.flow i input
 InputRose (Some (request.Skew job)) i input = SkewInputRose job i input
-InputRose (Some (request.Scan job)) i input = AskedRose (scan_asks job) i input
+InputRose (Some (request.Scan job)) i input = ScanInputRose job i input
 InputRose (Some (request.Measure job)) i input = MeasureInputRose job i input
 InputRose (Some (request.Series job)) i input = FlowInputRose job.flow i input
 InputRose (Some (request.Page job)) i input = PageInputRose job i input

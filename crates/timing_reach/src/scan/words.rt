@@ -1,23 +1,22 @@
 //! The output of `scan`, and its status.
 
-ghost use Rattle.std.specs.Prelude.{◌≡◌, IfOk, false, true};
+ghost use Rattle.std.specs.Prelude.{◌≡◌, IfOk, true};
 ghost use Rattle.capture_scan.specs.report.Contents.{contents_of};
 ghost use Rattle.capture_scan.specs.report.Draft.{videos_of};
-ghost use Rattle.timing_steps.specs.Asks.{judged_ends};
-ghost use Rattle.timing_reach.specs.Scanned.{drafted, scan_status, scanned};
+ghost use Rattle.timing_reach.specs.Scanned.{drafted, scan_ends, scan_status, scanned};
 
 use crate::scan::Scanned;
-use timing_steps::Answer;
 use capture_scan::Found;
 use capture_scan::report::{Draft, json_of, text_of};
 use std::alloc::{AllocError as OutOfMemory, Global};
 use timing_base::{FileNote, ScanForm, ScanJob};
 use timing_report::{Status, any_refused};
+use timing_steps::Answer;
 
 /// Returns the status for this many streams, or videos of a draft, of a capture that ends in this way.
 fn status_of(note: FileNote, told: usize) -> Status
     ensures status { result ≡ scan_status note told }
-    ensures ends { judged_ends false result ≡ true }
+    ensures ends { scan_ends result ≡ true }
 {
     if told == 0 || any_refused(&[note]) {
         Status::NotAllJudged

@@ -23,7 +23,7 @@ pub returns-in-Shape-clause-ran : goal.returns-in-Shape-clause-ran
 returns-in-Shape-clause-ran g c = serves-shape _ _ _ _ _ _ c.in-Shape.is c.shape_one.ensures.ran
 
 pub returns-in-Scan-clause-ran : goal.returns-in-Scan-clause-ran
-returns-in-Scan-clause-ran g c = serves-scan _ _ _ _ _ _ c.in-Scan.is c.run_command.ensures.ran
+returns-in-Scan-clause-ran g c = serves-scan _ _ _ _ _ _ c.in-Scan.is c.scan_one.ensures.ran
 
 pub returns-in-Skew-clause-ran : goal.returns-in-Skew-clause-ran
 returns-in-Skew-clause-ran g c = serves-skew _ _ _ _ _ _ c.in-Skew.is c.skew_one.ensures.ran
@@ -56,7 +56,7 @@ pub returns-in-Shape-clause-ends : goal.returns-in-Shape-clause-ends
 returns-in-Shape-clause-ends g c = ends-shape _ _ _ _ c.in-Shape.is c.shape_one.ensures.ends
 
 pub returns-in-Scan-clause-ends : goal.returns-in-Scan-clause-ends
-returns-in-Scan-clause-ends g c = ends-scan _ _ _ _ c.in-Scan.is c.run_command.ensures.ends
+returns-in-Scan-clause-ends g c = ends-scan _ _ _ _ c.in-Scan.is c.scan_one.ensures.ends
 
 pub returns-in-Skew-clause-ends : goal.returns-in-Skew-clause-ends
 returns-in-Skew-clause-ends g c = ends-skew _ _ _ _ c.in-Skew.is c.skew_one.ensures.ends
