@@ -8,8 +8,9 @@ use Rattle.timing_base.specs.declared.capture.FileNote.{FileNote}
 use Rattle.path_skew.specs.Pair.{skew}
 use Rattle.udp_rtp.specs.Flow.{flow}
 use Rattle.timing_steps.specs.Answers.{Answer}
-use Rattle.timing_steps.specs.Flows.{OnMedia, no_media}
+use Rattle.timing_steps.specs.Flows.{OnMedia, no_media, no_such_media}
 use Rattle.timing_steps.specs.Queries.{HasAnswer}
+use Rattle.timing_steps.proofs.Capturing.{some-none}
 use Rattle.timing_steps.proofs.Onces.{DefinesOnce, DefinesSome}
 use Rattle.timing_reach.specs.skew.Comparing.{IsComparedIn}
 use Rattle.timing_reach.specs.Skewed.{first_of, last_of, no_pair, skew_query, skewed}
@@ -21,16 +22,16 @@ pair-first None second h = h
 pair-first (Some a) second h = refl
 
 pub pair-second : (first second : Option Media) → no_pair first second ≡ None → no_media second ≡ None
-pair-second None second h = let no : Some _ ≡ None = h in cc
+pair-second None second h = absurd (some-none no_such_media h)
 pair-second (Some a) second h = h
 
 -- the answer of the first media, or of the second
 pub early-first : (first second : Option Media) (answer : Answer) → Some answer ≡ no_media first → Some answer ≡ no_pair first second
 early-first None second answer h = h
-early-first (Some a) second answer h = let no : Some answer ≡ None = h in cc
+early-first (Some a) second answer h = absurd (some-none answer h)
 
 pub early-second : (first second : Option Media) (found : Option Answer) → None ≡ no_media first → found ≡ no_media second → found ≡ no_pair first second
-early-second None second found none h = let no : None ≡ Some _ = none in cc
+early-second None second found none h = absurd (some-none no_such_media (sym none))
 early-second (Some a) second found none h = h
 
 -- the answer on what was found
@@ -64,6 +65,6 @@ some-skew job texts media files notes are unsettled records = both (slice_get me
     both : (first second : Option Media) → no_pair first second ≡ None
         → (answer : Answer) × OnMedia first (λ a. OnMedia second (λ b.
         answer ≡ skewed job notes (skew (flow (first_of files) a) (flow (last_of files) b))))
-    both None second h = let no : Some _ ≡ None = h in cc
-    both (Some a) None h = let no : Some _ ≡ None = h in cc
+    both None second h = absurd (some-none no_such_media h)
+    both (Some a) None h = absurd (some-none no_such_media h)
     both (Some a) (Some b) h = (skewed job notes (skew (flow (first_of files) a) (flow (last_of files) b)), refl)

@@ -1,24 +1,30 @@
 -- What the method `answer` of a command owes, from what was read.
-use Rattle.std.proofs.Common.{◌≡◌, ◌<◌, [], ◌∷◌, ℕ, List, length, map, suc, Some, None, Ok, Err, inl, inr, refl, ap, sym, subst, arith}
+use Rattle.std.proofs.Common.{◌≡◌, ◌<◌, [], ◌∷◌, ℕ, List, length, map, Option, Some, None, Ok, Err, inl, inr, refl, ap, sym, subst, arith}
 use Rattle.std.specs.Prelude.{IfErr, IfOk, Result, slice_get}
 use Rattle.std.proofs.lemmas.List.Elements.{All-cons, All-nil}
+use Rattle.std.proofs.lemmas.Option.{slice_get_within}
 use Rattle.timing_base.specs.Media.{Media}
 use Rattle.timing_outside.specs.Causes.{Rose}
 use Rattle.pcapng_reader.specs.Classic.{classic, classic_texts}
 use Rattle.timing_report.specs.declared.status.Input.{Input}
 use Rattle.timing_report.specs.declared.status.Input.TheVariants as input
 use Rattle.timing_steps.specs.Answers.{Answer, AreThere, AreTold, CaptureRose, Inputs, OnReadFault}
-use Rattle.timing_steps.specs.Flows.{no_media}
+use Rattle.timing_steps.specs.Flows.{no_media, no_such_media}
 use Rattle.timing_steps.specs.Queries.{FollowsCaptures, HasAnswer, Query}
 use Rattle.timing_steps.specs.declared.failure.Failure.{Failure}
 use Rattle.timing_steps.specs.declared.failure.Failure.TheVariants as failure
 use Rattle.timing_steps.proofs.Classics.{told-classic}
 
--- a media that the SDP has
+pub some-none : (answer : Answer) → Some answer ≡ None → ⊥
+some-none answer h = cc
+
+-- the number of a media that the SDP has
 pub media_within : (media : List Media) (number : ℕ) → no_media (slice_get media number) ≡ None → number < length media
-media_within [] number has = let no : Some _ ≡ None = has in cc
-media_within (m ∷ media) 0 has = omega arith
-media_within (m ∷ media) (suc number) has = omega (arith, media_within media number has)
+media_within media number has = go (slice_get media number) refl has
+  where
+    go : (found : Option Media) → slice_get media number ≡ found → no_media found ≡ None → number < length media
+    go None is none = absurd (some-none no_such_media none)
+    go (Some m) is none = slice_get_within media number m is
 
 -- captures that were read, or couldn't be
 pub reads-all : (query : Query) (media : List Media) (i : Inputs) (outcome : Result Answer Failure) → IfOk outcome (λ _. AreThere i.lacks query.captures)
