@@ -15,6 +15,7 @@ use Rattle.timing_steps.specs.declared.failure.Failure.{Failure}
 use Rattle.timing_steps.specs.declared.failure.Failure.TheVariants as failure
 use Rattle.timing_steps.proofs.Classics.{told-classic}
 
+-- an answer isn't none
 pub some-none : (answer : Answer) → Some answer ≡ None → ⊥
 some-none answer h = cc
 
