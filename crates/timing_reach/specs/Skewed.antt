@@ -2,8 +2,8 @@
 -- one capture or two. Two flows that carry the same packets on two paths (SMPTE ST 2022-7; RFC 7104) are compared. The
 -- first flow is in the first capture, the second in the last. Captures and media count from 0, packet records from 1;
 -- skews are nanoseconds. This project's profile.
-use Rattle.std.specs.Prelude.{◌≡◌, ◌+◌, ◌-◌, ◌==◌, ◌||◌, if◌then◌else◌, ℕ, Bool, false, List, [], ◌++◌, length, slice_get}
-use Rattle.std.specs.Prelude.{slice_index_or, Option, Some, None, codes}
+use Rattle.std.specs.Prelude.{◌≡◌, ◌+◌, ◌-◌, ◌==◌, ◌||◌, if◌then◌else◌, ℕ, Bool, false, List, [], ◌++◌, length}
+use Rattle.std.specs.Prelude.{slice_get, slice_index_or, Option, Some, None, codes}
 use Rattle.std.specs.Fmt.{decimal, signed_decimal}
 use Rattle.std.specs.List.{list_any}
 use Rattle.timing_base.specs.Captures.{Record}

@@ -19,8 +19,8 @@ use timing_outside::{Shelf, Sink};
 use timing_report::Input;
 use timing_steps::{Answer, Command, Failure, early_of_media, media_of};
 
-/// Returns the answer that a session doesn't have one of the two media of a job, or `None` if it has both. Returns `Err`
-/// if memory runs out.
+/// Returns the answer that a session doesn't have one of the two media of a job, or `None` if it has both. Returns
+/// `Err` if memory runs out.
 fn early_of_pair(
     alloc: Global,
     session: &Session,

@@ -76,7 +76,8 @@ written-or : (query : Query) (i j : Inputs) (media : List Media) (e : Failure) �
 written-or query i j media e s begun (inl written) = inl written
 written-or query i j media e s begun (inr h) = inr (follows-on query i j media (Err e) s begun h)
 
-rests-on : (streams : Bool) (query : Query) (i j : Inputs) (media : List Media) (o : Output) (rest : Result Answer Failure) → Sees i j → IsBegun query i.texts i.lacks media
+rests-on : (streams : Bool) (query : Query) (i j : Inputs) (media : List Media) (o : Output) (rest : Result Answer Failure) → Sees i j
+    → IsBegun query i.texts i.lacks media
     → LeavesRest streams o (FollowsCaptures query media j) (BeginsCaptures query media j) rest
     → LeavesRest streams o (FollowsQuery query i) (BeginsQuery query i) rest
 rests-on false query i j media o rest s begun h = (h.0, follows-on query i j media rest s begun h.1)
@@ -263,7 +264,8 @@ write-loud : (streams : Bool) → is_silent_for streams status.WriteFault ≡ tr
 write-loud true q = false≢true q
 write-loud false q = false≢true q
 
-pub ends-by : (streams : Bool) (query : Query) (i : Inputs) (old mid new : Option (List ℕ)) (before between now : ℕ) (rest : Result Answer Failure) (ends : Status)
+pub ends-by : (streams : Bool) (query : Query) (i : Inputs) (old mid new : Option (List ℕ)) (before between now : ℕ) (rest : Result Answer Failure)
+    (ends : Status)
     → BeforeEnd streams query i (record { old = old; new = mid; before = before; now = between }) rest
     → Leaves (record { old = mid; new = new; before = between; now = now }) rest ends
     → EndsAs streams query (record { old = old; new = new; before = before; now = now }) ends
@@ -273,7 +275,8 @@ ends-by streams query i old mid new before between now (Ok r) ends h (inl p) =
       silent = λ q. subst (Appends old new) (h.quiet q).after (Appends-trans old mid new [] r.text (h.quiet q).before p.1);
     })
 ends-by streams query i old mid new before between now (Ok r) ends h (inr p) =
-    subst (EndsAs streams query (record { old = old; new = new; before = before; now = now })) (sym p.0) (record { status_is = refl; silent = λ q. absurd (write-loud streams q) })
+    subst (EndsAs streams query (record { old = old; new = new; before = before; now = now })) (sym p.0)
+    (record { status_is = refl; silent = λ q. absurd (write-loud streams q) })
 ends-by streams query i old mid new before between now (Err e) ends h p =
     subst (EndsAs streams query (record { old = old; new = new; before = before; now = now })) (sym p.0) (record {
       status_is = failed-ends query e;

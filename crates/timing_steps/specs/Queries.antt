@@ -1,7 +1,7 @@
 -- What a command asks of its inputs, and the outcomes that their contents define, in the order in which they are read:
 -- the SDP, then the captures. This project's profile.
-use Rattle.std.specs.Prelude.{◌≡◌, ◌⊎◌, ℕ, Bool, true, false, List, [], ◌∷◌, ◌++◌, map, slice_index_or, Option, Some, None}
-use Rattle.std.specs.Prelude.{Result, Ok}
+use Rattle.std.specs.Prelude.{◌≡◌, ◌⊎◌, ℕ, Bool, true, false, List, [], ◌∷◌, ◌++◌, map, slice_index_or, Option}
+use Rattle.std.specs.Prelude.{Some, None, Result, Ok}
 use Rattle.timing_base.specs.Captures.{Record}
 use Rattle.timing_base.specs.Media.{Media}
 use Rattle.timing_base.specs.declared.capture.FileNote.{FileNote}
@@ -13,14 +13,14 @@ use Rattle.timing_report.specs.declared.status.Input.{Input}
 use Rattle.timing_report.specs.declared.status.Input.TheVariants as input
 use Rattle.timing_report.specs.declared.status.Status.{Status}
 use Rattle.timing_report.specs.declared.status.Status.TheVariants as status
-use Rattle.timing_steps.specs.Answers.{Answer, AreTold, CaptureRose, Gives, HasRisen, Inputs, ReadsCaptures, ReadsSession}
-use Rattle.timing_steps.specs.Answers.{Yields}
+use Rattle.timing_steps.specs.Answers.{Answer, AreTold, CaptureRose, Gives, HasRisen, Inputs, ReadsCaptures}
+use Rattle.timing_steps.specs.Answers.{ReadsSession, Yields}
 use Rattle.timing_steps.specs.declared.failure.Failure.{Failure}
 
 -- what a command asks of its inputs. `sdp` is the name of the SDP, and `captures` are the names of the captures, in the
 -- order in which they are opened. `early` is the answer if the media of the SDP settle it; then no capture is opened.
--- `Defines` is which answers the media, the packet records of each capture and the end of each one define. With `checks`
--- such an answer may have status 1.
+-- `Defines` is which answers the media, the packet records of each capture and the end of each one define. With
+-- `checks` such an answer may have status 1.
 pub record Query : Type 1 where
   pub sdp : List ℕ
   pub captures : List (List ℕ)

@@ -1,5 +1,5 @@
--- The run of a command: its output, its status and its cause. `streams` is true of a command that prints while it reads;
--- any other prints its answer once it is whole.
+-- The run of a command: its output, its status and its cause. `streams` is true of a command that prints while it
+-- reads; any other prints its answer once it is whole.
 use Rattle.std.specs.Prelude.{◌≡◌, ◌||◌, ℕ, Bool, true, false, List, [], Result, Err, IfErr, IfOk}
 use Rattle.std.specs.Io.KnownBytes.{Keeps}
 use Rattle.timing_report.specs.declared.status.Input.{Input}
@@ -47,7 +47,8 @@ pub record IsQuiet (o : Output) (rest : Answer) : Type 0 where
   pub after : rest.text ≡ []
 
 -- the state of a run before its end, with the statuses and the causes
-pub record BeforeEnd (streams : Bool) (query : Query) (i : Inputs) (o : Output) (rest : Result Answer Failure) : Type 0 where
+pub record BeforeEnd (streams : Bool) (query : Query) (i : Inputs) (o : Output) (rest : Result Answer Failure) :
+    Type 0 where
   pub rests : LeavesRest streams o (FollowsQuery query i) (BeginsQuery query i) rest
   pub ends : IfOk rest (λ r. ends_of query r.status ≡ true)
   pub quiet : IfOk rest (λ r. is_silent_for streams r.status ≡ true → IsQuiet o r)

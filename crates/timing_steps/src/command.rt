@@ -61,8 +61,8 @@ pub trait Command {
         ensures stays { StaysAs H.text H.lacks H.faults shelf.old shelf.new };
 }
 
-/// Reads the SDP of a command as a session. `Ok(Err(_))` is the answer if the SDP is invalid, or if its media settle the
-/// answer.
+/// Reads the SDP of a command as a session. `Ok(Err(_))` is the answer if the SDP is invalid, or if its media settle
+/// the answer.
 fn begin<H: Shelf, C: Command>(
     alloc: Global,
     command: &C,
@@ -104,8 +104,8 @@ fn answer_command<H: Shelf, K: Sink, C: Command>(
     }
 }
 
-/// Runs a command: opens the SDP, then opens and reads the captures, and prints the answer on `out`, at the end or while
-/// it reads. Prints on `err` the reason if there is no answer, or not the whole. Returns the status.
+/// Runs a command: opens the SDP, then opens and reads the captures, and prints the answer on `out`, at the end or
+/// while it reads. Prints on `err` the reason if there is no answer, or not the whole. Returns the status.
 pub fn run_command<H: Shelf, K: Sink, C: Command>(
     alloc: Global,
     command: &C,

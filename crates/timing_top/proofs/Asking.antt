@@ -19,7 +19,8 @@ use Rattle.timing_top.specs.Asked.{Follows, FollowsAtOnce, FollowsHelp, FollowsS
 use Rattle.timing_top.specs.Report.{HasReport}
 use Rattle.timing_top.specs.SelfTest.{HasSelfTest}
 use Rattle.timing_steps.proofs.Onces.{Caused, captured-failed, described-failed, not-given, only-captured, only-described, only-given, only-silent}
-use Rattle.timing_steps.proofs.Onces.{only-queried, only-yielded, queried-failed, some-captured, some-described, some-given, some-queried, some-yielded, yielded-failed}
+use Rattle.timing_steps.proofs.Onces.{only-queried, only-yielded, queried-failed, some-captured, some-described, some-given}
+use Rattle.timing_steps.proofs.Onces.{some-queried, some-yielded, yielded-failed}
 use Rattle.timing_measure.specs.Measures.{HasMeasure, MeasureInputRose}
 use Rattle.timing_measure.proofs.Unique.{once-measure}
 use Rattle.timing_measure.specs.page.Pages.{HasPage, PageInputRose}
