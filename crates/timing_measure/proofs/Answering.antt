@@ -14,13 +14,13 @@ use Rattle.timing_outside.specs.Causes.{Rose}
 use Rattle.timing_report.specs.Outcomes.{is_refused}
 use Rattle.timing_report.specs.declared.status.Status.TheVariants as status
 use Rattle.timing_report.specs.declared.status.Input.TheVariants as input
-use Rattle.timing_reach.specs.steps.Answers.{Answer, Gives, Inputs, OnReadFault, Yields}
-use Rattle.timing_reach.specs.steps.Ends.{HasStatus}
-use Rattle.timing_reach.specs.steps.Ran.{HasCause}
-use Rattle.timing_reach.specs.declared.steps.failure.Failure.{Failure}
-use Rattle.timing_reach.specs.declared.steps.failure.Failure.TheVariants as failure
-use Rattle.timing_reach.proofs.lemmas.steps.Endings.{look-answered}
-use Rattle.timing_reach.proofs.lemmas.steps.Seeing.{Sees, follows-session, risen-seen, yields-on}
+use Rattle.timing_steps.specs.Answers.{Answer, Gives, Inputs, OnReadFault, Yields}
+use Rattle.timing_steps.specs.Ends.{HasStatus}
+use Rattle.timing_steps.specs.Ran.{HasCause}
+use Rattle.timing_steps.specs.declared.failure.Failure.{Failure}
+use Rattle.timing_steps.specs.declared.failure.Failure.TheVariants as failure
+use Rattle.timing_steps.proofs.Endings.{look-answered}
+use Rattle.timing_steps.proofs.Seeing.{Sees, follows-session, risen-seen, yields-on}
 use Rattle.timing_reach.specs.Asked.{ReadsCapture}
 use Rattle.timing_reach.proofs.Following.{capture-seen}
 use Rattle.udp_rtp.specs.Flow.{flow}

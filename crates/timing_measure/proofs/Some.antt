@@ -18,7 +18,7 @@ use Rattle.flow_measure.specs.declared.numbers.MeasuredFlow.{MeasuredFlow}
 use Rattle.flow_measure.specs.declared.numbers.MeasuredRun.{MeasuredRun}
 use Rattle.flow_measure.proofs.Some.{some-measure}
 use Rattle.pcap_reader.specs.Records.{Records}
-use Rattle.timing_reach.specs.steps.Answers.{Answer}
+use Rattle.timing_steps.specs.Answers.{Answer}
 use Rattle.timing_reach.proofs.Packets.{flow-few, packet-of}
 use Rattle.udp_rtp.specs.Flow.{flow, flow_packet}
 use Rattle.timing_measure.specs.Each.{EachOf}

@@ -4,7 +4,7 @@ use Rattle.timing_base.specs.Jobs.{CaptureJob}
 use Rattle.timing_base.specs.Media.{Media}
 use Rattle.pcap_reader.specs.Header.{header}
 use Rattle.pcap_reader.proofs.Lists.{only_by}
-use Rattle.timing_reach.specs.steps.Answers.{Answer}
+use Rattle.timing_steps.specs.Answers.{Answer}
 use Rattle.udp_rtp.specs.Flow.{flow}
 use Rattle.timing_measure.specs.Measured.{IsMeasuredFlow}
 use Rattle.timing_measure.specs.Measures.{AreFlows, HasMeasure, measured}

@@ -10,7 +10,7 @@ use flow_measure::MeasuredFlow;
 use flow_measure::report::json_of;
 use std::alloc::{AllocError as OutOfMemory, Global};
 use timing_base::{CaptureJob, FileNote, Session};
-use timing_reach::steps::Answer;
+use timing_steps::Answer;
 use timing_report::{Status, any_refused};
 
 /// Returns whether the flow has a judged run.

@@ -8,7 +8,7 @@ ghost use Rattle.timing_base.specs.Jobs.{CaptureJob, IsCaptureJob};
 ghost use Rattle.timing_base.specs.Media.{IsMedia, Media};
 ghost use Rattle.timing_base.specs.declared.capture.FileNote.{FileNote};
 ghost use Rattle.pcap_reader.specs.Records.{Records};
-ghost use Rattle.timing_reach.specs.steps.Answers.{Answer};
+ghost use Rattle.timing_steps.specs.Answers.{Answer};
 ghost use Rattle.timing_measure.specs.Measures.{HasMeasure};
 
 /// The contents of the inputs of `measure` have an answer, if the media are within their limits and the packet records

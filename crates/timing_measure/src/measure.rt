@@ -5,9 +5,9 @@ ghost use Rattle.flow_measure.specs.report.Json.{AreOfMedia};
 ghost use Rattle.timing_outside.specs.Causes.{Rose};
 ghost use Rattle.pcapng_reader.specs.Classic.{classic_texts};
 ghost use Rattle.timing_outside.specs.Shelves.{StaysAs};
-ghost use Rattle.timing_reach.specs.steps.Answers.{Gives, OnReadFault, Yields, seen_of};
-ghost use Rattle.timing_reach.specs.steps.Ends.{EndsWith, HasStatus};
-ghost use Rattle.timing_reach.specs.steps.Ran.{HasCause, Ran, output_of};
+ghost use Rattle.timing_steps.specs.Answers.{Gives, OnReadFault, Yields, seen_of};
+ghost use Rattle.timing_steps.specs.Ends.{EndsWith, HasStatus};
+ghost use Rattle.timing_steps.specs.Ran.{HasCause, Ran, output_of};
 ghost use Rattle.timing_reach.specs.Asked.{ReadsCapture};
 ghost use Rattle.timing_measure.specs.Measures.{AreFlows, FollowsMeasure, HasMeasure, MeasureInputRose, measure_ends};
 ghost use Rattle.timing_measure.specs.Measures.{measured};
@@ -21,7 +21,7 @@ use flow_measure::{MeasuredRuns, NumbersMeter};
 use std::alloc::Global;
 use timing_base::{CaptureJob, Media, Session};
 use timing_outside::{Shelf, Sink};
-use timing_reach::steps::{Answer, Failure, conclude, fetch_session};
+use timing_steps::{Answer, Failure, conclude, fetch_session};
 use timing_report::{Input, Status};
 
 /// Returns the flows of these media in the capture of a job.

@@ -9,13 +9,13 @@ use Rattle.pcapng_reader.specs.Classic.{classic, classic_texts}
 use Rattle.sdp_reader.specs.Session.{session}
 use Rattle.sdp_reader.specs.declared.fault.SdpFault.{SdpFault}
 use Rattle.timing_report.specs.declared.status.Input.TheVariants as input
-use Rattle.timing_reach.specs.steps.Answers.{Answer, Gives, Inputs, OnReadFault, OnSession, ReadsSession, Yields}
-use Rattle.timing_reach.specs.steps.Ends.{HasStatus, look_ends}
-use Rattle.timing_reach.specs.steps.Ran.{HasCause}
-use Rattle.timing_reach.specs.declared.steps.failure.Failure.{Failure}
-use Rattle.timing_reach.specs.declared.steps.failure.Failure.TheVariants as failure
-use Rattle.timing_reach.proofs.lemmas.steps.Endings.{look-answered}
-use Rattle.timing_reach.proofs.lemmas.steps.Seeing.{Sees, risen-seen, rose-within}
+use Rattle.timing_steps.specs.Answers.{Answer, Gives, Inputs, OnReadFault, OnSession, ReadsSession, Yields}
+use Rattle.timing_steps.specs.Ends.{HasStatus, look_ends}
+use Rattle.timing_steps.specs.Ran.{HasCause}
+use Rattle.timing_steps.specs.declared.failure.Failure.{Failure}
+use Rattle.timing_steps.specs.declared.failure.Failure.TheVariants as failure
+use Rattle.timing_steps.proofs.Endings.{look-answered}
+use Rattle.timing_steps.proofs.Seeing.{Sees, risen-seen, rose-within}
 use Rattle.timing_reach.specs.Asked.{FlowInputRose, ReadsCapture, ReadsFlow}
 use Rattle.timing_reach.specs.judged.Found.{IsFound}
 

@@ -16,7 +16,7 @@ use Rattle.timing_base.specs.Verdicts.{Judged}
 use Rattle.timing_base.specs.declared.media.Kind.{Kind}
 use Rattle.timing_report.specs.declared.status.Status.TheVariants as status
 use Rattle.flow_shaper.specs.declared.departure.Late.{Late}
-use Rattle.timing_reach.specs.steps.Answers.{Answer}
+use Rattle.timing_steps.specs.Answers.{Answer}
 use Rattle.timing_reach.specs.ShapedAgain.{CanBeHeld}
 use Rattle.timing_reach.specs.Shapes.{HasShape, IsLate, IsList, LeaveInTime, end_of, flow_records, not_shaped, shaped_capture}
 use Rattle.timing_reach.specs.shape.Keeping.{AreKept, came_text, stamps_of}

@@ -22,6 +22,5 @@ mod Shapings
 mod KeptShapes
 mod Pairings
 mod Comparings
-mod Skewing
+pub mod Skewing
 pub mod Scannings
-pub mod lemmas

@@ -21,12 +21,12 @@ use Rattle.timing_report.specs.declared.status.Status.{Status}
 use Rattle.timing_report.specs.declared.status.Status.TheVariants as status
 use Rattle.timing_report.specs.declared.status.Input.TheVariants as input
 use Rattle.timing_outside.specs.Causes.{Rose}
-use Rattle.timing_reach.specs.steps.Answers.{Answer, Inputs, OnReadFault}
-use Rattle.timing_reach.specs.steps.Ends.{HasStatus}
-use Rattle.timing_reach.specs.steps.Ran.{HasCause, IsAnswered}
-use Rattle.timing_reach.specs.steps.Taken.{TakesText}
-use Rattle.timing_reach.specs.declared.steps.failure.Failure.{Failure}
-use Rattle.timing_reach.specs.declared.steps.failure.Failure.TheVariants as failure
+use Rattle.timing_steps.specs.Answers.{Answer, Inputs, OnReadFault}
+use Rattle.timing_steps.specs.Ends.{HasStatus}
+use Rattle.timing_steps.specs.Ran.{HasCause, IsAnswered}
+use Rattle.timing_steps.specs.Taken.{TakesText}
+use Rattle.timing_steps.specs.declared.failure.Failure.{Failure}
+use Rattle.timing_steps.specs.declared.failure.Failure.TheVariants as failure
 use Rattle.timing_reach.specs.Scanned.{HasScan, ScanInputRose, contents, scan_ends, scan_status, scanned}
 use Rattle.timing_reach.specs.scan.Scanning.{IsScannedIn}
 use Rattle.timing_reach.specs.declared.scan.Scanned.{Scanned}

@@ -10,7 +10,7 @@ use Rattle.flow_shaper.specs.declared.departure.Departure.{Departure}
 use Rattle.flow_shaper.specs.declared.departure.Late.{Late}
 use Rattle.timing_base.specs.Captures.{Record}
 use Rattle.timing_report.specs.declared.status.Status.TheVariants as status
-use Rattle.timing_reach.specs.steps.Answers.{Answer}
+use Rattle.timing_steps.specs.Answers.{Answer}
 use Rattle.timing_reach.specs.Shapes.{IsLate, IsList, delays, delays_line, end_of, greatest, not_shaped}
 use Rattle.timing_reach.specs.Shapes.{packet_line, packet_lines, shaped_capture}
 use Rattle.timing_reach.specs.shape.Keeping.{record_text, restamped, stamps_of}

@@ -19,7 +19,7 @@ use Rattle.flow_shaper.proofs.Exists.{shaped-some}
 use Rattle.flow_shaper.proofs.Greedy.{least-none}
 use Rattle.flow_shaper.proofs.SomeBound.{bound-some}
 use Rattle.timing_report.specs.declared.status.Status.TheVariants as status
-use Rattle.timing_reach.specs.steps.Answers.{Answer}
+use Rattle.timing_steps.specs.Answers.{Answer}
 use Rattle.timing_reach.specs.Shaped.{HasShapeIn}
 use Rattle.timing_reach.specs.Shapes.{AreBounds, HasShape, IsLate, LeaveInTime, Prints, delays, delays_line, end_of, flow_records, greatest, not_shaped}
 use Rattle.timing_reach.specs.Shapes.{packet_lines, shaped_capture}

@@ -2,21 +2,17 @@
 use Rattle.std.proofs.Common.{◌≡◌, ◌^◌, ℕ, List, refl, ap, ◌∙◌, sym, subst}
 use Rattle.timing_base.specs.Captures.{Record}
 use Rattle.timing_base.specs.Judged.{FlowVerdict, JudgedRun, absent, gap, in_one_run, in_runs, judged, no_whole_frame, refused, whole_frames}
-use Rattle.timing_base.specs.Jobs.{SkewJob}
 use Rattle.timing_base.specs.Media.{Media}
 use Rattle.timing_base.specs.declared.media.Kind.TheVariants.{N, NL, W}
 use Rattle.fail_interval.specs.Row.{verdict_of}
 use Rattle.offset_window.proofs.Unique.{window-once, window-some}
 use Rattle.offset_window.specs.declared.window.Window.{Window}
-use Rattle.path_skew.specs.Pair.{skew}
 use Rattle.pcap_reader.specs.Header.{header}
-use Rattle.pcap_reader.proofs.Captures.{only-records, some-records}
 use Rattle.pcap_reader.proofs.Lists.{only_by, some_by}
 use Rattle.udp_rtp.specs.Flow.{flow}
 use Rattle.timing_report.specs.declared.status.Status.TheVariants as status
-use Rattle.timing_reach.specs.steps.Answers.{Answer}
+use Rattle.timing_steps.specs.Answers.{Answer}
 use Rattle.timing_reach.specs.Asked.{HasWindow, OnFlow, OnRun, not_judged}
-use Rattle.timing_reach.specs.Skewed.{HasSkew, first_of, last_of, skewed}
 use Rattle.timing_reach.specs.Windows.{AreWindowsOf, HasLines, windows_text}
 use Rattle.timing_reach.specs.declared.window.windows.Windows.{Windows}
 use Rattle.timing_reach.proofs.RunSizes.{HasSize, RunHasSize, judged-size}
@@ -79,18 +75,6 @@ once-flow tai m next text a b once h k =
     let same : h.items ≡ k.items = (only_by (header text) (2 ^ 40) text h.items k.items h.note k.note h.records k.records).0 in
     once-on m (next k.items) (judged (flow k.items m) m.pt tai) a b (once k.items)
     (subst (λ (l : List Record). OnRun m (next l) (judged (flow l m) m.pt tai) a) same h.on_run) k.on_run
-
--- of two flows
-pub some-skew : (job : SkewJob) (a b : Media) (texts : List (List ℕ)) → (answer : Answer) × HasSkew job a b texts answer
-some-skew job a b texts =
-    let all = some-records texts in
-    (skewed job all.1 (skew (flow (first_of all.0) a) (flow (last_of all.0) b)), record { files = all.0; notes = all.1; records = all.2; answer_is = refl })
-
-pub once-skew : (job : SkewJob) (a b : Media) (texts : List (List ℕ)) (x y : Answer) → HasSkew job a b texts x → HasSkew job a b texts y → x ≡ y
-once-skew job a b texts x y h k =
-    let same = only-records texts h.files k.files h.notes k.notes h.records k.records in
-    h.answer_is ∙ ap (λ (files : List (List Record)). skewed job h.notes (skew (flow (first_of files) a) (flow (last_of files) b))) same.0
-    ∙ ap (λ notes. skewed job notes (skew (flow (first_of k.files) a) (flow (last_of k.files) b))) same.1 ∙ sym k.answer_is
 
 -- of `window`
 pub some-window : (tai : ℕ) (m : Media) (text : List ℕ) → (answer : Answer) × HasWindow tai m text answer

@@ -13,9 +13,9 @@ use Rattle.fail_interval.specs.Meterings.{HasRoom as JudgeHasRoom}
 use Rattle.pcap_reader.specs.Taken.{TakesFew}
 use Rattle.udp_rtp.specs.Flow.{flow, flow_packet}
 use Rattle.timing_report.specs.declared.status.Input.{Input}
-use Rattle.timing_reach.specs.steps.Answers.{Answer, OnReadFault}
-use Rattle.timing_reach.specs.declared.steps.failure.Failure.{Failure}
-use Rattle.timing_reach.specs.declared.steps.failure.Failure.TheVariants as failure
+use Rattle.timing_steps.specs.Answers.{Answer, OnReadFault}
+use Rattle.timing_steps.specs.declared.failure.Failure.{Failure}
+use Rattle.timing_steps.specs.declared.failure.Failure.TheVariants as failure
 use Rattle.timing_reach.specs.Asked.{HasWindow, OnRun, not_judged}
 use Rattle.timing_reach.specs.Windows.{HasLines}
 use Rattle.timing_reach.specs.judged.Flows.{TakesIn}

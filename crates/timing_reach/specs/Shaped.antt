@@ -3,8 +3,8 @@
 use Rattle.std.specs.Prelude.{ℕ, List, slice_get, Result}
 use Rattle.timing_base.specs.Jobs.{ShapeJob}
 use Rattle.timing_base.specs.Media.{Media}
-use Rattle.timing_reach.specs.steps.Answers.{Answer, Inputs, ReadsSession, Yields}
-use Rattle.timing_reach.specs.declared.steps.failure.Failure.{Failure}
+use Rattle.timing_steps.specs.Answers.{Answer, Inputs, ReadsSession, Yields}
+use Rattle.timing_steps.specs.declared.failure.Failure.{Failure}
 use Rattle.timing_reach.specs.Asked.{OnFlow, ReadsFlow}
 use Rattle.timing_reach.specs.Shapes.{HasShape}
 

@@ -13,7 +13,7 @@ use Rattle.offset_window.specs.declared.window.WindowEnd.{WindowEnd}
 use Rattle.offset_window.specs.declared.window.WindowEnd.TheVariants.{Absent, At}
 use Rattle.timing_report.specs.Words.{kind_name}
 use Rattle.timing_report.specs.declared.status.Status.TheVariants as status
-use Rattle.timing_reach.specs.steps.Answers.{Answer}
+use Rattle.timing_steps.specs.Answers.{Answer}
 use Rattle.timing_reach.specs.declared.window.windows.Windows.{Windows}
 
 -- ` at packet I`, if a packet binds the end

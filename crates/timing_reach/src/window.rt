@@ -11,9 +11,9 @@ ghost use Rattle.timing_base.specs.declared.packet.FlowPacket.{FlowPacket as Pac
 ghost use Rattle.timing_outside.specs.Causes.{Rose};
 ghost use Rattle.timing_outside.specs.Shelves.{StaysAs};
 ghost use Rattle.pcapng_reader.specs.Classic.{classic_texts};
-ghost use Rattle.timing_reach.specs.steps.Answers.{Gives, OnReadFault, Yields, seen_of};
-ghost use Rattle.timing_reach.specs.steps.Ends.{EndsWith, HasStatus, look_ends};
-ghost use Rattle.timing_reach.specs.steps.Ran.{HasCause, Ran, output_of};
+ghost use Rattle.timing_steps.specs.Answers.{Gives, OnReadFault, Yields, seen_of};
+ghost use Rattle.timing_steps.specs.Ends.{EndsWith, HasStatus, look_ends};
+ghost use Rattle.timing_steps.specs.Ran.{HasCause, Ran, output_of};
 ghost use Rattle.timing_reach.specs.Asked.{FlowInputRose, FollowsWindow, HasWindow, OnRun, ReadsCapture};
 ghost use Rattle.timing_reach.specs.Windows.{HasLines};
 ghost use Rattle.timing_reach.specs.window.Readings.{HasWindows, IsMeasured, IsMeasuredIn};
@@ -21,7 +21,7 @@ ghost use Rattle.timing_reach.specs.window.Readings.{HasWindows, IsMeasured, IsM
 use crate::judged::find_media;
 use crate::judged::flows::take_flow;
 use crate::judged::words::not_judged;
-use crate::steps::{Answer, Failure, conclude};
+use timing_steps::{Answer, Failure, conclude};
 use crate::window::reading::{Measured, Reading};
 use crate::window::windows::windowed;
 use std::alloc::{AllocError as OutOfMemory, Global};

@@ -11,29 +11,32 @@ use Rattle.timing_report.specs.declared.status.Input.{Input}
 use Rattle.timing_report.specs.declared.status.Status.{Status}
 use Rattle.timing_report.specs.declared.status.Status.TheVariants as status
 use Rattle.pcapng_reader.specs.Classic.{classic}
-use Rattle.timing_reach.specs.steps.Answers.{Answer, AreThere, AreTold, Gives, Inputs, ReadsCaptures, ReadsSession, silent}
-use Rattle.timing_reach.specs.declared.steps.failure.Failure.{Failure}
-use Rattle.timing_reach.specs.declared.steps.failure.Failure.TheVariants as failure
+use Rattle.timing_steps.specs.Answers.{Answer, AreThere, AreTold, Gives, Inputs, ReadsCaptures, ReadsSession, silent}
+use Rattle.timing_steps.specs.declared.failure.Failure.{Failure}
+use Rattle.timing_steps.specs.declared.failure.Failure.TheVariants as failure
 use Rattle.timing_top.specs.Check.{CheckInputRose, FollowsCheck}
 use Rattle.timing_top.specs.Asked.{Follows, FollowsAtOnce, FollowsHelp, FollowsSelfTest, InputRose, MeasuresBytes, names_of, page}
 use Rattle.timing_top.specs.Report.{HasReport}
 use Rattle.timing_top.specs.SelfTest.{HasSelfTest}
-use Rattle.timing_top.proofs.Answering.{Caused, captured-failed, described-failed, not-given, only-captured, only-described, only-given, only-silent}
-use Rattle.timing_top.proofs.Answering.{only-yielded, some-captured, some-described, some-given, some-yielded, yielded-failed}
+use Rattle.timing_steps.proofs.Onces.{Caused, captured-failed, described-failed, not-given, only-captured, only-described, only-given, only-silent}
+use Rattle.timing_steps.proofs.Onces.{only-queried, only-yielded, queried-failed, some-captured, some-described, some-given}
+use Rattle.timing_steps.proofs.Onces.{some-queried, some-yielded, yielded-failed}
 use Rattle.timing_measure.specs.Measures.{HasMeasure, MeasureInputRose}
 use Rattle.timing_measure.proofs.Unique.{once-measure}
 use Rattle.timing_measure.specs.page.Pages.{HasPage, PageInputRose}
 use Rattle.timing_measure.proofs.lemmas.page.Unique.{once-page}
 use Rattle.timing_reach.specs.Asked.{HasWindow}
 use Rattle.timing_reach.specs.Shaped.{HasShapeIn}
+use Rattle.timing_reach.specs.Skewed.{skew_query}
+use Rattle.timing_reach.proofs.Skewing.{once-skew, some-skew}
 use Rattle.timing_reach.proofs.SomeShape.{once-shape-in, some-shape-in}
 use Rattle.timing_reach.proofs.Unique.{once-window, some-window}
 use Rattle.timing_measure.specs.series.Series.{HasSeries}
 use Rattle.timing_measure.proofs.lemmas.series.Unique.{once-series}
 use Rattle.timing_top.proofs.Measurable.{some-measure, some-page, some-series}
 use Rattle.timing_top.proofs.Measuring.{flows-failed, only-flows, some-flows}
-use Rattle.timing_top.proofs.Reaching.{only-reach, only-scanned, only-skewed, reach-failed, scanned-failed, skewed-failed}
-use Rattle.timing_top.proofs.Reaching.{some-reach, some-reach-bytes, some-scanned, some-skewed}
+use Rattle.timing_top.proofs.Reaching.{only-reach, only-scanned, reach-failed, scanned-failed}
+use Rattle.timing_top.proofs.Reaching.{some-reach, some-reach-bytes, some-scanned}
 use Rattle.timing_top.proofs.Reports.{only-report, some-report}
 use Rattle.timing_top.proofs.Reported.{only-reread, reread-failed, some-reread}
 use Rattle.timing_top.proofs.SelfTests.{only-self_test, some-self_test}
@@ -113,7 +116,7 @@ some-answer (Some (request.Window job)) i texts there told bytes =
     some-reach job i texts (HasWindow job.tai) there told (λ m is text. some-window job.tai m text)
 some-answer (Some (request.Shape job)) i texts there told bytes =
     some-reach job.flow i texts (HasShapeIn job) there told (λ m is text. some-shape-in job m text is)
-some-answer (Some (request.Skew job)) i texts there told bytes = some-skewed job i texts there told
+some-answer (Some (request.Skew job)) i texts there told bytes = some-queried (skew_query job) i texts there told (λ read are. some-skew job (map classic read))
 some-answer (Some (request.Scan job)) i texts there told bytes = some-scanned job i texts there told
 some-answer (Some (request.Measure job)) i texts there told bytes =
     some-flows job i texts (HasMeasure job) there told bytes.1 (λ media text. some-measure job media text bytes.0)
@@ -135,7 +138,7 @@ only-answer (Some (request.SelfTest job)) i texts a b told h k = only-self job.f
 only-answer (Some (request.Window job)) i texts a b told h k =
     only-reach job i texts (HasWindow job.tai) a b told (λ m text. once-window job.tai m text) h k
 only-answer (Some (request.Shape job)) i texts a b told h k = only-reach job.flow i texts (HasShapeIn job) a b told (once-shape-in job) h k
-only-answer (Some (request.Skew job)) i texts a b told h k = only-skewed job i texts a b told h k
+only-answer (Some (request.Skew job)) i texts a b told h k = only-queried (skew_query job) i texts a b (once-skew job) told h k
 only-answer (Some (request.Scan job)) i texts a b told h k = only-scanned job i texts a b told h k
 only-answer (Some (request.Measure job)) i texts a b told h k =
     only-flows job i texts (HasMeasure job) a b told (λ media text. once-measure job media text) h k
@@ -157,7 +160,7 @@ answer-failed (Some (request.SelfTest job)) i texts e told h =
     self-failed job.frames e (InputRose (Some (request.SelfTest job)) i) h
 answer-failed (Some (request.Window job)) i texts e told h = reach-failed job i texts (HasWindow job.tai) e told h
 answer-failed (Some (request.Shape job)) i texts e told h = reach-failed job.flow i texts (HasShapeIn job) e told h
-answer-failed (Some (request.Skew job)) i texts e told h = skewed-failed job i texts e told h
+answer-failed (Some (request.Skew job)) i texts e told h = queried-failed (skew_query job) i texts e told h
 answer-failed (Some (request.Scan job)) i texts e told h = scanned-failed job i texts e told h
 answer-failed (Some (request.Measure job)) i texts e told h =
     flows-failed job i texts (HasMeasure job) e (MeasureInputRose job i) told (λ r. r) (λ r. (refl, r)) h

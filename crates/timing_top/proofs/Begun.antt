@@ -17,12 +17,12 @@ use Rattle.pcapng_reader.specs.declared.source.Classic.{Classic}
 use Rattle.sdp_reader.specs.Session.{session}
 use Rattle.timing_report.specs.Outcomes.{status_of}
 use Rattle.timing_report.specs.declared.status.Input.TheVariants as input
-use Rattle.timing_reach.specs.steps.Answers.{Answer, AreThere, AreTold, CaptureRose, OnReadFault, seen_of}
-use Rattle.timing_reach.specs.steps.Fetched.{AreFetched}
-use Rattle.timing_reach.specs.declared.steps.failure.Failure.{Failure}
-use Rattle.timing_reach.specs.declared.steps.failure.Failure.TheVariants as failure
-use Rattle.timing_reach.proofs.lemmas.steps.Classics.{told-classic}
-use Rattle.timing_reach.proofs.lemmas.steps.Readings.{fetched-fresh, fetched-length}
+use Rattle.timing_steps.specs.Answers.{Answer, AreThere, AreTold, CaptureRose, OnReadFault, seen_of}
+use Rattle.timing_steps.specs.Fetched.{AreFetched}
+use Rattle.timing_steps.specs.declared.failure.Failure.{Failure}
+use Rattle.timing_steps.specs.declared.failure.Failure.TheVariants as failure
+use Rattle.timing_steps.proofs.Classics.{told-classic}
+use Rattle.timing_steps.proofs.Readings.{fetched-fresh, fetched-length}
 use Rattle.timing_top.specs.Check.{CheckInputRose, FollowsCheck}
 use Rattle.timing_top.specs.Found.{Judges, Opens}
 use Rattle.timing_top.specs.Report.{printed, rows}

@@ -1,5 +1,5 @@
 -- How a run of a request ends, whatever its texts are.
-use Rattle.std.proofs.Common.{◌≡◌, ℕ, true, Some, None, Option, Ok, Err, refl, ap, ◌∙◌, sym, subst, inl, inr}
+use Rattle.std.proofs.Common.{◌≡◌, ℕ, true, false, Some, None, Option, Ok, Err, refl, ap, ◌∙◌, sym, subst, inl, inr}
 use Rattle.std.specs.Prelude.{◌||◌, if◌then◌else◌, Bool, Result}
 use Rattle.std.proofs.lemmas.Bool.{false≢true}
 use Rattle.timing_base.specs.Jobs.{CaptureJob, CheckJob, FlowJob, ReportJob, ScanJob, SelfTestJob, SeriesJob, ShapeJob, SkewJob}
@@ -9,20 +9,23 @@ use Rattle.timing_words.specs.declared.request.Request.{Request}
 use Rattle.timing_words.specs.declared.request.Request.TheVariants as request
 use Rattle.timing_report.specs.declared.status.Status.{Status}
 use Rattle.timing_report.specs.declared.status.Status.TheVariants as status
-use Rattle.timing_reach.specs.steps.Answers.{Answer, silent}
-use Rattle.timing_reach.specs.steps.Ends.{EndsWith, check_ends, is_failure, is_silent, look_ends, report_ends}
-use Rattle.timing_reach.specs.steps.Ran.{Appended, Broke, HasCause, Leaves, Output, Ran}
-use Rattle.timing_reach.specs.declared.steps.failure.Failure.{Failure}
-use Rattle.timing_reach.specs.declared.steps.failure.Failure.TheVariants as failure
+use Rattle.timing_steps.specs.Answers.{Answer, silent}
+use Rattle.timing_steps.specs.Ends.{EndsWith, check_ends, is_failure, is_silent, look_ends, report_ends}
+use Rattle.timing_steps.specs.Queries.{Query, ends_of}
+use Rattle.timing_steps.specs.Ran.{Appended, Broke, HasCause, Leaves, Output, Ran}
+use Rattle.timing_steps.specs.Runs.{EndsAs}
+use Rattle.timing_steps.specs.declared.failure.Failure.{Failure}
+use Rattle.timing_steps.specs.declared.failure.Failure.TheVariants as failure
 use Rattle.timing_measure.specs.Measures.{measure_ends}
 use Rattle.timing_measure.specs.page.Pages.{page_ends}
 use Rattle.timing_reach.specs.Scanned.{scan_ends}
+use Rattle.timing_reach.specs.Skewed.{skew_query}
 use Rattle.timing_top.specs.Asked.{FollowsHelp, FollowsSelfTest}
 use Rattle.timing_top.specs.Ends.{Ends, may_end, reads_inputs, reads_sdp}
 use Rattle.timing_top.specs.Runs.{prints_whole}
-use Rattle.timing_measure.specs.series.Streams.{StreamEnds, is_silent_stream}
-use Rattle.timing_reach.proofs.lemmas.steps.Endings.{kept-none}
-use Rattle.timing_top.proofs.Answering.{ok-not-err, same-ok}
+use Rattle.timing_steps.specs.Streams.{StreamEnds, is_silent_stream}
+use Rattle.timing_steps.proofs.Endings.{kept-none}
+use Rattle.timing_steps.proofs.Onces.{ok-not-err, same-ok}
 use Rattle.timing_top.proofs.Headlines.{none-broke}
 
 -- the statuses of a command are those of its request
@@ -80,6 +83,19 @@ look-all asked inputs sdp status.WriteFault h = refl
 look-all asked inputs sdp status.OutOfMemory h = refl
 look-all asked inputs sdp status.ReportRefused h = absurd (false≢true h)
 
+-- of a command that doesn't check
+query-all : (query : Query) (asked : Request) → query.checks ≡ false → reads_inputs (Some asked) ≡ true → reads_sdp (Some asked) ≡ true → (s : Status)
+    → ends_of query s || is_failure s ≡ true → may_end (Some asked) s ≡ true
+query-all query asked checks inputs sdp status.Pass h = refl
+query-all query asked checks inputs sdp status.Fail h = absurd (false≢true (subst (λ b. b || false ≡ true) checks h))
+query-all query asked checks inputs sdp status.Usage h = h
+query-all query asked checks inputs sdp (status.SdpRefused fault) h = sdp
+query-all query asked checks inputs sdp status.NotAllJudged h = inputs
+query-all query asked checks inputs sdp (status.ReadFault input) h = inputs
+query-all query asked checks inputs sdp status.WriteFault h = refl
+query-all query asked checks inputs sdp status.OutOfMemory h = refl
+query-all query asked checks inputs sdp status.ReportRefused h = absurd (false≢true h)
+
 scan-all : (job : ScanJob) (s : Status) → scan_ends s || is_failure s ≡ true → may_end (Some (request.Scan job)) s ≡ true
 scan-all job status.Pass h = refl
 scan-all job status.Fail h = h
@@ -117,10 +133,11 @@ pub ends-shape : (asked : Request) (job : ShapeJob) (o : Output) (ends : Status)
 ends-shape asked job o ends is h =
     subst (EndsFor o ends) (sym is) (ends-as look_ends (request.Shape job) o ends refl (look-all (request.Shape job) refl refl) h)
 
-pub ends-skew : (asked : Request) (job : SkewJob) (o : Output) (ends : Status) → asked ≡ request.Skew job → EndsWith look_ends o ends
+pub ends-skew : (asked : Request) (job : SkewJob) (o : Output) (ends : Status) → asked ≡ request.Skew job → EndsAs false (skew_query job) o ends
     → Ends (Some asked) o ends
 ends-skew asked job o ends is h =
-    subst (EndsFor o ends) (sym is) (ends-as look_ends (request.Skew job) o ends refl (look-all (request.Skew job) refl refl) h)
+    subst (EndsFor o ends) (sym is)
+    (record { status_is = query-all (skew_query job) (request.Skew job) refl refl refl ends h.status_is; silent = h.silent })
 
 pub ends-scan : (asked : Request) (job : ScanJob) (o : Output) (ends : Status) → asked ≡ request.Scan job → EndsWith scan_ends o ends
     → Ends (Some asked) o ends

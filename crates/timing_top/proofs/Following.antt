@@ -13,15 +13,15 @@ use Rattle.timing_report.specs.Outcomes.{status_of}
 use Rattle.timing_report.specs.declared.status.Input.TheVariants as input
 use Rattle.timing_report.specs.declared.status.Status.{Status}
 use Rattle.timing_report.specs.declared.status.Status.TheVariants as status
-use Rattle.timing_reach.specs.steps.Answers.{Answer, AreThere, AreTold, CaptureRose, Gives, Inputs, OnReadFault, OnSession, ReadsCaptures}
-use Rattle.timing_reach.specs.steps.Fetched.{AreFetched}
-use Rattle.timing_reach.specs.steps.Ran.{IsAnswered}
-use Rattle.timing_reach.specs.declared.steps.failure.Failure.{Failure}
-use Rattle.timing_reach.specs.declared.steps.failure.Failure.TheVariants as failure
+use Rattle.timing_steps.specs.Answers.{Answer, AreThere, AreTold, CaptureRose, Gives, Inputs, OnReadFault, OnSession, ReadsCaptures}
+use Rattle.timing_steps.specs.Fetched.{AreFetched}
+use Rattle.timing_steps.specs.Ran.{IsAnswered}
+use Rattle.timing_steps.specs.declared.failure.Failure.{Failure}
+use Rattle.timing_steps.specs.declared.failure.Failure.TheVariants as failure
 use Rattle.timing_top.specs.Check.{CheckInputRose, FollowsCheck}
 use Rattle.fail_interval.specs.Found.{AreFound}
 use Rattle.timing_top.specs.Report.{HasReport, printed, rows}
-use Rattle.timing_reach.proofs.lemmas.steps.Readings.{on-map}
+use Rattle.timing_steps.proofs.Readings.{on-map}
 
 -- a description that was read leads on to the captures
 follows-session : (job : CheckJob) (i : Inputs) (outcome : Result Answer Failure) (media : List Media) → ¬ i.lacks job.sdp

@@ -14,17 +14,17 @@ use Rattle.sdp_reader.specs.declared.fault.SdpFault.{SdpFault}
 use Rattle.sdp_reader.proofs.Within.{session-within}
 use Rattle.timing_report.specs.declared.status.Status.{Status}
 use Rattle.timing_report.specs.declared.status.Status.TheVariants as status
-use Rattle.timing_reach.specs.steps.Answers.{Answer, AreTold, Gives, Inputs, OnSession, ReadsCaptures, silent}
-use Rattle.timing_reach.specs.steps.Ran.{Appended, Broke, HasCause, Leaves, Output, Ran}
-use Rattle.timing_reach.specs.declared.steps.failure.Failure.{Failure}
-use Rattle.timing_reach.specs.declared.steps.failure.Failure.TheVariants as failure
+use Rattle.timing_steps.specs.Answers.{Answer, AreTold, Gives, Inputs, OnSession, ReadsCaptures, silent}
+use Rattle.timing_steps.specs.Ran.{Appended, Broke, HasCause, Leaves, Output, Ran}
+use Rattle.timing_steps.specs.declared.failure.Failure.{Failure}
+use Rattle.timing_steps.specs.declared.failure.Failure.TheVariants as failure
 use Rattle.timing_words.specs.Request.{request as request_of}
 use Rattle.timing_words.proofs.Limits.{request-within}
 use Rattle.timing_top.specs.Asked.{Follows, FollowsAtOnce, InputRose}
 use Rattle.timing_top.specs.Check.{CheckInputRose, FollowsCheck}
 use Rattle.timing_top.specs.Headline.{Headline, IsTheReport, NoRequest, out_of_memory, refused, reported, unread, unwritten, with_workers}
 use Rattle.timing_top.specs.Report.{HasReport}
-use Rattle.timing_top.proofs.Answering.{ok-not-err, same-ok}
+use Rattle.timing_steps.proofs.Onces.{ok-not-err, same-ok}
 use Rattle.timing_top.proofs.Exact.{rows-exact}
 use Rattle.timing_top.proofs.Reports.{only-report}
 

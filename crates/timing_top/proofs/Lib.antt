@@ -1,4 +1,3 @@
-mod Answering
 mod Asking
 mod Begun
 mod Captured

@@ -8,7 +8,7 @@ use Rattle.timing_base.specs.Media.{IsMedia, Media}
 use Rattle.pcap_reader.specs.Header.{header}
 use Rattle.pcap_reader.proofs.Lists.{some_by}
 use Rattle.pcapng_reader.specs.Bytes.{AreBytes}
-use Rattle.timing_reach.specs.steps.Answers.{Answer}
+use Rattle.timing_steps.specs.Answers.{Answer}
 use Rattle.timing_measure.specs.Measures.{HasMeasure}
 use Rattle.timing_measure.proofs.Some.{some-measure-answer}
 use Rattle.timing_measure.specs.page.Pages.{HasPage}

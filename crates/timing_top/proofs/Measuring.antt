@@ -10,10 +10,10 @@ use Rattle.pcapng_reader.proofs.Bytes.{classic-bytes}
 use Rattle.sdp_reader.proofs.Within.{session-within}
 use Rattle.timing_report.specs.declared.status.Input.{Input}
 use Rattle.timing_report.specs.declared.status.Input.TheVariants as input
-use Rattle.timing_reach.specs.steps.Answers.{Answer, AreThere, AreTold, Gives, HasRisen, Inputs, ReadsSession, Yields}
-use Rattle.timing_reach.specs.declared.steps.failure.Failure.{Failure}
+use Rattle.timing_steps.specs.Answers.{Answer, AreThere, AreTold, Gives, HasRisen, Inputs, ReadsSession, Yields}
+use Rattle.timing_steps.specs.declared.failure.Failure.{Failure}
 use Rattle.timing_reach.specs.Asked.{ReadsCapture}
-use Rattle.timing_top.proofs.Answering.{Caused, described-failed, only-described, only-yielded, some-described, some-yielded, yielded-failed}
+use Rattle.timing_steps.proofs.Onces.{Caused, described-failed, only-described, only-yielded, some-described, some-yielded, yielded-failed}
 use Rattle.timing_top.proofs.Reaching.{capture-failed, only-capture, some-capture}
 
 -- what follows the session of the description

@@ -10,15 +10,13 @@ use Rattle.pcapng_reader.proofs.Bytes.{classic-bytes}
 use Rattle.sdp_reader.proofs.Within.{session-within}
 use Rattle.timing_report.specs.declared.status.Input.{Input}
 use Rattle.timing_report.specs.declared.status.Input.TheVariants as input
-use Rattle.timing_reach.specs.steps.Answers.{Answer, AreThere, AreTold, Gives, HasRisen, Inputs, ReadsSession, Yields}
-use Rattle.timing_reach.specs.declared.steps.failure.Failure.{Failure}
+use Rattle.timing_steps.specs.Answers.{Answer, AreThere, AreTold, Gives, HasRisen, Inputs, ReadsSession, Yields}
+use Rattle.timing_steps.specs.declared.failure.Failure.{Failure}
 use Rattle.timing_reach.specs.Asked.{FlowInputRose, ReadsCapture, ReadsFlow, no_such_media}
 use Rattle.timing_reach.specs.Scanned.{FollowsScan, HasScan, ScanInputRose}
-use Rattle.timing_reach.specs.Skewed.{FollowsSkew, HasSkew, ReadsPair, SkewInputRose}
 use Rattle.timing_reach.proofs.Scannings.{once-scan, some-scan}
-use Rattle.timing_reach.proofs.Unique.{once-skew, some-skew}
-use Rattle.timing_top.proofs.Answering.{Caused, captured-failed, described-failed, not-given, ok-not-err, only-captured, only-described, only-given}
-use Rattle.timing_top.proofs.Answering.{only-silent, only-yielded, same-err, same-some, some-captured, some-described, some-given, some-yielded, yielded-failed}
+use Rattle.timing_steps.proofs.Onces.{Caused, captured-failed, described-failed, not-given, ok-not-err, only-captured, only-described, only-given}
+use Rattle.timing_steps.proofs.Onces.{only-silent, only-yielded, same-err, same-some, some-captured, some-described, some-given, some-yielded, yielded-failed}
 
 -- one capture that is read
 pub some-capture : (i : Inputs) (name text : List ℕ) (Defined : List ℕ → Answer → Type 0) → ¬ i.lacks name → i.texts name ≡ Some text → (answer : Answer)
@@ -133,53 +131,6 @@ reach-failed job i (sdp ∷ text ∷ texts) Defined e told h =
     yielded-failed (ReadsSession i (Err e) job.sdp (λ media. ReadsFlow i (Err e) job Defined (slice_get media job.media))) e (FlowInputRose job i)
     (λ p. described-failed i job.sdp sdp (λ media. ReadsFlow i (Err e) job Defined (slice_get media job.media)) e (FlowInputRose job i) told.0 (λ r. r)
     (λ media x. flow-failed job i text Defined (slice_get media job.media) e told.1.0 x) p) h
-
--- two flows
-some-pair : (job : SkewJob) (i : Inputs) (texts : List (List ℕ)) (m n : Option Media) → AreThere i.lacks job.captures → AreTold i.texts job.captures texts
-    → (answer : Answer) × ReadsPair i (Ok answer) job m n
-some-pair job i texts None n there told = some-given (λ answer. answer ≡ no_such_media) (no_such_media, refl)
-some-pair job i texts (Some m) None there told = some-given (λ answer. answer ≡ no_such_media) (no_such_media, refl)
-some-pair job i texts (Some m) (Some n) there told = some-captured i job.captures texts (HasSkew job m n) there told (some-skew job m n (map classic texts))
-
-only-pair : (job : SkewJob) (i : Inputs) (texts : List (List ℕ)) (m n : Option Media) (a b : Answer) → AreTold i.texts job.captures texts
-    → ReadsPair i (Ok a) job m n → ReadsPair i (Ok b) job m n → a ≡ b
-only-pair job i texts None n a b told h k = only-given (λ answer. answer ≡ no_such_media) a b (λ x y p q. only-silent x y _ p q) h k
-only-pair job i texts (Some m) None a b told h k = only-given (λ answer. answer ≡ no_such_media) a b (λ x y p q. only-silent x y _ p q) h k
-only-pair job i texts (Some m) (Some n) a b told h k = only-captured i job.captures texts (HasSkew job m n) a b told (once-skew job m n (map classic texts)) h k
-
-pair-failed : (job : SkewJob) (i : Inputs) (texts : List (List ℕ)) (m n : Option Media) (e : Failure) → AreTold i.texts job.captures texts
-    → ReadsPair i (Err e) job m n → Caused e (SkewInputRose job i)
-pair-failed job i texts None n e told h = absurd (not-given (λ answer. answer ≡ no_such_media) e h)
-pair-failed job i texts (Some m) None e told h = absurd (not-given (λ answer. answer ≡ no_such_media) e h)
-pair-failed job i texts (Some m) (Some n) e told h = captured-failed i job.captures texts (HasSkew job m n) e (SkewInputRose job i) told (λ number r. r) h
-
-pub some-skewed : (job : SkewJob) (i : Inputs) (texts : List (List ℕ)) → AreThere i.lacks (job.sdp ∷ job.captures)
-    → AreTold i.texts (job.sdp ∷ job.captures) texts → (answer : Answer) × FollowsSkew job i (Ok answer)
-some-skewed job i [] there told = absurd told
-some-skewed job i (sdp ∷ texts) there told =
-    some-yielded (λ answer. ReadsSession i (Ok answer) job.sdp (λ media. ReadsPair i (Ok answer) job (slice_get media job.media) (slice_get media job.pair)))
-    (some-described i job.sdp sdp (λ answer media. ReadsPair i (Ok answer) job (slice_get media job.media) (slice_get media job.pair))
-    (All-head (λ n. ¬ i.lacks n) job.sdp job.captures there) told.0
-    (λ media e. some-pair job i texts (slice_get media job.media) (slice_get media job.pair) (All-tail (λ n. ¬ i.lacks n) job.sdp job.captures there) told.1))
-
-pub only-skewed : (job : SkewJob) (i : Inputs) (texts : List (List ℕ)) (a b : Answer) → AreTold i.texts (job.sdp ∷ job.captures) texts
-    → FollowsSkew job i (Ok a) → FollowsSkew job i (Ok b) → a ≡ b
-only-skewed job i [] a b told h k = absurd told
-only-skewed job i (sdp ∷ texts) a b told h k =
-    only-yielded (λ answer. ReadsSession i (Ok answer) job.sdp (λ media. ReadsPair i (Ok answer) job (slice_get media job.media) (slice_get media job.pair))) a
-    b
-    (λ p q. only-described i job.sdp sdp (λ answer media. ReadsPair i (Ok answer) job (slice_get media job.media) (slice_get media job.pair)) a b told.0
-    (λ media x y. only-pair job i texts (slice_get media job.media) (slice_get media job.pair) a b told.1 x y) p q) h k
-
-pub skewed-failed : (job : SkewJob) (i : Inputs) (texts : List (List ℕ)) (e : Failure) → AreTold i.texts (job.sdp ∷ job.captures) texts
-    → FollowsSkew job i (Err e) → Caused e (SkewInputRose job i)
-skewed-failed job i [] e told h = absurd told
-skewed-failed job i (sdp ∷ texts) e told h =
-    yielded-failed (ReadsSession i (Err e) job.sdp (λ media. ReadsPair i (Err e) job (slice_get media job.media) (slice_get media job.pair))) e
-    (SkewInputRose job i)
-    (λ p. described-failed i job.sdp sdp (λ media. ReadsPair i (Err e) job (slice_get media job.media) (slice_get media job.pair)) e (SkewInputRose job i)
-    told.0 (λ r. r)
-    (λ media x. pair-failed job i texts (slice_get media job.media) (slice_get media job.pair) e told.1 x) p) h
 
 -- what a capture holds
 pub some-scanned : (job : ScanJob) (i : Inputs) (texts : List (List ℕ)) → AreThere i.lacks (job.capture ∷ []) → AreTold i.texts (job.capture ∷ []) texts

@@ -4,7 +4,7 @@ use Rattle.timing_base.specs.Jobs.{CheckJob}
 use Rattle.timing_base.specs.Media.{Media}
 use Rattle.pcap_reader.proofs.Captures.{only-records, some-records}
 use Rattle.timing_report.specs.Outcomes.{status_of}
-use Rattle.timing_reach.specs.steps.Answers.{Answer}
+use Rattle.timing_steps.specs.Answers.{Answer}
 use Rattle.timing_top.specs.Report.{HasReport, printed, rows}
 
 -- there is one

@@ -10,20 +10,21 @@ use Rattle.timing_measure.specs.page.Pages.{FollowsPage, PageInputRose}
 use Rattle.timing_reach.specs.Asked.{FlowInputRose, FollowsWindow}
 use Rattle.timing_reach.specs.Scanned.{FollowsScan, ScanInputRose}
 use Rattle.timing_reach.specs.Shaped.{FollowsShape}
-use Rattle.timing_reach.specs.Skewed.{FollowsSkew, SkewInputRose}
+use Rattle.timing_reach.specs.Skewed.{skew_query}
 use Rattle.timing_report.specs.declared.status.Input.{Input}
 use Rattle.timing_report.specs.declared.status.Status.{Status}
 use Rattle.timing_report.specs.declared.status.Status.TheVariants as status
-use Rattle.timing_reach.specs.steps.Answers.{Answer, Inputs, silent}
-use Rattle.timing_reach.specs.steps.Ran.{HasCause, IsAnswered, Leaves, Output, Ran, TellsLine}
-use Rattle.timing_reach.specs.declared.steps.failure.Failure.{Failure}
-use Rattle.timing_reach.specs.declared.steps.failure.Failure.TheVariants as failure
+use Rattle.timing_steps.specs.Answers.{Answer, Inputs, silent}
+use Rattle.timing_steps.specs.Queries.{FollowsQuery, QueryInputRose}
+use Rattle.timing_steps.specs.Ran.{HasCause, IsAnswered, Leaves, Output, Ran, TellsLine}
+use Rattle.timing_steps.specs.declared.failure.Failure.{Failure}
+use Rattle.timing_steps.specs.declared.failure.Failure.TheVariants as failure
 use Rattle.timing_top.specs.Asked.{Follows, InputRose}
 use Rattle.timing_top.specs.Check.{CheckInputRose, FollowsCheck}
 use Rattle.timing_top.specs.Runs.{RanAs, prints_whole}
 use Rattle.timing_measure.specs.series.Series.{BeginsSeries, FollowsSeries}
-use Rattle.timing_measure.specs.series.Streams.{Streams}
-use Rattle.timing_reach.proofs.lemmas.steps.Endings.{kept-none}
+use Rattle.timing_steps.specs.Streams.{Streams}
+use Rattle.timing_steps.proofs.Endings.{kept-none}
 use Rattle.timing_top.specs.verify.Asked.{FollowsReport, FollowsVerify, ReportInputRose, VerifyInputRose}
 
 -- a cause by other names
@@ -76,9 +77,10 @@ serves-shape asked job i o e ends is ran =
     subst (RanFor i o e ends) (sym is) (ran-as (FollowsShape job i) _ (FlowInputRose job.flow i) _ o e ends (λ r h. h) (λ x h. h) ran)
 
 pub serves-skew : (asked : Request) (job : SkewJob) (i : Inputs) (o e : Output) (ends : Status) → asked ≡ request.Skew job
-    → Ran (FollowsSkew job i) (SkewInputRose job i) o e ends → RanAs (Some asked) i o e ends
+    → Ran (FollowsQuery (skew_query job) i) (QueryInputRose (skew_query job) i) o e ends → RanAs (Some asked) i o e ends
 serves-skew asked job i o e ends is ran =
-    subst (RanFor i o e ends) (sym is) (ran-as (FollowsSkew job i) _ (SkewInputRose job i) _ o e ends (λ r h. h) (λ x h. h) ran)
+    subst (RanFor i o e ends) (sym is)
+    (ran-as (FollowsQuery (skew_query job) i) _ (QueryInputRose (skew_query job) i) _ o e ends (λ r h. h) (λ x h. h) ran)
 
 pub serves-scan : (asked : Request) (job : ScanJob) (i : Inputs) (o e : Output) (ends : Status) → asked ≡ request.Scan job
     → Ran (FollowsScan job i) (ScanInputRose job i) o e ends → RanAs (Some asked) i o e ends

@@ -9,7 +9,7 @@ use Rattle.timing_report.specs.json_report.Fails.{fails_of}
 use Rattle.timing_report.specs.json_report.Json.{json_text}
 use Rattle.timing_report.specs.json_report.Reading.{IsReport}
 use Rattle.timing_report.specs.declared.json_report.reading.ReportProof.{ReportProof}
-use Rattle.timing_reach.specs.steps.Answers.{Answer}
+use Rattle.timing_steps.specs.Answers.{Answer}
 use Rattle.timing_top.specs.verify.Asked.{HasReported}
 use Rattle.timing_top.specs.Report.{HasReport, rows}
 use Rattle.timing_top.specs.ReadBack.{IsReadable, reading_back}

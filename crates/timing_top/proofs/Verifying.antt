@@ -5,13 +5,13 @@ use Rattle.std.proofs.lemmas.List.Elements.{All-head, All-tail}
 use Rattle.timing_base.specs.Jobs.{VerifyJob}
 use Rattle.timing_base.specs.Media.{Media}
 use Rattle.pcapng_reader.specs.Classic.{classic}
-use Rattle.timing_reach.specs.steps.Answers.{Answer, AreThere, AreTold, Inputs, ReadsSession}
-use Rattle.timing_reach.specs.declared.steps.failure.Failure.{Failure}
+use Rattle.timing_steps.specs.Answers.{Answer, AreThere, AreTold, Inputs, ReadsSession}
+use Rattle.timing_steps.specs.declared.failure.Failure.{Failure}
 use Rattle.timing_top.specs.verify.Asked.{FollowsVerify, HasVerified, ReadsMedia, VerifyInputRose}
 use Rattle.timing_top.specs.verify.Verified.{verified}
 use Rattle.timing_top.proofs.lemmas.verify.Unique.{only-verified, some-verified}
-use Rattle.timing_top.proofs.Answering.{Caused, captured-failed, described-failed, not-given, only-captured, only-described, only-given, only-silent}
-use Rattle.timing_top.proofs.Answering.{only-yielded, some-captured, some-described, some-given, some-yielded, yielded-failed}
+use Rattle.timing_steps.proofs.Onces.{Caused, captured-failed, described-failed, not-given, only-captured, only-described, only-given, only-silent}
+use Rattle.timing_steps.proofs.Onces.{only-yielded, some-captured, some-described, some-given, some-yielded, yielded-failed}
 
 some-media : (job : VerifyJob) (i : Inputs) (texts : List (List ℕ)) (m : Option Media) → AreThere i.lacks job.captures → AreTold i.texts job.captures texts
     → (answer : Answer) × ReadsMedia i (Ok answer) job m

@@ -10,15 +10,16 @@ use Rattle.timing_words.specs.declared.request.Request.TheVariants as request
 use Rattle.timing_report.specs.declared.status.Input.{Input}
 use Rattle.timing_report.specs.declared.status.Status.{Status}
 use Rattle.timing_report.specs.declared.status.Status.TheVariants as status
-use Rattle.timing_reach.specs.steps.Answers.{Answer, Gives, Inputs, Yields, silent}
-use Rattle.timing_reach.specs.declared.steps.failure.Failure.{Failure}
+use Rattle.timing_steps.specs.Answers.{Answer, Gives, Inputs, Yields, silent}
+use Rattle.timing_steps.specs.Queries.{FollowsQuery, QueryInputRose}
+use Rattle.timing_steps.specs.declared.failure.Failure.{Failure}
 use Rattle.timing_top.specs.Check.{CheckInputRose, FollowsCheck}
 use Rattle.timing_measure.specs.Measures.{FollowsMeasure, MeasureInputRose}
 use Rattle.timing_measure.specs.page.Pages.{FollowsPage, PageInputRose}
 use Rattle.timing_reach.specs.Asked.{FlowInputRose, FollowsWindow}
 use Rattle.timing_reach.specs.Scanned.{FollowsScan, ScanInputRose}
 use Rattle.timing_reach.specs.Shaped.{FollowsShape}
-use Rattle.timing_reach.specs.Skewed.{FollowsSkew, SkewInputRose}
+use Rattle.timing_reach.specs.Skewed.{skew_query}
 use Rattle.timing_measure.specs.series.Series.{FollowsSeries}
 use Rattle.timing_top.specs.verify.Asked.{FollowsReport, FollowsVerify, ReportInputRose, VerifyInputRose}
 use Rattle.timing_top.specs.SelfTest.{HasSelfTest}
@@ -48,7 +49,7 @@ Follows (Some (request.VerifyReport job)) i outcome = FollowsReport job i outcom
 Follows (Some (request.SelfTest job)) i outcome = FollowsSelfTest job.frames outcome
 Follows (Some (request.Window job)) i outcome = FollowsWindow job i outcome
 Follows (Some (request.Shape job)) i outcome = FollowsShape job i outcome
-Follows (Some (request.Skew job)) i outcome = FollowsSkew job i outcome
+Follows (Some (request.Skew job)) i outcome = FollowsQuery (skew_query job) i outcome
 Follows (Some (request.Scan job)) i outcome = FollowsScan job i outcome
 Follows (Some (request.Measure job)) i outcome = FollowsMeasure job i outcome
 Follows (Some (request.Series job)) i outcome = FollowsSeries job i outcome
@@ -62,7 +63,7 @@ InputRose (Some (request.Verify job)) i input = VerifyInputRose job i input
 InputRose (Some (request.VerifyReport job)) i input = ReportInputRose job i input
 InputRose (Some (request.Window job)) i input = FlowInputRose job i input
 InputRose (Some (request.Shape job)) i input = FlowInputRose job.flow i input
-InputRose (Some (request.Skew job)) i input = SkewInputRose job i input
+InputRose (Some (request.Skew job)) i input = QueryInputRose (skew_query job) i input
 InputRose (Some (request.Scan job)) i input = ScanInputRose job i input
 InputRose (Some (request.Measure job)) i input = MeasureInputRose job i input
 InputRose (Some (request.Series job)) i input = FlowInputRose job.flow i input

@@ -4,11 +4,11 @@ use Rattle.timing_base.specs.Jobs.{CheckJob}
 use Rattle.timing_report.specs.declared.status.Input.{Input}
 use Rattle.timing_report.specs.declared.status.Input.TheVariants as input
 use Rattle.timing_report.specs.declared.status.Status.{Status}
-use Rattle.timing_reach.specs.steps.Answers.{Answer, CaptureRose, Gives, HasRisen, Inputs, ReadsCaptures, ReadsSession}
-use Rattle.timing_reach.specs.steps.Answers.{Yields}
-use Rattle.timing_reach.specs.steps.Ends.{HasStatus, check_ends}
-use Rattle.timing_reach.specs.steps.Ran.{HasCause, Output, Ran}
-use Rattle.timing_reach.specs.declared.steps.failure.Failure.{Failure}
+use Rattle.timing_steps.specs.Answers.{Answer, CaptureRose, Gives, HasRisen, Inputs, ReadsCaptures, ReadsSession}
+use Rattle.timing_steps.specs.Answers.{Yields}
+use Rattle.timing_steps.specs.Ends.{HasStatus, check_ends}
+use Rattle.timing_steps.specs.Ran.{HasCause, Output, Ran}
+use Rattle.timing_steps.specs.declared.failure.Failure.{Failure}
 use Rattle.timing_top.specs.Report.{HasReport}
 
 -- `check` reads the SDP, then the captures, and prints their report

@@ -4,9 +4,9 @@ use Rattle.timing_words.specs.declared.request.Request.{Request}
 use Rattle.timing_words.specs.declared.request.Request.TheVariants as request
 use Rattle.timing_report.specs.declared.status.Status.{Status}
 use Rattle.timing_report.specs.declared.status.Status.TheVariants as status
-use Rattle.timing_reach.specs.steps.Ends.{is_silent}
-use Rattle.timing_reach.specs.steps.Ran.{Appended, Output}
-use Rattle.timing_measure.specs.series.Streams.{is_silent_stream}
+use Rattle.timing_steps.specs.Ends.{is_silent}
+use Rattle.timing_steps.specs.Ran.{Appended, Output}
+use Rattle.timing_steps.specs.Streams.{is_silent_stream}
 use Rattle.timing_top.specs.Runs.{prints_whole}
 
 -- the command line is valid

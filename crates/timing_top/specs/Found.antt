@@ -21,10 +21,10 @@ use Rattle.fail_interval.specs.declared.bank.Bank.{Bank}
 use Rattle.pcap_reader.specs.declared.records.Taken.{Taken}
 use Rattle.timing_report.specs.Outcomes.{AreOfSession}
 use Rattle.timing_report.specs.declared.status.Input.TheVariants as input
-use Rattle.timing_reach.specs.steps.Answers.{AreThere, AreTold, CaptureRose, Inputs, OnReadFault, seen_of}
-use Rattle.timing_reach.specs.steps.Fetched.{AreFetched}
-use Rattle.timing_reach.specs.steps.Taken.{TakesText}
-use Rattle.timing_reach.specs.declared.steps.failure.Failure.{Failure}
+use Rattle.timing_steps.specs.Answers.{AreThere, AreTold, CaptureRose, Inputs, OnReadFault, seen_of}
+use Rattle.timing_steps.specs.Fetched.{AreFetched}
+use Rattle.timing_steps.specs.Taken.{TakesText}
+use Rattle.timing_steps.specs.declared.failure.Failure.{Failure}
 use Rattle.timing_top.specs.declared.captures.Found.{Found}
 
 -- the SDP of a job was read as the session of these media, and these are the sources of its captures, each at its start

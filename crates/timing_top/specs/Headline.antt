@@ -14,8 +14,8 @@ use Rattle.sdp_reader.specs.declared.fault.SdpFault.{SdpFault}
 use Rattle.timing_report.specs.declared.status.Input.{Input}
 use Rattle.timing_report.specs.declared.status.Status.{Status}
 use Rattle.timing_report.specs.declared.status.Status.TheVariants as status
-use Rattle.timing_reach.specs.steps.Answers.{Answer, Inputs}
-use Rattle.timing_reach.specs.steps.Ran.{Appended, Broke, Output}
+use Rattle.timing_steps.specs.Answers.{Answer, Inputs}
+use Rattle.timing_steps.specs.Ran.{Appended, Broke, Output}
 use Rattle.timing_top.specs.Check.{CheckInputRose}
 use Rattle.timing_top.specs.Exact.{IsExactRow}
 use Rattle.timing_top.specs.Report.{HasReport, rows}

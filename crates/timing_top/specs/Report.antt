@@ -10,7 +10,7 @@ use Rattle.fail_interval.specs.Rows.{rows_over}
 use Rattle.timing_report.specs.json_report.Json.{json_text}
 use Rattle.timing_report.specs.Outcomes.{status_of}
 use Rattle.timing_report.specs.Text.{report_text}
-use Rattle.timing_reach.specs.steps.Answers.{Answer}
+use Rattle.timing_steps.specs.Answers.{Answer}
 
 -- the results of a job: one for each file and media; if the captures are joined, one for each media, with file 0
 abbrev pub rows : CheckJob → List Media → List (List Record) → List Row

@@ -4,10 +4,10 @@ use Rattle.std.specs.Prelude.{Bool, true, false, Option, Some}
 use Rattle.timing_words.specs.declared.request.Request.{Request}
 use Rattle.timing_words.specs.declared.request.Request.TheVariants as request
 use Rattle.timing_report.specs.declared.status.Status.{Status}
-use Rattle.timing_reach.specs.steps.Answers.{Inputs}
-use Rattle.timing_reach.specs.steps.Ran.{Output, Ran}
+use Rattle.timing_steps.specs.Answers.{Inputs}
+use Rattle.timing_steps.specs.Ran.{Output, Ran}
 use Rattle.timing_measure.specs.series.Series.{BeginsSeries, FollowsSeries}
-use Rattle.timing_measure.specs.series.Streams.{Streams}
+use Rattle.timing_steps.specs.Streams.{Streams}
 use Rattle.timing_reach.specs.Asked.{FlowInputRose}
 use Rattle.timing_top.specs.Asked.{Follows, InputRose}
 

@@ -3,9 +3,9 @@
 ghost use Rattle.std.specs.Prelude.{◌≡◌, ◌≤◌, Err, IfErr, IfOk, Ok, string_bytes};
 ghost use Rattle.timing_outside.specs.Shelves.{StaysAs};
 ghost use Rattle.timing_report.specs.Outcomes.{AreOfSession, status_of};
-ghost use Rattle.timing_reach.specs.steps.Answers.{OnReadFault, seen_of};
-ghost use Rattle.timing_reach.specs.steps.Ends.{EndsWith, HasStatus, check_ends};
-ghost use Rattle.timing_reach.specs.steps.Ran.{output_of};
+ghost use Rattle.timing_steps.specs.Answers.{OnReadFault, seen_of};
+ghost use Rattle.timing_steps.specs.Ends.{EndsWith, HasStatus, check_ends};
+ghost use Rattle.timing_steps.specs.Ran.{output_of};
 ghost use Rattle.timing_top.specs.Check.{AnswersCheck, CheckInputRose, FollowsCheck, RanCheck};
 ghost use Rattle.timing_top.specs.Found.{Opens};
 ghost use Rattle.timing_top.specs.Report.{printed};
@@ -19,7 +19,7 @@ use std::sync::Wait;
 use std::thread::Threads;
 use timing_base::{CheckJob, Session};
 use timing_outside::{Gate, Shelf, Sink, Source};
-use timing_reach::steps::{Answer, Failure, conclude, fetch_captures, fetch_session};
+use timing_steps::{Answer, Failure, conclude, fetch_captures, fetch_session};
 use timing_report::json_report::json_of;
 use timing_report::{Status, status_of, text_of};
 

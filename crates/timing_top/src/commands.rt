@@ -2,8 +2,8 @@
 
 ghost use Rattle.std.specs.Prelude.{Some, map, string_bytes};
 ghost use Rattle.timing_outside.specs.Shelves.{StaysAs};
-ghost use Rattle.timing_reach.specs.steps.Answers.{seen_of};
-ghost use Rattle.timing_reach.specs.steps.Ran.{output_of};
+ghost use Rattle.timing_steps.specs.Answers.{seen_of};
+ghost use Rattle.timing_steps.specs.Ran.{output_of};
 ghost use Rattle.timing_words.specs.Request.{request};
 ghost use Rattle.timing_top.specs.Ends.{Ends};
 ghost use Rattle.timing_top.specs.Runs.{RanAs};
@@ -19,9 +19,9 @@ use timing_measure::measure_one;
 use timing_measure::page::page_one;
 use timing_measure::series::series_one;
 use timing_outside::{Gate, Shelf, Sink};
-use timing_reach::steps::{Answer, Failure, conclude};
-use timing_reach::{scan_one, shape_one, skew_one, window_one};
+use timing_reach::{SkewCommand, scan_one, shape_one, window_one};
 use timing_report::Status;
+use timing_steps::{Answer, Failure, conclude, run_command};
 use timing_words::{Request, WordFault, read_words};
 
 /// Runs the command of a request. `check` runs on one thread if the job has 0 workers.
@@ -55,7 +55,7 @@ fn serve<R: Threads + Wait + Sync, H: Shelf, K: Sink, G: Gate>(
         Request::Window(job) => window_one(alloc, &job, shelf, out, err),
         Request::Shape(job) => shape_one(alloc, &job, shelf, out, err),
         Request::Scan(job) => scan_one(alloc, &job, shelf, out, err),
-        Request::Skew(job) => skew_one(alloc, &job, shelf, out, err),
+        Request::Skew(job) => run_command(alloc, &SkewCommand { job }, shelf, out, err),
         Request::Measure(job) => measure_one(alloc, &job, shelf, out, err),
         Request::Series(job) => series_one(alloc, &job, shelf, out, err),
         Request::Page(job) => page_one(alloc, &job, shelf, out, err),

@@ -7,10 +7,10 @@ ghost use Rattle.timing_words.specs.declared.request.Request.TheVariants as asks
 ghost use Rattle.sdp_reader.specs.Session.{session};
 ghost use Rattle.capture_gen.specs.Sdp.{sdp_text};
 ghost use Rattle.timing_report.specs.declared.status.Input.{Input as InputValue};
-ghost use Rattle.timing_reach.specs.steps.Answers.{Answer, AreTold, seen_of};
-ghost use Rattle.timing_reach.specs.steps.Ran.{Output, Ran};
-ghost use Rattle.timing_reach.specs.declared.steps.failure.Failure.{Failure};
-ghost use Rattle.timing_reach.specs.declared.steps.failure.Failure.TheVariants as failure;
+ghost use Rattle.timing_steps.specs.Answers.{Answer, AreTold, seen_of};
+ghost use Rattle.timing_steps.specs.Ran.{Output, Ran};
+ghost use Rattle.timing_steps.specs.declared.failure.Failure.{Failure};
+ghost use Rattle.timing_steps.specs.declared.failure.Failure.TheVariants as failure;
 ghost use Rattle.timing_top.specs.Asked.{Follows, InputRose, MeasuresBytes, names_of, seen};
 ghost use Rattle.timing_top.specs.Check.{FollowsCheck};
 ghost use Rattle.timing_top.specs.Headline.{Headline, NoRequest, with_workers};

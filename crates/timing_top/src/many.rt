@@ -17,7 +17,7 @@ use std::sync::Wait;
 use std::thread::Threads;
 use timing_base::{FileNote, Media, PcapFault};
 use timing_outside::{Gate, Shelf};
-use timing_reach::steps::{Failure, give_back_all};
+use timing_steps::{Failure, give_back_all};
 use timing_report::Input;
 
 /// Returns the number of the first capture that couldn't be read, from 0. Returns `None` if there is none, or if memory

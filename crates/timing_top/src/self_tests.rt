@@ -9,7 +9,7 @@ ghost use Rattle.timing_outside.specs.Shelves.{StaysAs};
 ghost use Rattle.timing_outside.specs.SteadyShelves.{bytes_of};
 ghost use Rattle.fail_interval.specs.Rows.{rows_over};
 ghost use Rattle.pcapng_reader.specs.Sources.{faults_of};
-ghost use Rattle.timing_reach.specs.steps.Ran.{Ran, output_of};
+ghost use Rattle.timing_steps.specs.Ran.{Ran, output_of};
 ghost use Rattle.capture_gen.specs.Capture.{capture};
 ghost use Rattle.capture_gen.specs.Sdp.{sdp_text};
 ghost use Rattle.timing_report.specs.Outcomes.{AreOfSession};
@@ -27,7 +27,7 @@ use std::sync::Wait;
 use std::thread::Threads;
 use timing_base::{FileName, Media, SelfTestJob, Session};
 use timing_outside::{Gate, MemorySink, Shelf, Sink, SteadyShelf};
-use timing_reach::steps::{Answer, Failure, conclude, fetch_captures, fetch_session};
+use timing_steps::{Answer, Failure, conclude, fetch_captures, fetch_session};
 use timing_report::{Status, status_of, verdict_of};
 
 /// The number of flaws that a generated capture can have, with flaw 0, which is none.

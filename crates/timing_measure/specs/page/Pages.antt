@@ -20,8 +20,8 @@ use Rattle.timing_report.specs.Outcomes.{is_refused}
 use Rattle.timing_report.specs.declared.status.Input.{Input}
 use Rattle.timing_report.specs.declared.status.Status.{Status}
 use Rattle.timing_report.specs.declared.status.Status.TheVariants as status
-use Rattle.timing_reach.specs.steps.Answers.{Answer, Gives, Inputs, ReadsSession, Yields}
-use Rattle.timing_reach.specs.declared.steps.failure.Failure.{Failure}
+use Rattle.timing_steps.specs.Answers.{Answer, Gives, Inputs, ReadsSession, Yields}
+use Rattle.timing_steps.specs.declared.failure.Failure.{Failure}
 use Rattle.udp_rtp.specs.Flow.{flow}
 use Rattle.timing_measure.specs.page.Shown.{IsFlowPage}
 

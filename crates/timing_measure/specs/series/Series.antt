@@ -13,8 +13,8 @@ use Rattle.flow_measure.specs.rows.Rows.{header_text}
 use Rattle.pcap_reader.specs.Records.{Records}
 use Rattle.pcapng_reader.specs.Classic.{classic}
 use Rattle.sdp_reader.specs.Session.{session}
-use Rattle.timing_reach.specs.steps.Answers.{Answer, Inputs, ReadsSession, Yields}
-use Rattle.timing_reach.specs.declared.steps.failure.Failure.{Failure}
+use Rattle.timing_steps.specs.Answers.{Answer, Inputs, ReadsSession, Yields}
+use Rattle.timing_steps.specs.declared.failure.Failure.{Failure}
 use Rattle.timing_reach.specs.Asked.{ReadsFlow, not_judged}
 use Rattle.udp_rtp.specs.Flow.{flow}
 use Rattle.timing_measure.specs.series.Rows.{AreRowsOfFlow}

@@ -11,7 +11,7 @@ use capture_scan::report::text_of;
 use flow_page::{FlowPage, page_text};
 use std::alloc::{AllocError as OutOfMemory, Global};
 use timing_base::{CaptureJob, FileNote, Session};
-use timing_reach::steps::Answer;
+use timing_steps::Answer;
 use timing_report::{Status, any_refused};
 
 /// Returns whether the flow has a judged run.

@@ -7,7 +7,7 @@ ghost use Rattle.timing_base.specs.Media.{IsMedia, Media};
 ghost use Rattle.timing_base.specs.declared.capture.FileNote.{FileNote};
 ghost use Rattle.pcap_reader.specs.Records.{Records};
 ghost use Rattle.run_meter.specs.Runs.{JudgedPart};
-ghost use Rattle.timing_reach.specs.steps.Answers.{Answer};
+ghost use Rattle.timing_steps.specs.Answers.{Answer};
 ghost use Rattle.timing_measure.specs.page.Pages.{HasPage};
 ghost use Rattle.flow_page.specs.drawing.Told.{IsLongest};
 ghost use Rattle.timing_measure.specs.page.Worked.{part_of};

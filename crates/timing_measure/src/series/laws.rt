@@ -5,7 +5,7 @@ ghost use Rattle.timing_base.specs.Captures.{IsStamp, Record};
 ghost use Rattle.timing_base.specs.Media.{IsMedia, Media};
 ghost use Rattle.timing_base.specs.declared.capture.FileNote.{FileNote};
 ghost use Rattle.pcap_reader.specs.Records.{Records};
-ghost use Rattle.timing_reach.specs.steps.Answers.{Answer};
+ghost use Rattle.timing_steps.specs.Answers.{Answer};
 ghost use Rattle.timing_measure.specs.series.Series.{HasSeries};
 
 /// The contents of the inputs of `series` have an answer, if the media is within its limits and the packet records have

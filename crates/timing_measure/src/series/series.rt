@@ -6,12 +6,12 @@ ghost use Rattle.timing_outside.specs.Causes.{Rose};
 ghost use Rattle.timing_outside.specs.Shelves.{StaysAs};
 ghost use Rattle.pcapng_reader.specs.Classic.{classic_texts};
 ghost use Rattle.timing_report.specs.declared.status.Input.TheVariants as input;
-ghost use Rattle.timing_reach.specs.steps.Answers.{Gives, Yields, seen_of};
-ghost use Rattle.timing_reach.specs.steps.Ran.{Appended, output_of};
-ghost use Rattle.timing_reach.specs.declared.steps.failure.Failure.TheVariants as failure;
+ghost use Rattle.timing_steps.specs.Answers.{Gives, Yields, seen_of};
+ghost use Rattle.timing_steps.specs.Ran.{Appended, output_of};
+ghost use Rattle.timing_steps.specs.declared.failure.Failure.TheVariants as failure;
 ghost use Rattle.timing_reach.specs.Asked.{FlowInputRose, ReadsCapture};
 ghost use Rattle.timing_measure.specs.series.Series.{BeginsIn, BeginsSeries, FollowsSeries, HasSeries};
-ghost use Rattle.timing_measure.specs.series.Streams.{HasRestStatus, OnFailure, Rests, StreamEnds, Streams};
+ghost use Rattle.timing_steps.specs.Streams.{HasRestStatus, OnFailure, Rests, StreamEnds, Streams};
 
 use crate::series::flow::SeriesFlow;
 use crate::series::stream::copy_capture;
@@ -19,7 +19,7 @@ use std::alloc::Global;
 use timing_base::{Media, SeriesJob};
 use timing_outside::{Shelf, Sink};
 use timing_reach::judged::find_media;
-use timing_reach::steps::{Answer, Failure, conclude};
+use timing_steps::{Answer, Failure, conclude};
 use timing_report::{Input, Status};
 
 /// Returns the rest of the answer for the flow of this media, behind what was written of it.

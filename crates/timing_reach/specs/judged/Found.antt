@@ -3,7 +3,7 @@ use Rattle.std.specs.Prelude.{◌≡◌, ℕ, List, Some, None, Result, Ok, Err,
 use Rattle.timing_base.specs.Media.{Media}
 use Rattle.sdp_reader.specs.declared.fault.SdpFault.{SdpFault}
 use Rattle.timing_report.specs.declared.status.Status.TheVariants as status
-use Rattle.timing_reach.specs.steps.Answers.{Answer, silent}
+use Rattle.timing_steps.specs.Answers.{Answer, silent}
 use Rattle.timing_reach.specs.Asked.{no_such_media}
 
 -- the SDP has the media with this number, counted from 0; or the answer is that it hasn't, or that it is invalid

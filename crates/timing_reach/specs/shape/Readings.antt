@@ -16,7 +16,7 @@ use Rattle.fail_interval.specs.Stands.{StandsFor, count_fed}
 use Rattle.pcap_reader.specs.Records.{Records}
 use Rattle.udp_rtp.specs.Flow.{flow, flow_packet}
 use Rattle.timing_reach.specs.ShapedAgain.{CanBeHeld}
-use Rattle.timing_reach.specs.steps.Answers.{Answer}
+use Rattle.timing_steps.specs.Answers.{Answer}
 use Rattle.timing_reach.specs.Asked.{OnRun}
 use Rattle.timing_reach.specs.Shapes.{HasShape, flow_records}
 use Rattle.timing_reach.specs.shape.Keeping.{AreKept}

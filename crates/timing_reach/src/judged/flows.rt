@@ -6,11 +6,11 @@ ghost use Rattle.timing_outside.specs.Causes.{Rose};
 ghost use Rattle.timing_outside.specs.Shelves.{StaysAs};
 ghost use Rattle.pcap_reader.specs.Taken.{TakesFew};
 ghost use Rattle.pcapng_reader.specs.Classic.{classic_texts};
-ghost use Rattle.timing_reach.specs.steps.Answers.{OnReadFault};
+ghost use Rattle.timing_steps.specs.Answers.{OnReadFault};
 ghost use Rattle.timing_reach.specs.judged.Flows.{TakesIn};
 
-use crate::judged::captures::take_capture;
-use crate::steps::Failure;
+use timing_steps::take_capture;
+use timing_steps::Failure;
 use flow_demux::{FlowTaker, MediaFlow};
 use std::alloc::Global;
 use timing_base::Media;

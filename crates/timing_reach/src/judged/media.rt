@@ -4,12 +4,12 @@ ghost use Rattle.std.specs.Prelude.{◌≡◌, ℕ, List, Some, Ok, IfOk, IfErr}
 ghost use Rattle.sdp_reader.specs.Session.{session};
 ghost use Rattle.timing_outside.specs.Causes.{Rose};
 ghost use Rattle.timing_outside.specs.Shelves.{StaysAs};
-ghost use Rattle.timing_reach.specs.steps.Answers.{OnReadFault};
-ghost use Rattle.timing_reach.specs.steps.Ends.{HasStatus, look_ends};
+ghost use Rattle.timing_steps.specs.Answers.{OnReadFault};
+ghost use Rattle.timing_steps.specs.Ends.{HasStatus, look_ends};
 ghost use Rattle.timing_reach.specs.judged.Found.{IsFound};
 
 use crate::judged::words::no_such_media;
-use crate::steps::{Answer, Failure, fetch_session};
+use timing_steps::{Answer, Failure, fetch_session};
 use std::alloc::{AllocError as OutOfMemory, Global};
 use timing_base::{FlowJob, Media};
 use timing_outside::Shelf;

@@ -3,7 +3,7 @@
 ghost use Rattle.std.specs.Prelude.{◌≡◌, IfOk};
 ghost use Rattle.timing_reach.specs.Asked.{no_such_media, not_judged};
 
-use crate::steps::Answer;
+use timing_steps::Answer;
 use std::alloc::{AllocError as OutOfMemory, Global};
 use timing_base::{Media, Verdict};
 use timing_report::{Status, verdict_of};

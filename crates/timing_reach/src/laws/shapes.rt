@@ -9,7 +9,7 @@ ghost use Rattle.timing_base.specs.declared.media.Kind.TheVariants.{N};
 ghost use Rattle.pcap_reader.specs.WrittenHeads.{file_head};
 ghost use Rattle.sender_params.specs.Worked.{at_once, hd_50};
 ghost use Rattle.timing_report.specs.declared.status.Status.TheVariants as status;
-ghost use Rattle.timing_reach.specs.steps.Answers.{Answer};
+ghost use Rattle.timing_steps.specs.Answers.{Answer};
 ghost use Rattle.udp_rtp.specs.Flow.{flow};
 ghost use Rattle.timing_reach.specs.ShapedAgain.{CanBeHeld, IsJudgedAs, came_at};
 ghost use Rattle.timing_reach.specs.Shapes.{HasPlan, HasShape, shaped_capture};

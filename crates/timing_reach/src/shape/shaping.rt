@@ -2,7 +2,7 @@
 
 ghost use Rattle.std.specs.Prelude.{◌≡◌, ◌≤◌, ◌+◌, ◌*◌, ◌^◌, [], List, All, IfOk, length};
 ghost use Rattle.timing_base.specs.Captures.{IsStamp};
-ghost use Rattle.timing_reach.specs.steps.Ends.{HasStatus, look_ends};
+ghost use Rattle.timing_steps.specs.Ends.{HasStatus, look_ends};
 ghost use Rattle.timing_reach.specs.Shapes.{HasShape};
 ghost use Rattle.timing_reach.specs.shape.Leaving.{HasLet, IsFit, Part, count_left};
 ghost use Rattle.timing_reach.specs.shape.Shaping.{CanShape, Departs, IsShapeOf, ListsSo, in_tai};
@@ -14,7 +14,7 @@ use crate::shape::kept::Kept;
 use crate::shape::leaver::Leaver;
 use crate::shape::walk::Walk;
 use crate::shape::words::not_shaped;
-use crate::steps::Answer;
+use timing_steps::Answer;
 use flow_shaper::Late;
 use std::alloc::{AllocError as OutOfMemory, Global};
 use timing_base::{Judged, Kind, Media};

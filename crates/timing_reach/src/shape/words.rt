@@ -3,7 +3,7 @@
 ghost use Rattle.std.specs.Prelude.{◌≡◌, ◌++◌, IfOk, string_bytes};
 ghost use Rattle.timing_reach.specs.Shapes.{delays_line, not_shaped, packet_line, delayed_line};
 
-use crate::steps::Answer;
+use timing_steps::Answer;
 use flow_shaper::Bound;
 use std::alloc::{AllocError as OutOfMemory, Global};
 use std::fmt;

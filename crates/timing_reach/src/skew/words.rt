@@ -6,7 +6,7 @@ ghost use Rattle.timing_report.specs.Outcomes.{is_refused};
 ghost use Rattle.timing_reach.specs.Skewed.{counts_text, extreme_line, pair_head, row_text, skew_status, skewed};
 
 use crate::skew::compare::Compared;
-use crate::steps::Answer;
+use timing_steps::Answer;
 use path_skew::{Extreme, SkewRow};
 use std::alloc::{AllocError as OutOfMemory, Global};
 use timing_base::SkewJob;

@@ -4,7 +4,7 @@ ghost use Rattle.std.specs.Prelude.{◌≡◌, ◌++◌, IfOk, string_bytes};
 ghost use Rattle.timing_report.specs.declared.status.Status.TheVariants as status;
 ghost use Rattle.timing_reach.specs.Windows.{window_line, windows_text};
 
-use crate::steps::Answer;
+use timing_steps::Answer;
 use offset_window::{Window, WindowEnd};
 use std::alloc::{AllocError as OutOfMemory, Global};
 use std::fmt;

@@ -12,10 +12,10 @@ use Rattle.timing_report.specs.declared.json_report.reading.ReportProof.{ReportP
 use Rattle.timing_report.specs.declared.status.Input.{Input}
 use Rattle.timing_report.specs.declared.status.Input.TheVariants as input
 use Rattle.timing_report.specs.declared.status.Status.TheVariants as status
-use Rattle.timing_reach.specs.steps.Answers.{Answer, AreThere, CaptureRose, Gives, HasRisen, Inputs, ReadsCaptures}
-use Rattle.timing_reach.specs.steps.Answers.{ReadsSession, Yields, silent}
-use Rattle.timing_reach.specs.declared.steps.failure.Failure.{Failure}
-use Rattle.timing_reach.specs.declared.steps.failure.Failure.TheVariants as failure
+use Rattle.timing_steps.specs.Answers.{Answer, AreThere, CaptureRose, Gives, HasRisen, Inputs, ReadsCaptures}
+use Rattle.timing_steps.specs.Answers.{ReadsSession, Yields, silent}
+use Rattle.timing_steps.specs.declared.failure.Failure.{Failure}
+use Rattle.timing_steps.specs.declared.failure.Failure.TheVariants as failure
 use Rattle.timing_top.specs.verify.Findings.{Finds}
 use Rattle.timing_top.specs.verify.Verified.{reported, verified}
 use Rattle.timing_top.specs.declared.verify.checked.Checked.{Checked}

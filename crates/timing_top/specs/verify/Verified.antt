@@ -9,7 +9,7 @@ use Rattle.timing_report.specs.Verdict.{unjudged_text}
 use Rattle.timing_report.specs.Words.{kind_name}
 use Rattle.timing_report.specs.declared.status.Status.{Status}
 use Rattle.timing_report.specs.declared.status.Status.TheVariants as status
-use Rattle.timing_reach.specs.steps.Answers.{Answer}
+use Rattle.timing_steps.specs.Answers.{Answer}
 use Rattle.timing_top.specs.declared.verify.checked.Checked.{Checked}
 
 -- `confirmed`, `not confirmed` or `not judged: VERDICT`, with the newline

@@ -6,7 +6,7 @@ ghost use Rattle.timing_base.specs.Media.{Media};
 ghost use Rattle.timing_base.specs.declared.row.Unjudged.{Unjudged};
 ghost use Rattle.timing_report.specs.declared.json_report.reading.ReportProof.{ReportProof};
 ghost use Rattle.timing_report.specs.declared.status.Status.TheVariants as status;
-ghost use Rattle.timing_reach.specs.steps.Answers.{Answer};
+ghost use Rattle.timing_steps.specs.Answers.{Answer};
 ghost use Rattle.timing_top.specs.verify.Asked.{FindsOf, HasReported, HasVerified, media_for};
 ghost use Rattle.timing_top.specs.verify.Findings.{Finds};
 ghost use Rattle.timing_top.specs.verify.Verified.{reported};

@@ -5,9 +5,9 @@ ghost use Rattle.timing_report.specs.json_report.Reading.{IsReport};
 ghost use Rattle.timing_report.specs.declared.json_report.reading.ReportProof.{ReportProof as Claim};
 ghost use Rattle.timing_outside.specs.Causes.{Rose};
 ghost use Rattle.timing_outside.specs.Shelves.{StaysAs};
-ghost use Rattle.timing_reach.specs.steps.Answers.{Gives, OnReadFault, Yields, seen_of};
-ghost use Rattle.timing_reach.specs.steps.Ends.{EndsWith, HasStatus, report_ends};
-ghost use Rattle.timing_reach.specs.steps.Ran.{HasCause, Ran, output_of};
+ghost use Rattle.timing_steps.specs.Answers.{Gives, OnReadFault, Yields, seen_of};
+ghost use Rattle.timing_steps.specs.Ends.{EndsWith, HasStatus, report_ends};
+ghost use Rattle.timing_steps.specs.Ran.{HasCause, Ran, output_of};
 ghost use Rattle.timing_top.specs.verify.Asked.{FollowsReport, HasReported, ReadsNeeded, ReadsReport, ReportInputRose};
 
 use crate::verify::needs::check_each;
@@ -15,7 +15,7 @@ use crate::verify::words::reported;
 use std::alloc::Global;
 use timing_base::{Media, ReportJob};
 use timing_outside::{Shelf, Sink};
-use timing_reach::steps::{Answer, Failure, conclude, fetch_front, fetch_session};
+use timing_steps::{Answer, Failure, conclude, fetch_front, fetch_session};
 use timing_report::json_report::{ReportError, ReportProof, read_json};
 use timing_report::{Input, Status};
 

@@ -2,9 +2,9 @@
 
 ghost use Rattle.std.specs.Prelude.{◌≡◌, IfOk, slice_get};
 ghost use Rattle.timing_outside.specs.Shelves.{StaysAs};
-ghost use Rattle.timing_reach.specs.steps.Answers.{Gives, ReadsCaptures, Yields, seen_of};
-ghost use Rattle.timing_reach.specs.steps.Ends.{EndsWith, HasStatus, check_ends};
-ghost use Rattle.timing_reach.specs.steps.Ran.{HasCause, Ran, output_of};
+ghost use Rattle.timing_steps.specs.Answers.{Gives, ReadsCaptures, Yields, seen_of};
+ghost use Rattle.timing_steps.specs.Ends.{EndsWith, HasStatus, check_ends};
+ghost use Rattle.timing_steps.specs.Ran.{HasCause, Ran, output_of};
 ghost use Rattle.timing_top.specs.verify.Asked.{FollowsVerify, HasVerified, ReadsMedia, VerifyInputRose, claim_of};
 
 use crate::verify::find::find;
@@ -12,7 +12,7 @@ use crate::verify::words::{unconfirmed, verified};
 use std::alloc::Global;
 use timing_base::{FlowKey, Media, VerifyJob};
 use timing_outside::{Shelf, Sink};
-use timing_reach::steps::{Answer, Failure, conclude, fetch_session};
+use timing_steps::{Answer, Failure, conclude, fetch_session};
 use timing_report::Status;
 use timing_report::json_report::ReportProof;
 

@@ -8,7 +8,7 @@ use crate::verify::checked::{Checked, Finding};
 use std::alloc::{AllocError as OutOfMemory, Global};
 use std::fmt;
 use timing_base::{Media, Unjudged, Verdict};
-use timing_reach::steps::Answer;
+use timing_steps::Answer;
 use timing_report::{Status, kind_name, verdict_of};
 
 /// Returns the status for one violation.

@@ -13,10 +13,10 @@ use Rattle.capture_scan.specs.report.Contents.{Contents, contents_of}
 use Rattle.sdp_reader.specs.Session.{session}
 use Rattle.timing_report.specs.Outcomes.{is_refused}
 use Rattle.timing_report.specs.declared.status.Status.TheVariants as status
-use Rattle.timing_reach.specs.steps.Answers.{Answer, Gives, Inputs, Yields}
-use Rattle.timing_reach.specs.steps.Ends.{HasStatus}
-use Rattle.timing_reach.specs.declared.steps.failure.Failure.{Failure}
-use Rattle.timing_reach.proofs.lemmas.steps.Seeing.{Sees, follows-session, yields-on}
+use Rattle.timing_steps.specs.Answers.{Answer, Gives, Inputs, Yields}
+use Rattle.timing_steps.specs.Ends.{HasStatus}
+use Rattle.timing_steps.specs.declared.failure.Failure.{Failure}
+use Rattle.timing_steps.proofs.Seeing.{Sees, follows-session, yields-on}
 use Rattle.timing_reach.specs.Asked.{ReadsCapture}
 use Rattle.timing_reach.proofs.Following.{capture-seen}
 use Rattle.timing_reach.proofs.Scannings.{found-contents}

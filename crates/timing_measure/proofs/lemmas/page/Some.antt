@@ -29,7 +29,7 @@ use Rattle.flow_page.specs.declared.shown.FlowPage.{FlowPage}
 use Rattle.flow_page.specs.declared.shown.Region.{Region}
 use Rattle.flow_page.specs.declared.shown.ShownRun.{ShownRun}
 use Rattle.pcap_reader.specs.Records.{Records}
-use Rattle.timing_reach.specs.steps.Answers.{Answer}
+use Rattle.timing_steps.specs.Answers.{Answer}
 use Rattle.timing_reach.specs.Scanned.{contents}
 use Rattle.udp_rtp.specs.Flow.{flow}
 use Rattle.timing_measure.specs.Each.{EachOf}

@@ -12,7 +12,7 @@ use Rattle.fail_interval.specs.Parts.{judged_parts}
 use Rattle.flow_measure.specs.Packets.{timestamps_of}
 use Rattle.flow_page.specs.drawing.Told.{IsLongest}
 use Rattle.timing_reach.specs.Scanned.{contents}
-use Rattle.timing_reach.specs.steps.Answers.{Answer}
+use Rattle.timing_steps.specs.Answers.{Answer}
 use Rattle.udp_rtp.specs.Flow.{flow}
 use Rattle.timing_measure.specs.page.Pages.{ArePages, HasPage, paged}
 use Rattle.timing_measure.specs.page.Shown.{IsFlowPage, IsShownRun, Shows}

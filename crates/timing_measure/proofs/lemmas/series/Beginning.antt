@@ -29,7 +29,7 @@ use Rattle.flow_measure.specs.rows.Told.{PastRows, Tells}
 use Rattle.flow_measure.specs.rows.making.Meters.{StandsFor as RowsStandsFor}
 use Rattle.flow_measure.specs.declared.rows.meter.RowsMeter.{RowsMeter}
 use Rattle.flow_measure.specs.declared.rows.rows.Rows.{Rows}
-use Rattle.timing_reach.specs.steps.Ran.{Appended, Output}
+use Rattle.timing_steps.specs.Ran.{Appended, Output}
 use Rattle.timing_measure.specs.series.Copies.{Stopped}
 use Rattle.timing_measure.specs.series.Rows.{AreRowsOfFlow, AreRowsUpTo}
 use Rattle.timing_measure.specs.series.Series.{BeginsIn, series_of}

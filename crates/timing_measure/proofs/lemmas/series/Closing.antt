@@ -14,16 +14,16 @@ use Rattle.pcap_reader.proofs.Lists.{some_by}
 use Rattle.timing_report.specs.Outcomes.{is_refused}
 use Rattle.timing_report.specs.declared.status.Status.{Status}
 use Rattle.timing_report.specs.declared.status.Status.TheVariants as status
-use Rattle.timing_reach.specs.steps.Answers.{Answer}
-use Rattle.timing_reach.specs.steps.Ends.{look_ends}
-use Rattle.timing_reach.specs.steps.Ran.{Output}
+use Rattle.timing_steps.specs.Answers.{Answer}
+use Rattle.timing_steps.specs.Ends.{look_ends}
+use Rattle.timing_steps.specs.Ran.{Output}
 use Rattle.udp_rtp.specs.Flow.{flow}
 use Rattle.timing_measure.specs.series.Copies.{CopiesIn, CopiesSome, Stopped}
 use Rattle.timing_measure.specs.series.Ends.{EndsSeries}
 use Rattle.timing_measure.specs.series.Series.{BeginsIn, HasSeries, series_of}
 use Rattle.timing_measure.specs.series.Stands.{StandsFor}
 use Rattle.timing_measure.specs.series.Status.{is_unjudged}
-use Rattle.timing_measure.specs.series.Streams.{HasBegun, HasRest, HasRestStatus, is_silent_stream}
+use Rattle.timing_steps.specs.Streams.{HasBegun, HasRest, HasRestStatus, is_silent_stream}
 use Rattle.timing_measure.specs.declared.series.flow.SeriesFlow.{SeriesFlow}
 use Rattle.timing_measure.proofs.lemmas.series.Beginning.{stopped-begins}
 use Rattle.timing_measure.proofs.lemmas.series.Copying.{stopped-here}

@@ -10,27 +10,27 @@ use Rattle.timing_report.specs.declared.status.Input.{Input}
 use Rattle.timing_report.specs.declared.status.Input.TheVariants as input
 use Rattle.timing_report.specs.declared.status.Status.{Status}
 use Rattle.timing_report.specs.declared.status.Status.TheVariants as status
-use Rattle.timing_reach.specs.steps.Answers.{Answer}
-use Rattle.timing_reach.specs.steps.Ends.{is_failure, look_ends}
-use Rattle.timing_reach.specs.steps.Ran.{Appended, IsAnswered, Leaves, Output, status_of}
-use Rattle.timing_reach.specs.declared.steps.failure.Failure.{Failure}
-use Rattle.timing_reach.specs.declared.steps.failure.Failure.TheVariants as failure
-use Rattle.timing_reach.proofs.lemmas.steps.Endings.{kept-none}
+use Rattle.timing_steps.specs.Answers.{Answer}
+use Rattle.timing_steps.specs.Ends.{is_failure, look_ends}
+use Rattle.timing_steps.specs.Ran.{Appended, IsAnswered, Leaves, Output, status_of}
+use Rattle.timing_steps.specs.declared.failure.Failure.{Failure}
+use Rattle.timing_steps.specs.declared.failure.Failure.TheVariants as failure
+use Rattle.timing_steps.proofs.Endings.{kept-none}
 use Rattle.std.specs.Prelude.{option_map, slice_get}
 use Rattle.timing_base.specs.Jobs.{SeriesJob}
 use Rattle.timing_base.specs.Media.{Media}
 use Rattle.pcapng_reader.specs.Classic.{classic, classic_texts}
 use Rattle.sdp_reader.specs.Session.{session}
-use Rattle.timing_reach.specs.steps.Answers.{Gives, HasRisen, Inputs, OnReadFault, Yields}
+use Rattle.timing_steps.specs.Answers.{Gives, HasRisen, Inputs, OnReadFault, Yields}
 use Rattle.timing_outside.specs.Causes.{Rose}
-use Rattle.timing_reach.proofs.lemmas.steps.Seeing.{Sees, rose-within}
+use Rattle.timing_steps.proofs.Seeing.{Sees, rose-within}
 use Rattle.timing_reach.specs.Asked.{FlowInputRose, ReadsCapture}
 use Rattle.timing_reach.proofs.Following.{found-follows, none-follows, reads-capture}
 use Rattle.timing_measure.proofs.lemmas.series.Capturing.{wrote-known}
 use Rattle.timing_measure.proofs.lemmas.series.Copying.{appends-same, take-more}
 use Rattle.timing_reach.specs.judged.Found.{IsFound}
 use Rattle.timing_measure.specs.series.Series.{BeginsIn, BeginsSeries, FollowsSeries, HasSeries}
-use Rattle.timing_measure.specs.series.Streams.{HasBegun, HasRest, HasRestStatus, HasStreamCause, OnFailure, Rests, StreamEnds, StreamLeaves, is_silent_stream}
+use Rattle.timing_steps.specs.Streams.{HasBegun, HasRest, HasRestStatus, HasStreamCause, OnFailure, Rests, StreamEnds, StreamLeaves, is_silent_stream}
 
 -- an answer has a status of its own
 answered-of : (ends : Status) → look_ends ends ≡ true → IsAnswered ends

@@ -7,7 +7,7 @@ use Rattle.timing_base.specs.Media.{IsMedia, Media}
 use Rattle.timing_base.specs.declared.capture.FileNote.{FileNote}
 use Rattle.fail_interval.specs.Row.{verdict_of}
 use Rattle.pcap_reader.specs.Records.{Records}
-use Rattle.timing_reach.specs.steps.Answers.{Answer}
+use Rattle.timing_steps.specs.Answers.{Answer}
 use Rattle.udp_rtp.specs.Flow.{flow}
 use Rattle.timing_measure.specs.series.Series.{HasSeries, series_of}
 use Rattle.timing_measure.proofs.lemmas.series.Fronting.{rows-of-flow}

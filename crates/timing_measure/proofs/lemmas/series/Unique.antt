@@ -25,7 +25,7 @@ use Rattle.flow_measure.specs.rows.Rows.{Adds, AddsGroup, AreRows, AreRowsOf, Is
 use Rattle.pcap_reader.specs.Header.{header}
 use Rattle.pcap_reader.proofs.Lists.{only_by}
 use Rattle.fail_interval.specs.Parts.{judged_parts, open_before, parts_before}
-use Rattle.timing_reach.specs.steps.Answers.{Answer}
+use Rattle.timing_steps.specs.Answers.{Answer}
 use Rattle.udp_rtp.specs.Flow.{flow}
 use Rattle.timing_measure.specs.series.Rows.{AreRowsOfFlow, AreRowsUpTo}
 use Rattle.timing_measure.specs.series.Series.{HasSeries, series_of}

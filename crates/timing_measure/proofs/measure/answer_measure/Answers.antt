@@ -1,6 +1,6 @@
 use Rattle.std.proofs.Common.{rules, ◌∙◌}
-use Rattle.timing_reach.specs.steps.Answers.{seen_of}
-use Rattle.timing_reach.proofs.lemmas.steps.Seeing.{sees-rest}
+use Rattle.timing_steps.specs.Answers.{seen_of}
+use Rattle.timing_steps.proofs.Seeing.{sees-rest}
 use Rattle.timing_measure.proofs.Answering.{session-follows}
 use Rattle.timing_measure.proofs.measure.answer_measure.Goals as goal
 

@@ -1,5 +1,5 @@
 use Rattle.std.proofs.Common.{◌≡◌, rules, subst}
-use Rattle.timing_reach.specs.steps.Answers.{seen_of}
+use Rattle.timing_steps.specs.Answers.{seen_of}
 use Rattle.timing_measure.specs.Measures.{AreFlows, HasMeasure}
 use Rattle.timing_measure.specs.flows.Taken.{IsCaptureIn, IsCaptureOf}
 use Rattle.timing_reach.proofs.Following.{reads-twice}

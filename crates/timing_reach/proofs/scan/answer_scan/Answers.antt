@@ -1,4 +1,4 @@
-use Rattle.timing_reach.specs.steps.Answers.{seen_of}
+use Rattle.timing_steps.specs.Answers.{seen_of}
 use Rattle.timing_reach.specs.Scanned.{HasScan}
 use Rattle.timing_reach.specs.scan.Scanning.{IsScannedIn}
 use Rattle.timing_reach.proofs.Following.{reads-twice}

@@ -3,10 +3,10 @@ use Rattle.std.specs.Prelude.{IfErr}
 use Rattle.sdp_reader.specs.Session.{session}
 use Rattle.timing_base.specs.Jobs.{ShapeJob}
 use Rattle.timing_base.specs.Media.{Media}
-use Rattle.timing_reach.specs.steps.Answers.{Answer, Gives, Yields, seen_of}
-use Rattle.timing_reach.specs.steps.Ends.{HasStatus, look_ends}
-use Rattle.timing_reach.proofs.lemmas.steps.Endings.{look-answered}
-use Rattle.timing_reach.proofs.lemmas.steps.Seeing.{sees-rest, stays-then}
+use Rattle.timing_steps.specs.Answers.{Answer, Gives, Yields, seen_of}
+use Rattle.timing_steps.specs.Ends.{HasStatus, look_ends}
+use Rattle.timing_steps.proofs.Endings.{look-answered}
+use Rattle.timing_steps.proofs.Seeing.{sees-rest, stays-then}
 use Rattle.timing_reach.specs.Asked.{ReadsCapture}
 use Rattle.timing_reach.specs.Shaped.{FollowsShape, HasShapeIn}
 use Rattle.timing_reach.specs.judged.Found.{IsFound}

@@ -1,7 +1,7 @@
 use Rattle.std.proofs.Common.{ap, refl, sym, subst, ◌∙◌}
 use Rattle.timing_base.specs.Judged.{judged}
 use Rattle.udp_rtp.specs.Flow.{flow}
-use Rattle.timing_reach.specs.steps.Ends.{HasStatus, look_ends}
+use Rattle.timing_steps.specs.Ends.{HasStatus, look_ends}
 use Rattle.timing_reach.specs.Asked.{OnRun, not_judged}
 use Rattle.timing_reach.specs.Shapes.{HasShape}
 use Rattle.timing_reach.proofs.Keepings.{can-shape, run-kept}

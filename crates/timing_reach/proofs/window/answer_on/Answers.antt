@@ -1,4 +1,4 @@
-use Rattle.timing_reach.specs.steps.Answers.{seen_of}
+use Rattle.timing_steps.specs.Answers.{seen_of}
 use Rattle.timing_reach.specs.Asked.{HasWindow}
 use Rattle.timing_reach.specs.window.Readings.{IsMeasuredIn}
 use Rattle.timing_reach.proofs.Following.{capture-cause, reads-twice}

@@ -3,10 +3,10 @@ use Rattle.std.specs.Prelude.{IfErr}
 use Rattle.timing_reach.specs.Asked.{HasWindow}
 use Rattle.sdp_reader.specs.Session.{session}
 use Rattle.timing_base.specs.Media.{Media}
-use Rattle.timing_reach.specs.steps.Answers.{Answer, seen_of}
-use Rattle.timing_reach.specs.steps.Ends.{HasStatus, look_ends}
-use Rattle.timing_reach.proofs.lemmas.steps.Endings.{look-answered}
-use Rattle.timing_reach.proofs.lemmas.steps.Seeing.{sees-rest, stays-then}
+use Rattle.timing_steps.specs.Answers.{Answer, seen_of}
+use Rattle.timing_steps.specs.Ends.{HasStatus, look_ends}
+use Rattle.timing_steps.proofs.Endings.{look-answered}
+use Rattle.timing_steps.proofs.Seeing.{sees-rest, stays-then}
 use Rattle.timing_reach.specs.judged.Found.{IsFound}
 use Rattle.timing_reach.proofs.Following.{cause-seen, found-follows, none-follows}
 use Rattle.timing_reach.proofs.window.answer_window.Goals as goal

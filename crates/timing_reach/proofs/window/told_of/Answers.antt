@@ -1,5 +1,5 @@
 use Rattle.std.proofs.Common.{refl, subst, sym}
-use Rattle.timing_reach.specs.steps.Ends.{HasStatus, look_ends}
+use Rattle.timing_steps.specs.Ends.{HasStatus, look_ends}
 use Rattle.timing_reach.proofs.Takings.{if-ok}
 use Rattle.timing_reach.proofs.WindowReadings.{verdict-on}
 use Rattle.timing_reach.proofs.window.told_of.Goals as goal

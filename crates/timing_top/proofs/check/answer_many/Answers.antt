@@ -1,5 +1,5 @@
 use Rattle.std.proofs.Common.{rules, ◌≡◌, Err, sym, subst}
-use Rattle.timing_reach.specs.steps.Answers.{seen_of}
+use Rattle.timing_steps.specs.Answers.{seen_of}
 use Rattle.timing_top.specs.Check.{AnswersCheck}
 use Rattle.timing_top.specs.Found.{Opens}
 use Rattle.timing_top.proofs.Begun.{failed-follows, failed-rose, report-follows}

@@ -26,7 +26,7 @@ pub returns-in-Scan-clause-ran : goal.returns-in-Scan-clause-ran
 returns-in-Scan-clause-ran g c = serves-scan _ _ _ _ _ _ c.in-Scan.is c.scan_one.ensures.ran
 
 pub returns-in-Skew-clause-ran : goal.returns-in-Skew-clause-ran
-returns-in-Skew-clause-ran g c = serves-skew _ _ _ _ _ _ c.in-Skew.is c.skew_one.ensures.ran
+returns-in-Skew-clause-ran g c = serves-skew _ _ _ _ _ _ c.in-Skew.is c.run_command.ensures.ran
 
 pub returns-in-Measure-clause-ran : goal.returns-in-Measure-clause-ran
 returns-in-Measure-clause-ran g c = serves-measure _ _ _ _ _ _ c.in-Measure.is c.measure_one.ensures.ran
@@ -59,7 +59,7 @@ pub returns-in-Scan-clause-ends : goal.returns-in-Scan-clause-ends
 returns-in-Scan-clause-ends g c = ends-scan _ _ _ _ c.in-Scan.is c.scan_one.ensures.ends
 
 pub returns-in-Skew-clause-ends : goal.returns-in-Skew-clause-ends
-returns-in-Skew-clause-ends g c = ends-skew _ _ _ _ c.in-Skew.is c.skew_one.ensures.ends
+returns-in-Skew-clause-ends g c = ends-skew _ _ _ _ c.in-Skew.is c.run_command.ensures.ends
 
 pub returns-in-Measure-clause-ends : goal.returns-in-Measure-clause-ends
 returns-in-Measure-clause-ends g c = ends-measure _ _ _ _ c.in-Measure.is c.measure_one.ensures.ends

@@ -9,13 +9,13 @@ use Rattle.sdp_reader.specs.Session.{session}
 use Rattle.timing_report.specs.json_report.Reading.{IsReport}
 use Rattle.timing_report.specs.declared.json_report.reading.ReportProof.{ReportProof}
 use Rattle.timing_report.specs.declared.status.Status.TheVariants as status
-use Rattle.timing_reach.specs.steps.Answers.{Answer, AreThere, AreTold, Gives, Inputs, ReadsCaptures, Yields, silent}
-use Rattle.timing_reach.specs.declared.steps.failure.Failure.{Failure}
+use Rattle.timing_steps.specs.Answers.{Answer, AreThere, AreTold, Gives, Inputs, ReadsCaptures, Yields, silent}
+use Rattle.timing_steps.specs.declared.failure.Failure.{Failure}
 use Rattle.timing_top.specs.verify.Asked.{FollowsReport, FollowsVerify, HasReported, HasVerified, ReadsMedia, ReadsNeeded, ReadsReport, claim_of}
 use Rattle.timing_top.specs.verify.Findings.{Finds}
 use Rattle.timing_top.specs.verify.Verified.{verified}
-use Rattle.timing_reach.proofs.lemmas.steps.Classics.{told-classic}
-use Rattle.timing_reach.proofs.lemmas.steps.Seeing.{Sees, follows-session, yields-on}
+use Rattle.timing_steps.proofs.Classics.{told-classic}
+use Rattle.timing_steps.proofs.Seeing.{Sees, follows-session, yields-on}
 use Rattle.timing_top.proofs.lemmas.verify.Seeing.{media-seen, needed-seen, report-seen}
 
 -- a report that was read leads on to what follows for its fails

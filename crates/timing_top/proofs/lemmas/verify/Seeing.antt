@@ -5,9 +5,9 @@ use Rattle.std.specs.Prelude.{Result}
 use Rattle.timing_base.specs.Jobs.{ReportJob, VerifyJob}
 use Rattle.timing_base.specs.Media.{Media}
 use Rattle.timing_report.specs.declared.json_report.reading.ReportProof.{ReportProof}
-use Rattle.timing_reach.specs.steps.Answers.{Answer, AreThere, Gives, Inputs}
-use Rattle.timing_reach.specs.declared.steps.failure.Failure.{Failure}
-use Rattle.timing_reach.proofs.lemmas.steps.Seeing.{Sees, capture-seen, captures-seen, risen-seen, there-seen}
+use Rattle.timing_steps.specs.Answers.{Answer, AreThere, Gives, Inputs}
+use Rattle.timing_steps.specs.declared.failure.Failure.{Failure}
+use Rattle.timing_steps.proofs.Seeing.{Sees, capture-seen, captures-seen, risen-seen, there-seen}
 use Rattle.timing_top.specs.verify.Asked.{AreTexts, HasVerified, NeededRose, OnReport, ReadsMedia, ReadsNeeded, ReadsReport, needed}
 
 -- captures that were read in a part of the run, where the media is there

@@ -23,7 +23,7 @@ use Rattle.udp_rtp.specs.Flow.{flow}
 use Rattle.interval_checker.specs.Checked.{Says, SaysAt, SaysJudged, SaysOutcome}
 use Rattle.timing_report.specs.declared.json_report.reading.ReportProof.{ReportProof}
 use Rattle.timing_report.specs.declared.status.Status.TheVariants as status
-use Rattle.timing_reach.specs.steps.Answers.{Answer}
+use Rattle.timing_steps.specs.Answers.{Answer}
 use Rattle.timing_top.specs.verify.Asked.{AreChecked, FindsOf, HasReported, HasVerified, captures_of, claim_of, media_for}
 use Rattle.timing_top.specs.verify.Findings.{Finds}
 use Rattle.timing_top.specs.verify.Verified.{is_confirmed, is_unjudged, reported, verified}

@@ -1,7 +1,7 @@
 use Rattle.std.proofs.Common.{[], rules}
 use Rattle.timing_base.specs.Media.{IsMedia}
-use Rattle.timing_reach.specs.steps.Answers.{seen_of}
-use Rattle.timing_reach.specs.steps.Ran.{output_of}
+use Rattle.timing_steps.specs.Answers.{seen_of}
+use Rattle.timing_steps.specs.Ran.{output_of}
 use Rattle.timing_measure.specs.series.Series.{HasSeries}
 use Rattle.timing_measure.specs.series.Stands.{StandsFor}
 use Rattle.timing_measure.proofs.lemmas.series.Capturing.{some-front}

@@ -1,8 +1,8 @@
 use Rattle.std.proofs.Common.{refl, rules, subst}
 use Rattle.sdp_reader.specs.Session.{session}
-use Rattle.timing_reach.specs.steps.Answers.{seen_of}
-use Rattle.timing_reach.specs.steps.Ran.{output_of}
-use Rattle.timing_reach.proofs.lemmas.steps.Seeing.{sees-rest}
+use Rattle.timing_steps.specs.Answers.{seen_of}
+use Rattle.timing_steps.specs.Ran.{output_of}
+use Rattle.timing_steps.proofs.Seeing.{sees-rest}
 use Rattle.timing_reach.specs.judged.Found.{IsFound}
 use Rattle.timing_measure.proofs.lemmas.series.Resting.{any-rests, capture-alone, rests-none, rests-seen, stream-cause}
 use Rattle.timing_measure.proofs.series.series.answer_series.Goals as goal

@@ -1,6 +1,6 @@
 use Rattle.std.proofs.Common.{arith}
 use Rattle.timing_reach.specs.Asked.{FlowInputRose}
-use Rattle.timing_reach.specs.steps.Answers.{seen_of}
+use Rattle.timing_steps.specs.Answers.{seen_of}
 use Rattle.timing_measure.specs.series.Series.{BeginsSeries, FollowsSeries}
 use Rattle.timing_measure.proofs.lemmas.series.Resting.{ends-rest, printed-rest}
 use Rattle.timing_measure.proofs.series.series.series_one.Goals as goal

@@ -3,9 +3,9 @@ use Rattle.std.proofs.lemmas.Result.{IfOk-from_err}
 use Rattle.pcapng_reader.specs.Classic.{classic_texts}
 use Rattle.pcapng_reader.specs.Sources.{faults_of, left_of, name_of}
 use Rattle.timing_base.specs.Jobs.{SkewJob}
-use Rattle.timing_reach.specs.steps.Answers.{AreThere, AreTold}
-use Rattle.timing_reach.proofs.lemmas.steps.Readings.{fetched-fresh, fetched-length}
-use Rattle.timing_reach.proofs.lemmas.steps.Seeing.{stays-then}
+use Rattle.timing_steps.specs.Answers.{AreThere, AreTold}
+use Rattle.timing_steps.proofs.Readings.{fetched-fresh, fetched-length}
+use Rattle.timing_steps.proofs.Seeing.{stays-then}
 use Rattle.timing_reach.specs.skew.Comparing.{IsComparedIn}
 use Rattle.timing_reach.proofs.Comparings.{cause-before, cause-passed, on-ok}
 use Rattle.timing_reach.proofs.Takings.{if-ok}

@@ -1,6 +1,6 @@
 use Rattle.std.proofs.Common.{rules, ◌≡◌}
 use Rattle.timing_top.specs.verify.Asked.{claim_of}
-use Rattle.timing_reach.specs.steps.Answers.{seen_of}
+use Rattle.timing_steps.specs.Answers.{seen_of}
 use Rattle.timing_top.proofs.lemmas.verify.Following.{follows-found}
 use Rattle.timing_top.proofs.verify.verify.answer_on.Goals as goal
 

@@ -1,7 +1,7 @@
 use Rattle.std.proofs.Common.{rules, ◌≡◌, ◌∙◌}
-use Rattle.timing_reach.specs.steps.Answers.{seen_of}
+use Rattle.timing_steps.specs.Answers.{seen_of}
 use Rattle.timing_top.proofs.lemmas.verify.Following.{verify-session}
-use Rattle.timing_reach.proofs.lemmas.steps.Seeing.{sees-rest}
+use Rattle.timing_steps.proofs.Seeing.{sees-rest}
 use Rattle.timing_top.proofs.verify.verify.answer_verify.Goals as goal
 
 pub returns-in-Ok-clause-follows : goal.returns-in-Ok-clause-follows
