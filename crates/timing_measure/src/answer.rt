@@ -50,7 +50,7 @@ pub fn measured(
     capture: &MeasuredCapture,
 ) -> Result<Answer, OutOfMemory>
     requires { AreOfMedia session.now capture.now.flows.items }
-    ensures is { IfOk result (λ answer. answer
+    ensures answers { IfOk result (λ answer. answer
         ≡ measured job.now.capture capture.now.note session.now capture.now.flows.items) }
     ensures ends { IfOk result (λ answer. judged_ends false answer.status ≡ true) }
 {

@@ -51,7 +51,7 @@ pub fn paged(
     capture: &PageCapture,
 ) -> Result<Answer, OutOfMemory>
     requires { AreOfMedia session.now capture.now.flows.items }
-    ensures is { IfOk result (λ answer. answer
+    ensures answers { IfOk result (λ answer. answer
         ≡ paged job.now.capture capture.now.note job.now.tai session.now capture.now.flows.items
         (contents_of capture.now.found)) }
     ensures ends { IfOk result (λ answer. judged_ends false answer.status ≡ true) }
