@@ -22,8 +22,11 @@ from-media query i media outcome read h =
 pub settled-refused : (query : Query) (i : Inputs) (fault : SdpFault) (answer : Answer) → WasRead i.texts i.lacks query.sdp (Err fault)
     → answer ≡ silent (status.SdpRefused fault) → IsSettled query i answer
 settled-refused query i fault answer read is = record {
-  follows = inr (inr (read.0, λ text t.
-      subst (λ s. OnSession s (Ok answer) (AnswersMedia query i (Ok answer))) (sym (read.1 text t)) (answer, refl, is)));
+  follows = inr (inr (
+    read.0,
+    λ text t.
+        subst (λ s. OnSession s (Ok answer) (AnswersMedia query i (Ok answer))) (sym (read.1 text t)) (answer, refl, is),
+  ));
   ends = subst (λ (a : Answer). ends_of query a.status ≡ true) (sym is) refl;
   beside = subst (λ (a : Answer). IsTextBeside (is_silent a.status) a.text) (sym is) refl;
 }

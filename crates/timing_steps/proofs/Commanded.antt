@@ -1,22 +1,18 @@
 -- The run of a command, from what its steps did.
-use Rattle.std.proofs.Common.{◌≡◌, ◌≤◌, ◌++◌, [], ◌∷◌, ℕ, Bool, true, false, List, take, map, Option, Some, Ok, Err, inl, inr, refl, ap}
+use Rattle.std.proofs.Common.{◌≡◌, ◌≤◌, ◌++◌, [], ℕ, Bool, true, false, List, take, Option, Ok, Err, inl, inr, refl, ap}
 use Rattle.std.proofs.Common.{sym, subst, arith}
 use Rattle.std.specs.Prelude.{◌⊎◌, ◌||◌, IfErr, IfOk, Result, is_ok}
 use Rattle.std.proofs.lemmas.Bool.{false≢true, or_left}
 use Rattle.std.specs.Io.KnownBytes.{Appends, Keeps}
 use Rattle.std.proofs.KnownBytes.{Appends-trans, Keeps-trans}
 use Rattle.timing_base.specs.Media.{Media}
-use Rattle.std.specs.Option.{option_map}
-use Rattle.std.proofs.lemmas.List.Elements.{All-cons, All-nil}
-use Rattle.timing_outside.specs.Causes.{Rose}
-use Rattle.pcapng_reader.specs.Classic.{classic, classic_texts}
 use Rattle.sdp_reader.specs.Session.{session}
 use Rattle.sdp_reader.specs.declared.fault.SdpFault.{SdpFault}
 use Rattle.timing_report.specs.declared.status.Input.{Input}
 use Rattle.timing_report.specs.declared.status.Input.TheVariants as input
 use Rattle.timing_report.specs.declared.status.Status.{Status}
 use Rattle.timing_report.specs.declared.status.Status.TheVariants as status
-use Rattle.timing_steps.specs.Answers.{Answer, AreTold, CaptureRose, Gives, HasRisen, Inputs, OnReadFault, ReadsCaptures}
+use Rattle.timing_steps.specs.Answers.{Answer, CaptureRose, Gives, HasRisen, Inputs, OnReadFault}
 use Rattle.timing_steps.specs.Begun.{IsBegun, IsSettled}
 use Rattle.timing_steps.specs.Queries.{AnswersCaptures, BeginsCaptures, BeginsQuery, FollowsCaptures, FollowsQuery, HasAnswer, OnEarly, Query, QueryInputRose}
 use Rattle.timing_steps.specs.Queries.{ends_of, judged_ends}

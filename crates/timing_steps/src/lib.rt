@@ -2,7 +2,7 @@
 //! error why there is none.
 //!
 //! The result that the contents of a command's inputs define is an [`Answer`]; the reason why a run has none is a
-//! [`Failure`]. A [`Command`] states what it query of its inputs, and makes the answer from an SDP and captures.
+//! [`Failure`]. A [`Command`] states what it asks of its inputs, and makes the answer from an SDP and captures.
 //! [`run_command`] does the rest, in one order for all commands: the SDP is opened, then it may be refused, then the
 //! captures are opened and read, and last the answer is printed.
 #![tactic(auto)]
