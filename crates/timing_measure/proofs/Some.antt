@@ -1,4 +1,4 @@
--- The texts of `measure` have an answer.
+-- The packet records of a capture have an answer of `measure`.
 use Rattle.std.proofs.Common.{◌≡◌, ◌<◌, ◌≤◌, ◌+◌, ◌^◌, ◌∷◌, ℕ, zero, suc, List, [], length, map, Option, Some, None, refl, ◌∙◌, arith}
 use Rattle.std.proofs.Common.{slice_index}
 use Rattle.std.specs.Prelude.{All, slice_index_or}
@@ -19,6 +19,8 @@ use Rattle.flow_measure.specs.declared.numbers.MeasuredRun.{MeasuredRun}
 use Rattle.flow_measure.proofs.Some.{some-measure}
 use Rattle.pcap_reader.specs.Records.{Records}
 use Rattle.timing_steps.specs.Answers.{Answer}
+use Rattle.timing_steps.specs.Queries.{HasAnswer, only_file, only_note}
+use Rattle.timing_steps.proofs.Onces.{DefinesSome}
 use Rattle.timing_reach.proofs.Packets.{flow-few, packet-of}
 use Rattle.udp_rtp.specs.Flow.{flow, flow_packet}
 use Rattle.timing_measure.specs.Each.{EachOf}
@@ -27,7 +29,8 @@ use Rattle.fail_interval.specs.Parts.{judged_packets, judged_parts, part_between
 use Rattle.flow_measure.specs.Measured.{AreMeasured, HasNumbers, IsMeasuredRun, named_by}
 use Rattle.flow_measure.specs.Packets.{records_of, timestamps_of}
 use Rattle.timing_measure.specs.Measured.{IsMeasuredFlow, first_source}
-use Rattle.timing_measure.specs.Measures.{HasMeasure, measured}
+use Rattle.timing_measure.specs.Measures.{DefinesMeasure, measure_query, measured}
+use Rattle.timing_measure.proofs.Held.{AreHeld, HaveStamps}
 use Rattle.timing_measure.proofs.Whole.{IsWhole, parts-whole}
 
 -- the packets of a judged run have stamps of a capture
@@ -132,12 +135,21 @@ some-flows tai items number (m ∷ media) is seconds few held =
     let fs = some-flows tai items (number + 1) media (All-tail IsMedia m media is) seconds few held in
     (f.0 ∷ fs.0, (f.1, fs.1))
 
--- the answer on a capture whose records have stamps of a capture
+-- the answer over packet records of a capture
+pub measure-defined : (job : CaptureJob) (media : List Media) (items : List Record) (note : FileNote) → IsCaptureJob job → All IsMedia media → AreHeld items
+    → (answer : Answer) × DefinesMeasure job media items note answer
+measure-defined job media items note is all held =
+    let flows = some-flows job.tai items 0 media all is.tai_most held.few held.stamps in
+    (measured job.capture note media flows.0, record { flows = flows.0; are = flows.1; answer_is = refl })
+
+pub some-measure : (job : CaptureJob) (texts : List (List ℕ)) → IsCaptureJob job → HaveStamps texts → DefinesSome (measure_query job) texts
+some-measure job texts is held media files notes are unsettled records =
+    measure-defined job media (only_file files) (only_note notes) is are (held files notes records)
+
+-- over a capture with these contents
 pub some-measure-answer : (job : CaptureJob) (media : List Media) (text : List ℕ) (items : List Record) (note : FileNote) → IsCaptureJob job
     → All IsMedia media → Records text (2 ^ 40) items note → length items < 2 ^ 41 → All (λ (r : Record). IsStamp r.stamp) items
-    → (answer : Answer) × HasMeasure job media text answer
-some-measure-answer job media text items note is all records few held =
-    let flows = some-flows job.tai items 0 media all is.tai_most few held in (
-      measured job.capture note media flows.0,
-      record { items = items; note = note; records = records; flows = flows.0; are = flows.1; answer_is = refl },
-    )
+    → (answer : Answer) × HasAnswer (measure_query job) media (text ∷ []) answer
+some-measure-answer job media text items note is all records few stamps =
+    let made = measure-defined job media items note is all (record { few = few; stamps = stamps }) in
+    (made.0, record { files = items ∷ []; notes = note ∷ []; records = (records, tt); defined = made.1 })

@@ -21,9 +21,8 @@ use run_meter::RunMeter;
 use std::alloc::{AllocError as OutOfMemory, Global};
 use timing_base::{CaptureJob, FileNote, Media};
 use timing_outside::Shelf;
-use timing_steps::take_capture;
-use timing_steps::Failure;
 use timing_report::Input;
+use timing_steps::{Failure, take_capture};
 
 /// The flows of a capture at its end.
 #[derive(Drop)]

@@ -17,8 +17,8 @@ use run_meter::Pair;
 use std::alloc::Global;
 use timing_base::{CaptureJob, FileNote, Media};
 use timing_outside::Shelf;
-use timing_steps::Failure;
 use timing_report::Input;
+use timing_steps::Failure;
 
 /// The capture of a page, after it was read.
 #[derive(Drop)]

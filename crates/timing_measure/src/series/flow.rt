@@ -14,8 +14,8 @@ use std::alloc::{AllocError as OutOfMemory, Global};
 use timing_base::{FileNote, FlowKey, Media, Verdict};
 use timing_outside::{Sink, put_all};
 use timing_reach::judged::words::not_judged;
-use timing_steps::{Answer, Failure};
 use timing_report::{Status, any_refused};
+use timing_steps::{Answer, Failure};
 
 /// The flow of a job, which is judged while it is read, with the rows of its judged runs that aren't written yet.
 #[derive(Drop)]

@@ -20,8 +20,8 @@ use pcap_reader::{MOST, PcapReader, Step};
 use std::alloc::Global;
 use timing_base::{FileNote, PcapFault};
 use timing_outside::{Shelf, Sink, Source};
-use timing_steps::{Failure, fetch_classic, give_back};
 use timing_report::Input;
+use timing_steps::{Failure, fetch_classic, give_back};
 
 /// Takes the packet records of a reader from its start, and writes their rows. Returns how the records end, also if a
 /// read failed. Returns `Err` if memory runs out or a write fails.
