@@ -18,7 +18,7 @@ use Rattle.timing_reach.specs.Skewed.{skew_query}
 use Rattle.timing_reach.specs.Windows.{window_query}
 use Rattle.timing_reach.proofs.Skewing.{once-skew, some-skew}
 use Rattle.timing_reach.proofs.SomeShape.{once-shape, some-shape}
-use Rattle.timing_reach.proofs.Unique.{once-window, some-window}
+use Rattle.timing_reach.proofs.Windowing.{once-window, some-window}
 use Rattle.timing_measure.specs.Measures.{measure_query}
 use Rattle.timing_measure.specs.page.Pages.{page_query}
 use Rattle.timing_measure.specs.series.Series.{series_query}

@@ -1,5 +1,5 @@
 -- What follows for `check` from captures that were fetched and judged.
-use Rattle.std.proofs.Common.{◌≡◌, ℕ, Bool, true, false, List, Option, refl, ap, ◌∙◌, sym, subst, inl, if◌then◌else◌}
+use Rattle.std.proofs.Common.{◌≡◌, ℕ, List, Option, ap, ◌∙◌, subst, inl}
 use Rattle.std.specs.Prelude.{IfErr, IfOk, Result, Ok, Err}
 use Rattle.std.specs.Option.{option_map}
 use Rattle.timing_base.specs.Captures.{Record}
@@ -16,11 +16,9 @@ use Rattle.pcapng_reader.specs.Sources.{faults_of, left_of, name_of}
 use Rattle.pcapng_reader.specs.declared.source.Classic.{Classic}
 use Rattle.timing_report.specs.Outcomes.{status_of}
 use Rattle.timing_report.specs.declared.status.Input.TheVariants as input
-use Rattle.timing_report.specs.declared.status.Status.{Status}
-use Rattle.timing_report.specs.declared.status.Status.TheVariants as status
 use Rattle.timing_steps.specs.Answers.{Answer, AreThere, AreTold, CaptureRose, OnReadFault, seen_of}
 use Rattle.timing_steps.specs.Fetched.{AreFetched}
-use Rattle.timing_steps.specs.Queries.{FollowsCaptures, judged_ends}
+use Rattle.timing_steps.specs.Queries.{FollowsCaptures}
 use Rattle.timing_steps.specs.declared.failure.Failure.{Failure}
 use Rattle.timing_steps.specs.declared.failure.Failure.TheVariants as failure
 use Rattle.timing_steps.proofs.Capturing.{reads-all}
@@ -89,12 +87,3 @@ module _ {H S : Type 0} (tells : shelf.Ghosts H S) (from : source.Ghosts S) wher
         (subst (λ (g : List (List Record) → List Row). AreFound texts g f.notes.items f.rows.items) same
         (told job.captures texts fetched-later
         (told-same (classic_texts (tells.text old)) (classic_texts (tells.text mid)) job.captures texts later t))) text status) tt
-
--- the statuses of a report are those of an answer that captures define
-pub report-ends : (media : List Media) (notes : List FileNote) (found : List Row) (s : Status) → s ≡ status_of media notes found → judged_ends true s ≡ true
-report-ends media notes found s e = subst (λ x. judged_ends true x ≡ true) (sym e) (by-case _ _)
-  where
-    by-case : (refused fails : Bool) → judged_ends true (if refused then status.NotAllJudged else (if fails then status.Fail else status.Pass)) ≡ true
-    by-case true fails = refl
-    by-case false true = refl
-    by-case false false = refl

@@ -1,11 +1,14 @@
 //! `check`: judges the captures on one thread or with workers, and prints their report.
 
-ghost use Rattle.std.specs.Prelude.{◌≡◌, ℕ, IfErr, IfOk, string_bytes, true};
+ghost use Rattle.std.specs.Io.KnownBytes.{Keeps};
+ghost use Rattle.std.specs.Prelude.{◌≡◌, ℕ, IfErr, IfOk, false, string_bytes, true};
 ghost use Rattle.timing_base.specs.Targets.{HaveOwnTargets};
 ghost use Rattle.timing_outside.specs.Shelves.{StaysAs};
 ghost use Rattle.timing_report.specs.Outcomes.{AreOfSession, status_of};
 ghost use Rattle.timing_steps.specs.Answers.{CaptureRose, OnReadFault, seen_of};
 ghost use Rattle.timing_steps.specs.Queries.{FollowsCaptures, judged_ends};
+ghost use Rattle.timing_steps.specs.Ran.{Output, output_of};
+ghost use Rattle.timing_steps.specs.Runs.{BeforeEnd, EndsAs, RanAs};
 ghost use Rattle.timing_top.specs.Report.{check_query, printed};
 
 use crate::alone::Alone;
@@ -17,8 +20,8 @@ use std::thread::Threads;
 use timing_base::{CheckJob, FileName, Session};
 use timing_outside::{Gate, Shelf, Sink};
 use timing_report::json_report::json_of;
-use timing_report::{Input, status_of, text_of};
-use timing_steps::{Answer, Command, Failure, fetch_captures};
+use timing_report::{Input, Status, status_of, text_of};
+use timing_steps::{Answer, Command, Failure, begin, conclude, fetch_captures};
 
 /// Returns the report as text, or as JSON if the job asks for it.
 fn text_on(
@@ -85,38 +88,14 @@ fn answer_alone<H: Shelf>(
     report_on(alloc, job, session, &found)
 }
 
-/// Returns the answer of a job over a session, judged with its workers, or the reason why there is none.
-fn answer_many<R: Threads + Wait + Sync, H: Shelf, G: Gate>(
-    rt: &R,
-    alloc: Global,
-    job: &CheckJob,
-    session: &Session,
-    shelf: &mut H,
-    gate: &G,
-) -> Result<Answer, Failure>
-    requires targets { HaveOwnTargets session.now }
-    ensures follows { FollowsCaptures (check_query job.now) session.now
-        (seen_of H.Shelf shelf.old shelf.new) result }
-    ensures ends { IfOk result (λ answer. judged_ends true answer.status ≡ true) }
-    ensures cause { IfErr result (λ e. OnReadFault e (λ i. (number : ℕ) × (i ≡ Input.Capture number)
-        × CaptureRose (H.faults shelf.old) (H.faults shelf.new) job.now.captures number)) }
-    ensures stays { StaysAs H.text H.lacks H.faults shelf.old shelf.new }
-{
-    let sources = fetch_captures(alloc, shelf, job.captures.as_slice())?;
-    let media = session.media.as_slice();
-    let (joined, tai, workers) = (job.joined, job.tai, job.workers);
-    let found = judge_many(rt, alloc, shelf, sources, media, joined, tai, workers, gate)?;
-    report_on(alloc, job, session, &found)
-}
-
 /// The command `check` on one thread, whatever number of workers the job has. It takes no handle for waiting.
 #[derive(Drop)]
-pub struct CheckAlone {
+pub struct CheckCommand {
     /// The SDP and the captures, and how they are judged.
     pub job: CheckJob,
 }
 
-impl Command for CheckAlone {
+impl Command for CheckCommand {
     ghost use Rattle.timing_top.specs.Report.{check_query};
 
     ghost query = { λ command. check_query command.job };
@@ -143,40 +122,69 @@ impl Command for CheckAlone {
     }
 }
 
-/// The command `check` with an intake thread for each capture, and at most as many workers as the job has, at least
-/// one. Its output is that of `CheckAlone`. A run of it may wait for its threads; the clauses hold if it returns.
-pub struct CheckMany<'a, R, G> {
-    /// The handle that starts the threads and waits for them.
-    pub rt: &'a R,
-    /// The gate that the threads pass.
-    pub gate: &'a G,
-    /// The SDP and the captures, and how they are judged.
-    pub job: CheckJob,
+/// Returns the answer of a job over a session, judged with its workers, or the reason why there is none.
+fn answer_many<R: Threads + Wait + Sync, H: Shelf, G: Gate>(
+    rt: &R,
+    alloc: Global,
+    job: &CheckJob,
+    session: &Session,
+    shelf: &mut H,
+    gate: &G,
+) -> Result<Answer, Failure>
+    requires targets { HaveOwnTargets session.now }
+    ensures follows { FollowsCaptures (check_query job.now) session.now
+        (seen_of H.Shelf shelf.old shelf.new) result }
+    ensures ends { IfOk result (λ answer. judged_ends true answer.status ≡ true) }
+    ensures cause { IfErr result (λ e. OnReadFault e (λ i. (number : ℕ) × (i ≡ Input.Capture number)
+        × CaptureRose (H.faults shelf.old) (H.faults shelf.new) job.now.captures number)) }
+    ensures stays { StaysAs H.text H.lacks H.faults shelf.old shelf.new }
+{
+    let sources = fetch_captures(alloc, shelf, job.captures.as_slice())?;
+    let media = session.media.as_slice();
+    let (joined, tai, workers) = (job.joined, job.tai, job.workers);
+    let found = judge_many(rt, alloc, shelf, sources, media, joined, tai, workers, gate)?;
+    report_on(alloc, job, session, &found)
 }
 
-impl<R: Threads + Wait + Sync, G: Gate> Command for CheckMany<'_, R, G> {
-    ghost use Rattle.timing_top.specs.Report.{check_query};
-
-    ghost query = { λ command. check_query command.job };
-
-    ghost streams = { false };
-
-    fn sdp(&self) -> &FileName {
-        let job = &self.job;
-        &job.sdp
+/// Returns the answer of `check` with workers, or the reason why there is none.
+fn answer_check<R: Threads + Wait + Sync, H: Shelf, G: Gate>(
+    rt: &R,
+    alloc: Global,
+    command: &CheckCommand,
+    shelf: &mut H,
+    gate: &G,
+) -> Result<Answer, Failure>
+    ensures stands { (o : Output) → Keeps o.old o.new → BeforeEnd false (check_query command.now.job)
+        (seen_of H.Shelf shelf.old shelf.new) o result }
+    ensures stays { StaysAs H.text H.lacks H.faults shelf.old shelf.new }
+{
+    match begin(alloc, command, shelf)? {
+        Ok(session) => answer_many(rt, alloc, &command.job, &session, shelf, gate),
+        Err(answer) => Ok(answer),
     }
+}
 
-    fn early(&self, _alloc: Global, _session: &Session) -> Result<Option<Answer>, OutOfMemory> {
-        Ok(None)
-    }
-
-    fn answer<H: Shelf, K: Sink>(
-        &self,
-        alloc: Global,
-        session: &Session,
-        shelf: &mut H,
-        _out: &mut K,
-    ) -> Result<Answer, Failure> {
-        answer_many(self.rt, alloc, &self.job, session, shelf, self.gate)
-    }
+/// Runs `check` with an intake thread for each capture, and with at most as many workers as the job has, at least one.
+/// Prints what `run_command` prints of the command, in the same order. The call may wait for its threads; its clauses
+/// hold if it returns.
+///
+/// It is a function beside `run_command`, since the method `answer` of a `Command` can't start threads.
+pub fn check_many<R: Threads + Wait + Sync, H: Shelf, K: Sink, G: Gate>(
+    rt: &R,
+    alloc: Global,
+    command: &CheckCommand,
+    shelf: &mut H,
+    out: &mut K,
+    err: &mut K,
+    gate: &G,
+) -> Status
+    ensures ran { RanAs false (check_query command.now.job) (seen_of H.Shelf shelf.old shelf.new)
+        (output_of K.Sink out.old out.new)
+        (output_of K.Sink err.old err.new)
+        result }
+    ensures ends { EndsAs false (check_query command.now.job) (output_of K.Sink out.old out.new) result }
+    ensures stays { StaysAs H.text H.lacks H.faults shelf.old shelf.new }
+{
+    let outcome = answer_check(rt, alloc, command, shelf, gate);
+    conclude(out, err, outcome)
 }

@@ -8,7 +8,7 @@ ghost use Rattle.timing_words.specs.Request.{request};
 ghost use Rattle.timing_top.specs.Ends.{Ends};
 ghost use Rattle.timing_top.specs.Runs.{RanAs};
 
-use crate::check::{CheckAlone, CheckMany};
+use crate::check::{CheckCommand, check_many};
 use crate::help::print_help;
 use crate::self_tests::self_test;
 use crate::verify::{VerifyCommand, verify_all};
@@ -41,10 +41,11 @@ fn serve<R: Threads + Wait + Sync, H: Shelf, K: Sink, G: Gate>(
 {
     match request {
         Request::Check(job) => {
-            if job.workers == 0 {
-                run_command(alloc, &CheckAlone { job }, shelf, out, err)
+            let command = CheckCommand { job };
+            if command.job.workers == 0 {
+                run_command(alloc, &command, shelf, out, err)
             } else {
-                run_command(alloc, &CheckMany { rt, gate, job }, shelf, out, err)
+                check_many(rt, alloc, &command, shelf, out, err, gate)
             }
         }
         Request::Verify(job) => run_command(alloc, &VerifyCommand { job }, shelf, out, err),

@@ -1,6 +1,6 @@
 //! `verify`: checks one violation from the captures alone.
 
-ghost use Rattle.std.specs.Prelude.{◌≡◌, ℕ, IfErr, IfOk, IfSome, None, slice_get, true};
+ghost use Rattle.std.specs.Prelude.{◌≡◌, ℕ, IfErr, IfOk, IfSome, None, false, slice_get, true};
 ghost use Rattle.timing_outside.specs.Shelves.{StaysAs};
 ghost use Rattle.timing_steps.specs.Answers.{CaptureRose, OnReadFault, seen_of};
 ghost use Rattle.timing_steps.specs.Queries.{FollowsCaptures, judged_ends};

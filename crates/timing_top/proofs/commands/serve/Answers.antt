@@ -7,7 +7,7 @@ pub returns-then-job-eq0-clause-ran : goal.returns-then-job-eq0-clause-ran
 returns-then-job-eq0-clause-ran g c = serves _ _ _ _ _ _ c.in-Check.is c.run_command.ensures.ran
 
 pub returns-in-Check-clause-ran : goal.returns-in-Check-clause-ran
-returns-in-Check-clause-ran g c = serves _ _ _ _ _ _ c.in-Check.is c.run_command-2.ensures.ran
+returns-in-Check-clause-ran g c = serves _ _ _ _ _ _ c.in-Check.is c.check_many.ensures.ran
 
 pub returns-in-Verify-clause-ran : goal.returns-in-Verify-clause-ran
 returns-in-Verify-clause-ran g c = serves _ _ _ _ _ _ c.in-Verify.is c.run_command-in-Verify.ensures.ran
@@ -40,7 +40,7 @@ pub returns-then-job-eq0-clause-ends : goal.returns-then-job-eq0-clause-ends
 returns-then-job-eq0-clause-ends g c = ends-command _ _ _ _ c.in-Check.is refl c.run_command.ensures.ends
 
 pub returns-in-Check-clause-ends : goal.returns-in-Check-clause-ends
-returns-in-Check-clause-ends g c = ends-command _ _ _ _ c.in-Check.is refl c.run_command-2.ensures.ends
+returns-in-Check-clause-ends g c = ends-command _ _ _ _ c.in-Check.is refl c.check_many.ensures.ends
 
 pub returns-in-Verify-clause-ends : goal.returns-in-Verify-clause-ends
 returns-in-Verify-clause-ends g c = ends-command _ _ _ _ c.in-Verify.is refl c.run_command-in-Verify.ensures.ends
