@@ -8,7 +8,7 @@ pub mod SomeShape
 mod Judgments
 mod WindowGauges
 pub mod WindowReadings
-pub mod Following
+pub mod Flowing
 pub mod Unique
 mod Listings
 mod Copies
@@ -23,4 +23,5 @@ mod KeptShapes
 mod Pairings
 mod Comparings
 pub mod Skewing
+pub mod Windowing
 pub mod Scannings

@@ -24,6 +24,6 @@ mod skew;
 mod window;
 
 pub use scan::scan_one;
-pub use shape::shape_one;
+pub use shape::ShapeCommand;
 pub use skew::SkewCommand;
-pub use window::window_one;
+pub use window::WindowCommand;
