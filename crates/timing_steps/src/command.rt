@@ -63,7 +63,7 @@ pub trait Command {
 
 /// Reads the SDP of a command as a session. `Ok(Err(_))` is the answer if the SDP is invalid, or if its media settle
 /// the answer.
-fn begin<H: Shelf, C: Command>(
+pub fn begin<H: Shelf, C: Command>(
     alloc: Global,
     command: &C,
     shelf: &mut H,

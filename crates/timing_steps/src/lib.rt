@@ -20,7 +20,7 @@ mod text;
 
 pub use answer::Answer;
 pub use capture::take_capture;
-pub use command::{Command, run_command};
+pub use command::{Command, begin, run_command};
 pub use failure::Failure;
 pub use fetch::{fetch_captures, fetch_classic, fetch_session, give_back, give_back_all};
 pub use flow::{early_of_media, media_of};

@@ -8,18 +8,16 @@ ghost use Rattle.timing_words.specs.Request.{request};
 ghost use Rattle.timing_top.specs.Ends.{Ends};
 ghost use Rattle.timing_top.specs.Runs.{RanAs};
 
-use crate::check::{check_many, check_one};
+use crate::check::{CheckCommand, check_many};
 use crate::help::print_help;
 use crate::self_tests::self_test;
-use crate::verify::{verify_all, verify_one};
+use crate::verify::{VerifyCommand, verify_all};
 use std::alloc::Global;
 use std::sync::Wait;
 use std::thread::Threads;
-use timing_measure::measure_one;
-use timing_measure::page::page_one;
-use timing_measure::series::series_one;
+use timing_measure::{MeasureCommand, PageCommand, SeriesCommand};
 use timing_outside::{Gate, Shelf, Sink};
-use timing_reach::{SkewCommand, scan_one, shape_one, window_one};
+use timing_reach::{ShapeCommand, SkewCommand, WindowCommand, scan_one};
 use timing_report::Status;
 use timing_steps::{Answer, Failure, conclude, run_command};
 use timing_words::{Request, WordFault, read_words};
@@ -43,22 +41,23 @@ fn serve<R: Threads + Wait + Sync, H: Shelf, K: Sink, G: Gate>(
 {
     match request {
         Request::Check(job) => {
-            if job.workers == 0 {
-                check_one(alloc, &job, shelf, out, err)
+            let command = CheckCommand { job };
+            if command.job.workers == 0 {
+                run_command(alloc, &command, shelf, out, err)
             } else {
-                check_many(rt, alloc, &job, shelf, out, err, gate)
+                check_many(rt, alloc, &command, shelf, out, err, gate)
             }
         }
-        Request::Verify(job) => verify_one(alloc, &job, shelf, out, err),
+        Request::Verify(job) => run_command(alloc, &VerifyCommand { job }, shelf, out, err),
         Request::VerifyReport(job) => verify_all(alloc, &job, shelf, out, err),
         Request::SelfTest(job) => self_test(rt, alloc, &job, out, err, gate),
-        Request::Window(job) => window_one(alloc, &job, shelf, out, err),
-        Request::Shape(job) => shape_one(alloc, &job, shelf, out, err),
+        Request::Window(job) => run_command(alloc, &WindowCommand { job }, shelf, out, err),
+        Request::Shape(job) => run_command(alloc, &ShapeCommand { job }, shelf, out, err),
         Request::Scan(job) => scan_one(alloc, &job, shelf, out, err),
         Request::Skew(job) => run_command(alloc, &SkewCommand { job }, shelf, out, err),
-        Request::Measure(job) => measure_one(alloc, &job, shelf, out, err),
-        Request::Series(job) => series_one(alloc, &job, shelf, out, err),
-        Request::Page(job) => page_one(alloc, &job, shelf, out, err),
+        Request::Measure(job) => run_command(alloc, &MeasureCommand { job }, shelf, out, err),
+        Request::Series(job) => run_command(alloc, &SeriesCommand { job }, shelf, out, err),
+        Request::Page(job) => run_command(alloc, &PageCommand { job }, shelf, out, err),
         Request::Help(command) => print_help(alloc, command, out, err),
     }
 }
