@@ -25,9 +25,9 @@ returns-clause-follows g c =
 pub returns-in_err-capture-clause-follows : goal.returns-in_err-capture-clause-follows
 returns-in_err-capture-clause-follows g c =
     unread-follows (page_query c.args.job.now) c.args.session.now (seen_of g.H.Shelf c.args.shelf.now c.read_pages.new.shelf) c.args.job.now.capture
-    c.from_residual-in_err-capture.result refl (search rules) (search rules)
+    c.from_residual.result refl (search rules) (search rules)
 
 pub returns-in_err-capture-clause-cause : goal.returns-in_err-capture-clause-cause
 returns-in_err-capture-clause-cause g c =
     unread-cause (g.H.Shelf.faults c.args.shelf.now) (g.H.Shelf.faults c.read_pages.new.shelf) c.args.job.now.capture
-    c.from_residual-in_err-capture.result (search rules)
+    c.from_residual.result (search rules)
