@@ -15,9 +15,9 @@ use crate::verify::words::reported;
 use std::alloc::Global;
 use timing_base::{Media, ReportJob};
 use timing_outside::{Shelf, Sink};
-use timing_steps::{Answer, Failure, conclude, fetch_front, fetch_session};
 use timing_report::json_report::{ReportError, ReportProof, read_json};
 use timing_report::{Input, Status};
+use timing_steps::{Answer, Failure, conclude, fetch_front, fetch_session};
 
 /// The greatest number of bytes that are read of a report: one more than a report may have.
 const REPORT_MOST: usize = 16_777_217;
