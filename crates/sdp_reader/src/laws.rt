@@ -4,6 +4,7 @@
 ghost use Rattle.std.specs.Prelude.{◌≡◌, ◌<◌, ◌≤◌, ℕ, List, [], ◌∷◌, ◌++◌, All, map, length, replicate, Some, None, Ok, Err, codes, true, false};
 ghost use Rattle.std.specs.Fmt.{decimal};
 ghost use Rattle.timing_base.specs.Media.{IsMedia, Media};
+ghost use Rattle.timing_base.specs.Addresses.{ipv4};
 ghost use Rattle.timing_base.specs.Targets.{HaveOwnTargets};
 ghost use Rattle.sdp_reader.specs.Bytes.{before, after, number};
 ghost use Rattle.sdp_reader.specs.Examples.{line, fault, item, causes, part, lost_part, raw_0, one_part, one_media};
@@ -140,7 +141,8 @@ pub fn connections_by_hand()
     ensures good { map address_of (line 7 (codes "c=IN IP4 0.0.0.0")
         ∷ line 7 (codes "c=IN IP4 1.2.3.4") ∷ line 7 (codes "c=IN IP4 001.2.3.4/0")
         ∷ line 7 (codes "c=IN IP4 255.255.255.255/255") ∷ [])
-        ≡ Some 0 ∷ Some 16909060 ∷ Some 16909060 ∷ Some 4294967295 ∷ [] }
+        ≡ Some (ipv4 0 0 0 0) ∷ Some (ipv4 1 2 3 4) ∷ Some (ipv4 1 2 3 4)
+        ∷ Some (ipv4 255 255 255 255) ∷ [] }
     ensures octets { map address_of (line 7 (codes "c=IN IP4 256.2.3.4")
         ∷ line 7 (codes "c=IN IP4 1.256.3.4") ∷ line 7 (codes "c=IN IP4 1.2.256.4")
         ∷ line 7 (codes "c=IN IP4 1.2.3.256")
@@ -262,12 +264,12 @@ pub fn parts_by_hand()
         ≡ true ∷ true ∷ true ∷ [] }
     ensures on_head { faults_at 5 (Some (line 2 (codes "c=IN IP4 1.2.3.4"))) []
         ≡ fault 5 MissingParameter ∷ [] }
-    ensures same { target_faults (part 3 1 9 ∷ part 7 2 9 ∷ part 11 1 9 ∷ [])
+    ensures same { target_faults (part 3 (ipv4 1 2 3 1) 9 ∷ part 7 (ipv4 1 2 3 2) 9 ∷ part 11 (ipv4 1 2 3 1) 9 ∷ [])
         ≡ fault 11 SameTarget ∷ [] }
-    ensures others { target_faults (part 3 1 9 ∷ part 7 2 9 ∷ part 11 1 8 ∷ []) ≡ [] }
+    ensures others { target_faults (part 3 (ipv4 1 2 3 1) 9 ∷ part 7 (ipv4 1 2 3 2) 9 ∷ part 11 (ipv4 1 2 3 1) 8 ∷ []) ≡ [] }
     ensures lost { target_faults (lost_part 3 ∷ lost_part 7 ∷ []) ≡ [] }
-    ensures most { too_many_faults (replicate 64 (part 3 1 9)) ≡ [] }
-    ensures more { too_many_faults (replicate 64 (part 3 1 9) ++ part 7 1 9 ∷ part 8 1 9 ∷ [])
+    ensures most { too_many_faults (replicate 64 (part 3 (ipv4 1 2 3 1) 9)) ≡ [] }
+    ensures more { too_many_faults (replicate 64 (part 3 (ipv4 1 2 3 1) 9) ++ part 7 (ipv4 1 2 3 1) 9 ∷ part 8 (ipv4 1 2 3 1) 9 ∷ [])
         ≡ fault 7 TooManyMedia ∷ [] }
 {}
 
@@ -317,7 +319,7 @@ pub fn accepted_by_hand()
         ++ raw_0 (codes "interlace; CMAX=4; TROFF=6; width=1; height=2; exactframerate=50")))
         ≡ Ok (one_media None ∷ record {
           line = 8;
-          address = 16909061;
+          address = ipv4 1 2 3 5;
           port = 9;
           pt = 0;
           width = 1;

@@ -10,6 +10,7 @@
 //! count from 1. The packet records of a capture count from 1 everywhere.
 #![tactic(auto)]
 
+mod address;
 mod capture;
 mod fail;
 mod job;
@@ -23,6 +24,7 @@ mod row;
 mod target;
 pub mod worked;
 
+pub use address::Address;
 pub use capture::{FileNote, PcapFault};
 pub use fail::{Broken, FailProof};
 pub use job::{
