@@ -1,7 +1,7 @@
 -- The video streams of a session description, or its first fault (RFC 4566, SMPTE ST 2110-20 and ST 2110-21; the
 -- limits and the numbers of the causes are this project's profile).
-use Rattle.std.specs.Prelude.{ℕ, nat_lt, Bool, true, false, if◌then◌else◌, List, [], ◌∷◌, ◌++◌, length}
-use Rattle.std.specs.Prelude.{drop, map, Option, Some, None, Result, Ok, Err}
+use Rattle.std.specs.Prelude.{ℕ, ◌-◌, nat_lt, Bool, true, false, if◌then◌else◌, List, [], ◌∷◌, ◌++◌, length}
+use Rattle.std.specs.Prelude.{drop, take, map, Option, Some, None, Result, Ok, Err}
 use Rattle.std.specs.Option.{option_map}
 use Rattle.std.specs.List.{flat_map, filter_map}
 use Rattle.timing_base.specs.Media.{Media}
@@ -20,6 +20,14 @@ use Rattle.sdp_reader.specs.declared.part.Destination.{Destination}
 -- the raw parts, in order
 abbrev pub raw_parts : List TextLine → List RawPart
 raw_parts ls = filter_map (raw_of (connection_line (own_lines ls))) (parts ls)
+
+-- the streams that these lines describe: those of the raw parts that have all that a stream needs
+abbrev pub media_in : List TextLine → List Media
+media_in ls = filter_map media_of (raw_parts ls)
+
+-- the lines before the one with this number, counted from 1; none before line 0
+abbrev pub lines_before : ℕ → List TextLine → List TextLine
+lines_before line ls = take (line - 1) ls
 
 -- the target with this address, if there is one, and this port
 abbrev pub target_at : Option Address → ℕ → Option Target

@@ -12,7 +12,7 @@ ghost use Rattle.sdp_reader.specs.Fault.{number_of, fault_text, comes_before, le
 ghost use Rattle.sdp_reader.specs.Lines.{TextLine, lines, line_faults, version_faults, video_of};
 ghost use Rattle.sdp_reader.specs.Parameters.{items_of, list_of, value_size, value_offset, value_limit, value_rate, value_kind, cause_of, repeated_faults, item_named};
 ghost use Rattle.sdp_reader.specs.Parts.{own_lines, connection_line, counting, address_of, is_raw_map, connection_faults, is_missing, faults_at, media_of};
-ghost use Rattle.sdp_reader.specs.Session.{session, answer, faults, raw_parts, target_faults, too_many_faults, StandsOn};
+ghost use Rattle.sdp_reader.specs.Session.{session, answer, faults, lines_before, media_in, raw_parts, target_faults, too_many_faults, StandsOn};
 ghost use Rattle.sdp_reader.specs.declared.fault.SdpCause.TheVariants.{NotText, NoVersion, BadLine, BadMedia, NoConnection, BadAddress, BadParameter, RepeatedParameter, MissingParameter, BadRate, Segmented, ExtendedUdp, SameTarget, TooManyMedia, NoVideo, TooLarge};
 ghost use Rattle.sdp_reader.specs.declared.fault.SdpFault.{SdpFault};
 ghost use Rattle.sdp_reader.specs.declared.parameter.Name.TheVariants as name;
@@ -46,6 +46,12 @@ pub fn targets_are_own()
 pub fn media_are_within()
     ensures { (bytes : List ℕ) (media : List Media) → session bytes ≡ Ok media
         → All IsMedia media }
+{}
+
+/// The media of a session are those that its lines describe.
+pub fn accepted_media_are_described()
+    ensures { (bytes : List ℕ) (media : List Media) → session bytes ≡ Ok media
+        → media ≡ media_in (lines bytes) }
 {}
 
 /// A session description of more than 1,048,576 bytes is too large, whatever it contains.
@@ -331,4 +337,19 @@ pub fn accepted_by_hand()
           troff = Some 6;
           cmax = Some 4;
         } ∷ []) }
+{}
+
+/// Worked by hand: the media that the lines before one describe. The second part begins on line 6 and
+/// its parameters are on line 8; no media is described before its last line.
+pub fn media_before_by_hand()
+    ensures all { media_in (lines (one_part (codes "\nm=video 9 RTP/AVP 0"
+        ++ raw_0 (codes "width=7; height=5")))) ≡ one_media None ∷ [] }
+    ensures first { media_in (lines_before 6 (lines (one_part (codes "\nx"))))
+        ≡ one_media None ∷ [] }
+    ensures cut { media_in (lines_before 5 (lines (one_part (codes "\nx")))) ≡ [] }
+    ensures whole { media_in (lines_before 0 (lines (one_part (codes "")))) ≡ [] }
+
+    // The fault on line 6 isn't one of the media of line 3.
+    ensures later { media_in (lines_before 6 (lines (one_part (codes "\na=fmtp:96 TP=x"))))
+        ≡ one_media None ∷ [] }
 {}

@@ -71,7 +71,7 @@ impl Kept {
 }
 
 /// Returns the lines before the first `m=` line.
-pub(crate) fn own_lines<'b, 'a>(lines: &'b [Line<'a>]) -> &'b [Line<'a>]
+pub fn own_lines<'b, 'a>(lines: &'b [Line<'a>]) -> &'b [Line<'a>]
     ensures { map plain result.now ≡ own_lines (map plain lines.now) }
 {
     for (i, line) in lines.iter().enumerate() {
@@ -161,7 +161,7 @@ fn is_raw_map(line: &Line, format: u8) -> bool
 }
 
 /// Returns whether a line of the part maps its format to `raw/90000`.
-fn is_raw(body: &[Line], format: u8) -> bool
+pub fn is_raw(body: &[Line], format: u8) -> bool
     ensures { result ≡ list_any (is_raw_map format) (map plain body.now) }
 {
     for line in body {
@@ -244,12 +244,7 @@ fn rate_named(items: &[Parameter]) -> Option<Rate>
 }
 
 /// Returns the stream of a part, if the part has all that a stream needs.
-fn media_of(
-    line: u32,
-    video: Video,
-    address: Option<Address>,
-    items: &[Parameter],
-) -> Option<Media>
+fn media_of(line: u32, video: Video, address: Option<Address>, items: &[Parameter]) -> Option<Media>
     requires port { 1 ≤ video.port }
     requires format { video.format ≤ 127 }
     ensures { result ≡ media_from line video address (map plain_item items.now) }
