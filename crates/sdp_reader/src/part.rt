@@ -244,12 +244,7 @@ fn rate_named(items: &[Parameter]) -> Option<Rate>
 }
 
 /// Returns the stream of a part, if the part has all that a stream needs.
-fn media_of(
-    line: u32,
-    video: Video,
-    address: Option<Address>,
-    items: &[Parameter],
-) -> Option<Media>
+fn media_of(line: u32, video: Video, address: Option<Address>, items: &[Parameter]) -> Option<Media>
     requires port { 1 ≤ video.port }
     requires format { video.format ≤ 127 }
     ensures { result ≡ media_from line video address (map plain_item items.now) }
