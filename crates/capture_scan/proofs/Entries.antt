@@ -11,36 +11,29 @@ use Rattle.std.proofs.lemmas.List.Elements.{All-head, All-push, All-set, All-tai
 use Rattle.std.proofs.lemmas.List.Quantifiers.{position-Some}
 use Rattle.std.proofs.lemmas.Map.Entries.{lookup_from_place}
 use Rattle.std.proofs.lemmas.Option.{slice_get-get_or, slice_get-map}
+use Rattle.timing_base.proofs.Targets.{same-target, target-itself}
+use Rattle.timing_base.specs.Targets.{is_same_target}
 use Rattle.indexmap.specs.IndexMap.{IndexMap, IsUnique, Updates, get, with_value_at}
 use Rattle.indexmap.specs.Layout.{set_value_at}
 use Rattle.indexmap.proofs.CallerLemmas.{keys-with_value_at, updates-with_value_at}
 use Rattle.capture_scan.proofs.Counting.{none_some, some_same}
 use Rattle.capture_scan.proofs.Groups.{TellsApart, equivalence, stand-found, stand-full, stand-new}
 use Rattle.capture_scan.specs.Groups.{HaveItems, items_of, told}
-use Rattle.capture_scan.specs.Scans.{is_same_key, is_same_stream}
+use Rattle.capture_scan.specs.Scans.{is_same_stream}
 
 -- streams and targets are told apart by their keys
 pub streams_apart : TellsApart is_same_stream
 streams_apart = record {
-  itself = λ k. and_from _ _ (eq-eqb k.address k.address refl) (and_from _ _ (eq-eqb k.port k.port refl) (eq-eqb k.ssrc k.ssrc refl));
+  itself = λ k. and_from _ _ (target-itself k.target) (eq-eqb k.ssrc k.ssrc refl);
   equal = λ j k h.
-      let one = and_parts _ _ h in
-      let two = and_parts _ _ one.1 in
-      let address : j.address ≡ k.address = eqb-true j.address k.address one.0 in
-      let port : j.port ≡ k.port = eqb-true j.port k.port two.0 in
-      let ssrc : j.ssrc ≡ k.ssrc = eqb-true j.ssrc k.ssrc two.1 in
-      λ i. record { address = address i; port = port i; ssrc = ssrc i };
+      let parts = and_parts (is_same_target j.target k.target) _ h in
+      let target : j.target ≡ k.target = same-target j.target k.target parts.0 in
+      let ssrc : j.ssrc ≡ k.ssrc = eqb-true j.ssrc k.ssrc parts.1 in
+      λ i. record { target = target i; ssrc = ssrc i };
 }
 
-pub targets_apart : TellsApart is_same_key
-targets_apart = record {
-  itself = λ k. and_from _ _ (eq-eqb k.address k.address refl) (eq-eqb k.port k.port refl);
-  equal = λ j k h.
-      let parts = and_parts _ _ h in
-      let address : j.address ≡ k.address = eqb-true j.address k.address parts.0 in
-      let port : j.port ≡ k.port = eqb-true j.port k.port parts.1 in
-      λ i. record { address = address i; port = port i };
-}
+pub targets_apart : TellsApart is_same_target
+targets_apart = record { itself = target-itself; equal = same-target }
 
 module _ {K V : Type 0} where
   -- an entry with this key stands at a place where the keys have it

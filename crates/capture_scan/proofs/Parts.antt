@@ -4,13 +4,14 @@ use Rattle.std.proofs.Common.{◌≡◌, ℕ, suc, ◌+◌, cond, List, [], ◌�
 use Rattle.std.specs.List.{cons_option}
 use Rattle.std.proofs.lemmas.List.Sums.{sum_by-cons}
 use Rattle.timing_base.specs.Captures.{Record}
+use Rattle.timing_base.specs.Targets.{is_same_target}
 use Rattle.timing_base.specs.declared.target.Target.{Target}
 use Rattle.capture_scan.proofs.Entries.{streams_apart, targets_apart}
 use Rattle.capture_scan.proofs.Once.{sum-filter_map, told-once}
 use Rattle.capture_scan.specs.Frames.{seen}
 use Rattle.capture_scan.specs.Groups.{told}
-use Rattle.capture_scan.specs.Scans.{count_of, count_passed, is_of_class, is_same_key, is_same_stream, more_packets, more_unread, most_told}
-use Rattle.capture_scan.specs.Scans.{packet_seen, packets, packets_of, passed_over, stream_key, streams, target_key, unread, unread_of, unread_seen}
+use Rattle.capture_scan.specs.Scans.{count_of, count_passed, is_of_class, is_same_stream, more_packets, more_unread, most_told}
+use Rattle.capture_scan.specs.Scans.{packet_seen, packets, packets_of, passed_over, stream_key, streams, unread, unread_of, unread_seen}
 use Rattle.capture_scan.specs.Scans.{unread_targets}
 use Rattle.capture_scan.specs.Streams.{stream_from, stream_of}
 use Rattle.capture_scan.specs.declared.class.Class.TheVariants.{Empty, Tags, Ipv6, Other, NotUdp, Fragment, Broken}
@@ -90,8 +91,8 @@ packets-once ps =
 
 pub unread-once : (ts : List Target) → sum_by (λ u. u.packets) (unread_targets ts) + more_unread ts ≡ length ts
 unread-once ts =
-    ap (λ (n : ℕ). n + more_unread ts) (sum-map (λ u. u.packets) (unread_of ts) (told is_same_key target_key most_told ts))
-    ∙ told-once targets_apart target_key most_told ts
+    ap (λ (n : ℕ). n + more_unread ts) (sum-map (λ u. u.packets) (unread_of ts) (told is_same_target (λ t. t) most_told ts))
+    ∙ told-once targets_apart (λ t. t) most_told ts
 
 pub records-counted : (records : List Record) → count_passed (passed_over records)
     + (sum_by (λ s. s.packets) (streams (packets records)) + (sum_by (λ u. u.packets) (unread_targets (unread records))

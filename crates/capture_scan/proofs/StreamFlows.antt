@@ -25,16 +25,15 @@ abbrev flow_of : Record → Datagram → FlowPacket
 flow_of r d = record { rec = r.number; at = r.stamp; rtp = reading d.payload }
 
 module _ (media : Media) (ssrc : ℕ) where
-  -- one packet more, by whether its address, its port and its SSRC are those
-  step : (x y z : Bool) (p : Packet) (f : FlowPacket) (ps : List Packet) (fs : List FlowPacket) → as_flow_packet p ≡ f → is_from ssrc f ≡ z
+  -- one packet more, by whether its target and its SSRC are those
+  step : (x y : Bool) (p : Packet) (f : FlowPacket) (ps : List Packet) (fs : List FlowPacket) → as_flow_packet p ≡ f → is_from ssrc f ≡ y
       → map as_flow_packet ps ≡ filter (is_from ssrc) fs
-      → map as_flow_packet (cond (x && (y && z)) (p ∷ ps) ps) ≡ filter (is_from ssrc) (cons_option (if x && y then Some f else None) fs)
-  step true true true p f ps fs same from rest =
+      → map as_flow_packet (cond (x && y) (p ∷ ps) ps) ≡ filter (is_from ssrc) (cons_option (if x then Some f else None) fs)
+  step true true p f ps fs same from rest =
       (λ i. same i ∷ rest i) ∙ sym (ap (λ (t : Bool). cond t (f ∷ filter (is_from ssrc) fs) (filter (is_from ssrc) fs)) from)
-  step true true false p f ps fs same from rest =
+  step true false p f ps fs same from rest =
       rest ∙ sym (ap (λ (t : Bool). cond t (f ∷ filter (is_from ssrc) fs) (filter (is_from ssrc) fs)) from)
-  step true false z p f ps fs same from rest = rest
-  step false y z p f ps fs same from rest = rest
+  step false y p f ps fs same from rest = rest
 
   -- a packet that isn't read is of no stream
   skip : (b : Bool) (f : FlowPacket) (fs : List FlowPacket) → is_from ssrc f ≡ false
@@ -58,15 +57,15 @@ module _ (media : Media) (ssrc : ℕ) where
           ∙ (rest ∙ skip (is_same_target d.target (target_of media)) (flow_of r d) fs (ap (is_read_from ssrc) e))
       by (Ok rtp) e =
           ap (λ (res : Result Rtp PacketFault). own_of media ssrc (cons_option (packet_seen (read_in r d res)) ps)) e
-          ∙ (step (media.address == d.target.address) (media.port == d.target.port) (ssrc == rtp.ssrc) (packet_in r d rtp) (flow_of r d)
+          ∙ (step (is_same_target (target_of media) d.target) (ssrc == rtp.ssrc) (packet_in r d rtp) (flow_of r d)
           (packets_of ps (stream_to (target_of media) ssrc)) fs
           (λ i. record { rec = r.number; at = r.stamp; rtp = sym e i })
           (ap (is_read_from ssrc) e ∙ nat_eq_equiv.symm rtp.ssrc ssrc)
           rest
           ∙ ap (λ (t : Bool). filter (is_from ssrc) (cons_option (if t then Some (flow_of r d) else None) fs)) same_target)
         where
-          same_target : (media.address == d.target.address) && (media.port == d.target.port) ≡ is_same_target d.target (target_of media)
-          same_target = λ i. nat_eq_equiv.symm media.address d.target.address i && nat_eq_equiv.symm media.port d.target.port i
+          same_target : is_same_target (target_of media) d.target ≡ is_same_target d.target (target_of media)
+          same_target = λ i. nat_eq_equiv.symm media.address.bits d.target.address.bits i && nat_eq_equiv.symm media.port d.target.port i
 
   pub stream-flow : (records : List Record)
       → own_of media ssrc (packets records) ≡ filter (is_from ssrc) (flow records media)

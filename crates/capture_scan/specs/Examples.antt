@@ -1,5 +1,6 @@
 -- Ethernet frames, packets and lists of numbers for the examples that are worked by hand.
 use Rattle.std.specs.Prelude.{ℕ, ◌+◌, ◌*◌, Bool, true, false, List, replicate, [], ◌∷◌, ◌++◌, None}
+use Rattle.timing_base.specs.Addresses.{ipv4}
 use Rattle.timing_base.specs.Captures.{Record}
 use Rattle.timing_base.specs.declared.packet.Rtp.{Rtp}
 use Rattle.timing_base.specs.declared.target.Target.{Target}
@@ -39,7 +40,7 @@ broken_frame = frame_of (ip 0x65 0x40 0 17)
 
 -- 192.0.2.1, port 50000
 abbrev pub sender : Target
-sender = record { address = 0xc0000201; port = 50000 }
+sender = record { address = ipv4 192 0 2 1; port = 50000 }
 
 -- the packet of `frame_of plain_ip` in a packet record with this number and capture timestamp
 abbrev pub plain_at : ℕ → ℕ → Packet

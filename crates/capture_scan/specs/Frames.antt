@@ -26,7 +26,7 @@ header_place frame = if number16 frame 12 == 0x8100 then 18 else 14
 
 -- the source address and port of a frame with its IPv4 header at `e`
 abbrev pub source_at : List ℕ → ℕ → Target
-source_at frame e = record { address = number32 frame (e + 12); port = number16 frame (udp_place frame e) }
+source_at frame e = record { address = record { bits = number32 frame (e + 12) }; port = number16 frame (udp_place frame e) }
 
 -- the bytes of data by the UDP length of a frame with its IPv4 header at `e`; the UDP length also counts the eight
 -- bytes of the UDP header. 0 if the UDP length wasn't captured.

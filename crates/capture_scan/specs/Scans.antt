@@ -5,6 +5,7 @@ use Rattle.std.specs.Prelude.{◌≡◌, ℕ, ◌+◌, ◌==◌, ◌&&◌, Bool,
 use Rattle.std.specs.Prelude.{Option, Some, None, Result, Ok, Err}
 use Rattle.std.specs.List.{count_by}
 use Rattle.timing_base.specs.Captures.{Record}
+use Rattle.timing_base.specs.Targets.{is_same_target}
 use Rattle.timing_base.specs.declared.packet.FlowPacket.{FlowPacket}
 use Rattle.timing_base.specs.declared.packet.PacketFault.{PacketFault}
 use Rattle.timing_base.specs.declared.packet.Rtp.{Rtp}
@@ -19,7 +20,6 @@ use Rattle.capture_scan.specs.declared.found.PassedOver.{PassedOver as ClassCoun
 use Rattle.capture_scan.specs.declared.found.Span.{Span}
 use Rattle.capture_scan.specs.declared.found.UnreadTarget.{UnreadTarget}
 use Rattle.capture_scan.specs.declared.key.StreamKey.{StreamKey}
-use Rattle.capture_scan.specs.declared.key.TargetKey.{TargetKey}
 use Rattle.capture_scan.specs.declared.packet.Packet.{Packet}
 use Rattle.capture_scan.specs.declared.packet.Seen.{Seen}
 use Rattle.capture_scan.specs.declared.packet.Seen.TheVariants.{PassedOver, Unread, Read}
@@ -47,19 +47,11 @@ unread records = filter_map (λ r. unread_seen (seen r)) records
 
 -- the stream of a packet
 abbrev pub stream_key : Packet → StreamKey
-stream_key p = record { address = p.target.address; port = p.target.port; ssrc = p.rtp.ssrc }
+stream_key p = record { target = p.target; ssrc = p.rtp.ssrc }
 
 -- whether two stream keys are equal
 abbrev pub is_same_stream : StreamKey → StreamKey → Bool
-is_same_stream a b = (a.address == b.address) && ((a.port == b.port) && (a.ssrc == b.ssrc))
-
--- the key of a target
-abbrev pub target_key : Target → TargetKey
-target_key t = record { address = t.address; port = t.port }
-
--- whether two target keys are equal
-abbrev pub is_same_key : TargetKey → TargetKey → Bool
-is_same_key a b = (a.address == b.address) && (a.port == b.port)
+is_same_stream a b = is_same_target a.target b.target && (a.ssrc == b.ssrc)
 
 -- the greatest number of streams that are listed, and of targets with unread packets
 abbrev pub most_told : ℕ
@@ -78,19 +70,19 @@ abbrev pub more_packets : List Packet → ℕ
 more_packets ps = count_more is_same_stream stream_key most_told ps
 
 -- a target with the number of its unread packets
-abbrev pub unread_of : List Target → TargetKey → UnreadTarget
-unread_of ts k = record {
-  target = record { address = k.address; port = k.port };
-  packets = length (items_of is_same_key target_key most_told ts k);
+abbrev pub unread_of : List Target → Target → UnreadTarget
+unread_of ts target = record {
+  target = target;
+  packets = length (items_of is_same_target (λ t. t) most_told ts target);
 }
 
 -- the targets with unread packets that are listed, in the order of their first unread packets
 abbrev pub unread_targets : List Target → List UnreadTarget
-unread_targets ts = map (unread_of ts) (told is_same_key target_key most_told ts)
+unread_targets ts = map (unread_of ts) (told is_same_target (λ t. t) most_told ts)
 
 -- the number of unread packets to the targets that aren't listed
 abbrev pub more_unread : List Target → ℕ
-more_unread ts = count_more is_same_key target_key most_told ts
+more_unread ts = count_more is_same_target (λ t. t) most_told ts
 
 -- whether two classes are equal
 abbrev pub is_same_class : Class → Class → Bool
@@ -145,7 +137,7 @@ pub record IsFound (records : List Record) (found : Found) : Type 0 where
 
 -- the stream to this target with this SSRC
 abbrev pub stream_to : Target → ℕ → StreamKey
-stream_to target ssrc = record { address = target.address; port = target.port; ssrc = ssrc }
+stream_to target ssrc = record { target = target; ssrc = ssrc }
 
 -- a packet as a packet of its flow
 abbrev pub as_flow_packet : Packet → FlowPacket

@@ -3,10 +3,11 @@ use Rattle.std.specs.Prelude.{◌≡◌, ◌≤◌, ◌+◌, ◌^◌, ℕ, List,
 use Rattle.std.specs.List.{last_or}
 use Rattle.std.proofs.Common.{arith, subst, sym, append_assoc, append-nil}
 use Rattle.timing_base.specs.Captures.{Record}
+use Rattle.timing_base.specs.Targets.{is_same_target}
 use Rattle.timing_base.specs.declared.target.Target.{Target}
 use Rattle.capture_scan.specs.Groups.{HaveItems}
-use Rattle.capture_scan.specs.Scans.{is_same_key, is_same_stream, most_told, packets, passed_over}
-use Rattle.capture_scan.specs.Scans.{span_of, stream_key, target_key, unread}
+use Rattle.capture_scan.specs.Scans.{is_same_stream, most_told, packets, passed_over}
+use Rattle.capture_scan.specs.Scans.{span_of, stream_key, unread}
 use Rattle.capture_scan.specs.Streams.{marks_from, stream_of}
 use Rattle.capture_scan.specs.declared.counter.Counter.{Counter}
 use Rattle.capture_scan.specs.declared.packet.Packet.{Packet}
@@ -26,7 +27,7 @@ HaveTaken s ps = HaveItems is_same_stream stream_key most_told Counts s.counters
 
 -- the unread packets go to these targets
 abbrev pub HaveMissed : Unread → List Target → Type 0
-HaveMissed u ts = HaveItems is_same_key target_key most_told (λ n items. n ≡ length items) u.counts.entries u.more ts
+HaveMissed u ts = HaveItems is_same_target (λ t. t) most_told (λ n items. n ≡ length items) u.counts.entries u.more ts
 
 -- the scan was given these records and no others
 pub record StandsFor (scan : Scan) (records : List Record) : Type 0 where

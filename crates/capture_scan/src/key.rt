@@ -1,7 +1,7 @@
-//! The keys by which packets are grouped.
+//! The key by which packets are grouped into streams.
 
 ghost use Rattle.std.specs.Prelude.{◌≡◌};
-ghost use Rattle.capture_scan.specs.Scans.{stream_key, target_key};
+ghost use Rattle.capture_scan.specs.Scans.{stream_key};
 
 use crate::packet::Packet;
 use timing_base::Target;
@@ -9,21 +9,10 @@ use timing_base::Target;
 /// A stream: the address and the port that its packets go to, and their SSRC.
 #[derive(Clone, Copy, PartialEq, Eq, Hash)]
 pub struct StreamKey {
-    /// The destination IPv4 address, its first octet highest.
-    pub address: u32,
-    /// The destination port.
-    pub port: u16,
+    /// The destination address and port.
+    pub target: Target,
     /// The synchronization source (RFC 3550, section 5.1).
     pub ssrc: u32,
-}
-
-/// A target: an address and a port.
-#[derive(Clone, Copy, PartialEq, Eq, Hash)]
-pub struct TargetKey {
-    /// The IPv4 address, its first octet highest.
-    pub address: u32,
-    /// The port.
-    pub port: u16,
 }
 
 impl StreamKey {
@@ -33,22 +22,8 @@ impl StreamKey {
         ensures { result ≡ stream_key packet.now }
     {
         StreamKey {
-            address: packet.target.address,
-            port: packet.target.port,
+            target: packet.target,
             ssrc: packet.rtp.ssrc,
-        }
-    }
-}
-
-impl TargetKey {
-    /// Returns the key of a target.
-    #[inline(always)]
-    pub fn of(target: Target) -> TargetKey
-        ensures { result ≡ target_key target }
-    {
-        TargetKey {
-            address: target.address,
-            port: target.port,
         }
     }
 }

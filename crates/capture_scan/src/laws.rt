@@ -4,6 +4,7 @@
 ghost use Rattle.std.specs.Prelude.{◌≡◌, nat_eq, [], ◌∷◌, ◌++◌, ◌*◌, ◌+◌, ◌-◌, ◌^◌, true, false, ℕ, List, Some, None};
 ghost use Rattle.std.specs.Prelude.{Ok, length, map, filter, take, drop};
 ghost use Rattle.std.specs.List.{sum_by};
+ghost use Rattle.timing_base.specs.Addresses.{ipv4};
 ghost use Rattle.timing_base.specs.Captures.{Record};
 ghost use Rattle.timing_base.specs.Media.{Media};
 ghost use Rattle.timing_base.specs.Targets.{target_of};
@@ -94,7 +95,7 @@ pub fn seen_by_hand()
       stamp = 100;
       bytes = frame_with plain_ip (0x13 ∷ 0x88 ∷ drop 2 (udp 22)) packet;
     }) ≡ seen_as.Read (record (plain_at 7 100) {
-      source = record { address = 0xc0000201; port = 5000 };
+      source = record { address = ipv4 192 0 2 1; port = 5000 };
     }) }
 {}
 

@@ -9,7 +9,7 @@ ghost use Rattle.capture_scan.specs.Frames.{first_line, header_place, line_at, p
 
 use crate::class::{Class, TAG, class_of};
 use byteorder::{BigEndian, ByteOrder};
-use timing_base::{Rtp, Target};
+use timing_base::{Address, Rtp, Target};
 use udp_rtp::{Datagram, datagram, read_rtp};
 
 /// The first line header of a packet (RFC 4175, section 4.3).
@@ -89,7 +89,9 @@ fn source_at(frame: &[u8], ip: usize) -> Target
 {
     let udp = ip + 4 * usize::from(frame[ip] % 16);
     Target {
-        address: BigEndian::read_u32(&frame[ip + 12..]),
+        address: Address {
+            bits: BigEndian::read_u32(&frame[ip + 12..]),
+        },
         port: BigEndian::read_u16(&frame[udp..]),
     }
 }

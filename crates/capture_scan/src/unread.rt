@@ -3,10 +3,9 @@
 ghost use Rattle.std.specs.Prelude.{◌≡◌, ◌≤◌, ◌<◌, ◌+◌, ◌^◌, ◌++◌, ◌∷◌, [], ℕ, All, List, None, Some, IfOk, IfSome};
 ghost use Rattle.std.specs.Prelude.{OnOk, true};
 ghost use Rattle.indexmap.specs.IndexMap.{get, values};
-ghost use Rattle.capture_scan.specs.Scans.{is_same_key, target_key};
+ghost use Rattle.timing_base.specs.Targets.{is_same_target};
 
 use crate::found::UnreadTarget;
-use crate::key::TargetKey;
 use indexmap::IndexMap;
 use std::alloc::{AllocError as OutOfMemory, Global};
 use timing_base::Target;
@@ -17,7 +16,7 @@ const MOST: usize = 1024;
 /// The targets of some unread packets, in the order of their first ones.
 #[derive(Drop)]
 pub struct Unread {
-    counts: IndexMap<TargetKey, u64>,
+    counts: IndexMap<Target, u64>,
     /// The index of the target of the last packet, counted from 0.
     near: usize,
     /// The number of packets that were taken.
@@ -32,7 +31,7 @@ impl Unread {
     ghost use Rattle.capture_scan.specs.Places.{HasTarget};
     ghost use Rattle.capture_scan.specs.Scans.{unread_targets};
     ghost use Rattle.capture_scan.specs.Stands.{HaveMissed};
-    ghost use Rattle.timing_base.specs.declared.target.Target.{Target as Address};
+    ghost use Rattle.timing_base.specs.declared.target.Target.{Target as Missed};
 
     /// Returns no unread packet.
     pub fn new(alloc: Global) -> Unread
@@ -49,45 +48,45 @@ impl Unread {
 
     /// Returns whether this is the target of the last packet.
     #[inline(always)]
-    fn is_near(&self, key: TargetKey) -> bool
-        ensures { result ≡ true → HasTarget self.now key self.now.near }
+    fn is_near(&self, target: Target) -> bool
+        ensures { result ≡ true → HasTarget self.now target self.now.near }
     {
         match self.counts.get_index(self.near) {
-            Some((&other, _)) => other == key,
+            Some((&other, _)) => other == target,
             None => false,
         }
     }
 
     /// Returns the index of a target.
     #[inline(always)]
-    fn place_of(&self, key: TargetKey) -> Option<usize>
-        ensures some { IfSome result (HasTarget self.now key) }
-        ensures none { result ≡ None → get is_same_key self.now.counts key ≡ None }
+    fn place_of(&self, target: Target) -> Option<usize>
+        ensures some { IfSome result (HasTarget self.now target) }
+        ensures none { result ≡ None → get is_same_target self.now.counts target ≡ None }
     {
-        if self.is_near(key) {
+        if self.is_near(target) {
             return Some(self.near);
         }
-        self.counts.get_index_of(&key)
+        self.counts.get_index_of(&target)
     }
 
     /// Begins a target with its first packet, if fewer than 1,024 are listed; else counts the packet in `more`. Returns
     /// `Err` if memory runs out.
     #[cold]
     #[inline(never)]
-    fn begin(&mut self, key: TargetKey) -> Result<(), OutOfMemory>
-        requires absent { get is_same_key self.old.counts key ≡ None }
+    fn begin(&mut self, target: Target) -> Result<(), OutOfMemory>
+        requires absent { get is_same_target self.old.counts target ≡ None }
         requires few { self.old.more < self.old.taken }
         requires room { self.old.taken ≤ 2 ^ 41 }
         ensures taken { self.new.taken ≡ self.old.taken }
-        ensures stands { OnOk result ((target : Address) (ts : List Address) → key ≡ target_key target
-            → HaveMissed self.old ts → HaveMissed self.new (ts ++ target ∷ [])) }
+        ensures stands { OnOk result ((ts : List Missed) → HaveMissed self.old ts
+            → HaveMissed self.new (ts ++ target ∷ [])) }
     {
         if self.counts.len() >= MOST {
             self.more += 1;
             return Ok(());
         }
         let place = self.counts.len();
-        self.counts.insert(key, 1)?;
+        self.counts.insert(target, 1)?;
         self.near = place;
         Ok(())
     }
@@ -97,34 +96,30 @@ impl Unread {
     pub fn take(&mut self, target: Target) -> Result<(), OutOfMemory>
         requires few { self.old.taken < 2 ^ 41 }
         ensures taken { self.new.taken ≡ self.old.taken + 1 }
-        ensures stands { OnOk result ((ts : List Address) → HaveMissed self.old ts
+        ensures stands { OnOk result ((ts : List Missed) → HaveMissed self.old ts
             → HaveMissed self.new (ts ++ target ∷ [])) }
     {
         self.taken += 1;
-        let key = TargetKey::of(target);
-        match self.place_of(key) {
+        match self.place_of(target) {
             Some(place) => {
                 self.near = place;
                 let (_, count) = self.counts.pair_mut(place);
                 *count += 1;
                 Ok(())
             }
-            None => self.begin(key),
+            None => self.begin(target),
         }
     }
 
     /// Returns the targets, in the order of their first unread packets. Returns `Err` if memory runs out.
     pub fn finish(&self, alloc: Global) -> Result<Vec<UnreadTarget>, OutOfMemory>
-        ensures { IfOk result (λ list. (ts : List Address) → HaveMissed self.now ts
+        ensures { IfOk result (λ list. (ts : List Missed) → HaveMissed self.now ts
             → list.items ≡ unread_targets ts) }
     {
         let mut targets = Vec::new(alloc);
-        for (key, count) in self.counts.iter() {
+        for (target, count) in self.counts.iter() {
             targets.push(UnreadTarget {
-                target: Target {
-                    address: key.address,
-                    port: key.port,
-                },
+                target: *target,
                 packets: *count,
             })?;
         }

@@ -2,9 +2,10 @@
 use Rattle.std.proofs.Common.{◌≡◌, ◌<◌, ◌+◌, ℕ, zero, suc, true, false, List, [], ◌∷◌, ◌++◌, length, take, get_or, Some, inl, inr, ◌==◌, refl, sym, ap, ◌∙◌}
 use Rattle.std.proofs.Common.{subst, arith}
 use Rattle.std.specs.Prelude.{All, ◌⊎◌, slice_get}
-use Rattle.std.proofs.lemmas.Bool.{and_parts, cases_Bool, eqb-true}
+use Rattle.std.proofs.lemmas.Bool.{cases_Bool}
 use Rattle.std.proofs.lemmas.List.{map_more}
 use Rattle.std.proofs.lemmas.List.Elements.{All-head, All-map, All-tail}
+use Rattle.timing_base.proofs.Targets.{same-target}
 use Rattle.timing_base.specs.Media.{Media}
 use Rattle.timing_base.specs.Targets.{HaveOwnTargets, target_of}
 use Rattle.timing_base.specs.declared.target.Target.{Target}
@@ -71,14 +72,9 @@ media-at [] j d within = absurd (omega arith)
 media-at (f ∷ fs) zero d within = refl
 media-at (f ∷ fs) (suc j) d within = media-at fs j d (omega arith)
 
--- targets that are the same by their parts, or aren't
-pub same-parts : (a b : Target) → is_same_target a b ≡ true → a ≡ b
-same-parts a b e =
-    let (address, port) = and_parts (a.address == b.address) (a.port == b.port) e in
-    λ i. record { address = eqb-true a.address b.address address i; port = eqb-true a.port b.port port i }
-
+-- targets that differ
 pub differs-by : (a b : Target) → (b ≡ a → ⊥) → is_same_target a b ≡ false
 differs-by a b differs = elim (cases_Bool (is_same_target a b)) as (λ _. is_same_target a b ≡ false) [
-  | inl same ↦ absurd (differs (sym (same-parts a b same)))
+  | inl same ↦ absurd (differs (sym (same-target a b same)))
   | inr other ↦ other
 ]

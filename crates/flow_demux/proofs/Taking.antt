@@ -4,6 +4,7 @@ use Rattle.std.proofs.Common.{◌∙◌, subst, arith}
 use Rattle.std.specs.Prelude.{All, Bool, IfOk, Result, Ok, Err, true, false}
 use Rattle.std.specs.List.{AllZip}
 use Rattle.std.proofs.lemmas.List.Elements.{All-from_get_or, All-head, All-tail, All-weaker}
+use Rattle.timing_base.proofs.Targets.{same-target}
 use Rattle.timing_base.specs.Captures.{Record}
 use Rattle.timing_base.specs.Media.{Media}
 use Rattle.timing_base.specs.Targets.{HaveOwnTargets, target_of}
@@ -16,7 +17,7 @@ use Rattle.flow_demux.specs.Awaits.{AwaitsExpected}
 use Rattle.flow_demux.specs.Steps.{StepsOn}
 use Rattle.flow_demux.specs.Takings.{GoesTo, TakesAll, TakesFlow, media_in}
 use Rattle.flow_demux.specs.declared.media_flow.MediaFlow.{MediaFlow}
-use Rattle.flow_demux.proofs.Owning.{differs-by, media-at, own-first, own-rest, same-parts}
+use Rattle.flow_demux.proofs.Owning.{differs-by, media-at, own-first, own-rest}
 use Rattle.flow_demux.proofs.Stepping.{zip-each, zip-then}
 
 -- a record that goes elsewhere is no packet of the flow
@@ -34,7 +35,7 @@ kept false x y e = cc
 goes-by : (m : Media) (r : Record) (p : FlowPacket) (o : Option Datagram) → datagram_of r.bytes ≡ o → datagram_packet m r.number r.stamp o ≡ Some p
     → GoesTo m r.bytes
 goes-by m r p None is e = cc
-goes-by m r p (Some d) is e = (d, is, same-parts d.target (target_of m) (kept (is_same_target d.target (target_of m)) _ p e))
+goes-by m r p (Some d) is e = (d, is, same-target d.target (target_of m) (kept (is_same_target d.target (target_of m)) _ p e))
 
 pub packet-goes : (m : Media) (r : Record) (p : FlowPacket) → flow_packet m r ≡ Some p → GoesTo m r.bytes
 packet-goes m r p e = goes-by m r p (datagram_of r.bytes) refl e

@@ -3,8 +3,8 @@ use Rattle.std.proofs.Common.{◌≡◌, ◌<◌, ◌+◌, ℕ, zero, suc, Bool,
 use Rattle.std.proofs.Common.{eq-eqb, ne_eqb, arith}
 use Rattle.std.specs.Prelude.{Option}
 use Rattle.std.specs.List.{cons_option}
-use Rattle.std.proofs.lemmas.Bool.{and_parts, eqb-true}
 use Rattle.std.proofs.lemmas.Option.{cond_some}
+use Rattle.timing_base.proofs.Targets.{same-target}
 use Rattle.timing_base.specs.Captures.{Record}
 use Rattle.timing_base.specs.Media.{Media}
 use Rattle.timing_base.specs.Targets.{target_of, HaveOwnTargets}
@@ -17,22 +17,11 @@ use Rattle.ruled_intake.specs.Packets.{Packet, packet_of}
 use Rattle.flow_worker.specs.Messages.{media_packet, media_packets}
 use Rattle.flow_worker.specs.Opening.{numbered_or, packet_from, session_packets}
 
--- a target by its parts
-target_at : ℕ → ℕ → Target
-target_at a p = record { address = a; port = p }
-
--- targets that the test says are one
-same_target : (a b : Target) → is_same_target a b ≡ true → a ≡ b
-unfolding target_at
-same_target a b e =
-    let t = and_parts (eqb a.address b.address) (eqb a.port b.port) e in
-    ap₂ target_at (eqb-true a.address b.address t.0) (eqb-true a.port b.port t.1)
-
 -- the target of a datagram whose packet is the media's
 datagram_target : (m : Media) (number stamp : ℕ) (d : Datagram) (p : FlowPacket) → datagram_packet m number stamp (Some d) ≡ Some p → d.target ≡ target_of m
 datagram_target m number stamp d p e =
     let made : FlowPacket = record { rec = number; at = stamp; rtp = reading d.payload } in
-    same_target d.target (target_of m) (cond_some (is_same_target d.target (target_of m)) made p e).0
+    same-target d.target (target_of m) (cond_some (is_same_target d.target (target_of m)) made p e).0
 
 -- a record that goes to two media
 one_target_of : (m n : Media) (number stamp : ℕ) (o : Option Datagram) (p q : FlowPacket) → datagram_packet m number stamp o ≡ Some p

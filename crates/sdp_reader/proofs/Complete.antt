@@ -3,6 +3,7 @@ use Rattle.std.proofs.Common.{◌≡◌, ◌==◌, ◌||◌, ℕ, Bool, true, fa
 use Rattle.std.specs.Option.{option_map, option_and_then, is_some, is_none}
 use Rattle.std.specs.List.{flat_map}
 use Rattle.std.proofs.lemmas.Grind.{common_steps}
+use Rattle.timing_base.specs.declared.address.Address.{Address}
 use Rattle.sdp_reader.specs.declared.fault.SdpCause.{SdpCause}
 use Rattle.sdp_reader.specs.declared.fault.SdpCause.TheVariants.{BadAddress, MissingParameter}
 use Rattle.sdp_reader.specs.declared.fault.SdpFault.{SdpFault}
@@ -85,7 +86,7 @@ value_stands : {A : Type 0} (p : Item → Bool) (f : Item → Option A) (o : Opt
 value_stands p f None s h fits = absurd (cc)
 value_stands p f (Some i) s h fits = fits i h.0 h.1
 
-all_stand : (line : ℕ) (video : Video) (items : List Item) (a w h : Option ℕ) (r : Option Rate)
+all_stand : (line : ℕ) (video : Video) (items : List Item) (a : Option Address) (w h : Option ℕ) (r : Option Rate)
     → is_some a ≡ true → is_some w ≡ true → is_some h ≡ true → is_some r ≡ true
     → is_some (option_and_then (λ x. option_and_then (λ y. option_and_then (λ z. option_map (media_with line video items x y z) r) h) w) a) ≡ true
 all_stand line video items None w h r p q s t = absurd (cc)

@@ -7,6 +7,8 @@ use Rattle.std.specs.BTreeSet.{BTreeSet}
 use Rattle.std.specs.Ordering.{nat_cmp, ordering_then, is_eq}
 use Rattle.std.proofs.lemmas.Grind.{common_steps, take_at_read}
 use Rattle.timing_base.specs.Media.{Media}
+use Rattle.timing_base.specs.Targets.{is_same_target}
+use Rattle.timing_base.specs.declared.address.Address.{Address}
 use Rattle.timing_base.specs.declared.target.Target.{Target}
 use Rattle.sdp_reader.specs.declared.fault.SdpCause.TheVariants.{SameTarget}
 use Rattle.sdp_reader.specs.declared.fault.SdpFault.{SdpFault}
@@ -19,7 +21,7 @@ use Rattle.sdp_reader.specs.Lines.{TextLine, at, media_fields, video_of}
 use Rattle.sdp_reader.specs.Parameters.{Item, parameters}
 use Rattle.sdp_reader.specs.Parts.{RawPart, own_lines, parts, connection_line, counting, address_of, is_raw_map, raw_part, raw_with, raw_of, faults_at}
 use Rattle.sdp_reader.specs.Parts.{part_faults, media_from, media_of}
-use Rattle.sdp_reader.specs.Session.{destination_of, target_at, is_same, are_same, have_one_target}
+use Rattle.sdp_reader.specs.Session.{destination_of, target_at, are_same, have_one_target}
 use Rattle.sdp_reader.specs.Summary.{reading_of, Keeps, Adds, target_cmp, has, TakesTarget}
 use Rattle.sdp_reader.proofs.Items.{append_nil, filter_map-cons, list_any-push}
 use Rattle.sdp_reader.proofs.Least.{first_of-assoc, first_of-none, least-append, at_front}
@@ -27,7 +29,7 @@ use Rattle.sdp_reader.proofs.Repeats.{repeats_after, repeats_after-walk}
 
 -- a raw part that was read
 pub raw_reading : (session : Option TextLine) (line : ℕ) (body : List TextLine) (video : Video)
-    (connection : Option TextLine) (address : Option ℕ) (items : List Item) (target : Option Target) (fault : Option SdpFault) (media : Option Media)
+    (connection : Option TextLine) (address : Option Address) (items : List Item) (target : Option Target) (fault : Option SdpFault) (media : Option Media)
     → connection ≡ counting (connection_line body) session
     → address ≡ option_and_then address_of connection
     → items ≡ parameters video.format body
@@ -127,8 +129,8 @@ AreSeen seen earlier = (t : Target) → has seen t ≡ list_any (λ e. are_same 
 is_eq-both : (a m b n : ℕ) → is_eq (ordering_then (nat_cmp a b) (nat_cmp m n)) ≡ ((a == b) && (m == n))
 is_eq-both a m b n = grind (arith, common_steps)
 
-is_eq-cmp : (t q : Target) → is_eq (target_cmp t q) ≡ is_same t q
-is_eq-cmp t q = is_eq-both t.address t.port q.address q.port
+is_eq-cmp : (t q : Target) → is_eq (target_cmp t q) ≡ is_same_target t q
+is_eq-cmp t q = is_eq-both t.address.bits t.port q.address.bits q.port
 
 none_same : (earlier : List Destination) → list_any (λ e. are_same None e.target) earlier ≡ false
 none_same [] = refl
@@ -145,7 +147,7 @@ seen_next : (old new : BTreeSet Target) (o : Option Target) (taken : Bool) (earl
 seen_next old new None taken earlier line h s = λ q.
     h.1 q ∙ s q ∙ sym (list_any-push (λ e. are_same (Some q) e.target) earlier (record { line = line; target = None }))
 seen_next old new (Some t) taken earlier line h s = λ q.
-    h.1 q ∙ ap (λ b. b || has old q) (is_eq-cmp t q) ∙ ap (λ b. is_same t q || b) (s q)
+    h.1 q ∙ ap (λ b. b || has old q) (is_eq-cmp t q) ∙ ap (λ b. is_same_target t q || b) (s q)
     ∙ sym (list_any-push (λ e. are_same (Some q) e.target) earlier (record { line = line; target = Some t }))
 
 -- one target more

@@ -5,8 +5,10 @@ use Rattle.std.specs.Prelude.{IfOk}
 use Rattle.std.specs.Option.{option_map, option_and_then}
 use Rattle.std.specs.List.{flat_map}
 use Rattle.std.proofs.lemmas.Grind.{common_steps}
+use Rattle.timing_base.specs.declared.address.Address.{Address}
 use Rattle.timing_base.specs.Media.{Media}
-use Rattle.timing_base.specs.Targets.{target_of, HaveOwnTargets}
+use Rattle.timing_base.proofs.Targets.{target-itself}
+use Rattle.timing_base.specs.Targets.{is_same_target, target_of, HaveOwnTargets}
 use Rattle.timing_base.specs.declared.target.Target.{Target}
 use Rattle.sdp_reader.specs.declared.fault.SdpCause.TheVariants.{SameTarget}
 use Rattle.sdp_reader.specs.declared.fault.SdpError.{SdpError}
@@ -20,21 +22,17 @@ use Rattle.sdp_reader.specs.Fault.{least}
 use Rattle.sdp_reader.specs.Lines.{TextLine, lines, at, repeats}
 use Rattle.sdp_reader.specs.Parameters.{Item, value_size, value_rate, item_named}
 use Rattle.sdp_reader.specs.Parts.{RawPart, good_address, media_with, media_of}
-use Rattle.sdp_reader.specs.Session.{raw_parts, target_at, destination_of, is_same, are_same, have_one_target, target_faults, answer, session}
+use Rattle.sdp_reader.specs.Session.{raw_parts, target_at, destination_of, are_same, have_one_target, target_faults, answer, session}
 use Rattle.sdp_reader.proofs.Complete.{append-none, at-none}
 use Rattle.sdp_reader.proofs.Sessions.{session_ok, answer-each, answer-targets}
-
--- a target is the same as itself
-is_same-self : (t : Target) → is_same t t ≡ true
-is_same-self t = grind (arith, common_steps)
 
 -- a later part has another target where SameTarget isn't told of it
 other_target : (d later : Destination) (m n : Media) → d.target ≡ Some (target_of m) → later.target ≡ Some (target_of n) → have_one_target d later ≡ false
     → target_of m ≡ target_of n → ⊥
 other_target d later m n p q apart same =
-    let here : are_same later.target d.target ≡ is_same (target_of n) (target_of n) =
+    let here : are_same later.target d.target ≡ is_same_target (target_of n) (target_of n) =
     ap (λ t. are_same t d.target) q ∙ ap (are_same (Some (target_of n))) (p ∙ ap (λ t. Some t) same) in
-    let both : true ≡ false = sym (here ∙ is_same-self (target_of n)) ∙ apart in
+    let both : true ≡ false = sym (here ∙ target-itself (target_of n)) ∙ apart in
     absurd (cc)
 
 some_head : {A : Type 0} (x y : A) (xs ys : List A) → x ∷ xs ≡ y ∷ ys → x ≡ y
@@ -83,7 +81,7 @@ own_targets (d ∷ ds) (x ∷ xs) e h i j m n p q same =
     i j m n p q same
 
 -- the target of a stream is that of its part
-stream_target : (line : ℕ) (video : Video) (items : List Item) (a w h : Option ℕ) (r : Option Rate) (m : Media)
+stream_target : (line : ℕ) (video : Video) (items : List Item) (a : Option Address) (w h : Option ℕ) (r : Option Rate) (m : Media)
     → option_and_then (λ x. option_and_then (λ y. option_and_then (λ z. option_map (media_with line video items x y z) r) h) w) a ≡ Some m
     → target_at a video.port ≡ Some (target_of m)
 stream_target line video items None w h r m e = absurd (cc)

@@ -6,6 +6,7 @@ use Rattle.std.specs.Option.{option_map, option_and_then}
 use Rattle.std.specs.List.{cons_option, filter_map, list_any}
 use Rattle.std.proofs.lemmas.Grind.{common_steps}
 use Rattle.std.proofs.lemmas.List.Elements.{All-cons, All-head, All-nil, All-tail}
+use Rattle.timing_base.specs.declared.address.Address.{Address}
 use Rattle.timing_base.specs.Media.{IsMedia, Media}
 use Rattle.sdp_reader.specs.declared.line.Video.{Video}
 use Rattle.sdp_reader.specs.declared.parameter.Name.TheVariants.{Width, Height, ExactFrameRate, Troff, Cmax}
@@ -119,7 +120,7 @@ raws-fit connection (p ∷ ps) =
     one_more (λ (r : RawPart). IsVideo r.video) (raw_of connection p) (filter_map (raw_of connection) ps) (raw-fits connection p) (raws-fit connection ps)
 
 -- the stream of a part with such a video line
-stream-within : (line : ℕ) (video : Video) (items : List Item) (a w h : Option ℕ) (r : Option Rate) (m : Media) → IsVideo video
+stream-within : (line : ℕ) (video : Video) (items : List Item) (a : Option Address) (w h : Option ℕ) (r : Option Rate) (m : Media) → IsVideo video
     → ((n : ℕ) → w ≡ Some n → (1 ≤ n) × (n ≤ 32767)) → ((n : ℕ) → h ≡ Some n → (1 ≤ n) × (n ≤ 32767)) → ((x : Rate) → r ≡ Some x → IsRate x)
     → option_and_then (λ x. option_and_then (λ y. option_and_then (λ z. option_map (media_with line video items x y z) r) h) w) a ≡ Some m → IsMedia m
 stream-within line video items None w h r m is wide high rated e = absurd (none_some m e)

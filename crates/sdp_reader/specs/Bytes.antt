@@ -41,6 +41,10 @@ abbrev pub trim_end : List ℕ → List ℕ
 trim_end [] = []
 trim_end (x ∷ xs) = onto_trimmed x (trim_end xs)
 
+-- the text without the spaces and tabs around it
+abbrev pub trim : List ℕ → List ℕ
+trim text = trim_start (trim_end text)
+
 -- an ASCII digit
 abbrev pub is_digit : ℕ → Bool
 is_digit b = nat_le 48 b && nat_le b 57

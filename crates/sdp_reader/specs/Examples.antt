@@ -1,6 +1,8 @@
 -- Lines, parameters and parts for examples worked by hand.
 use Rattle.std.specs.Prelude.{ℕ, false, List, ◌++◌, map, Option, Some, None, codes}
+use Rattle.timing_base.specs.Addresses.{ipv4}
 use Rattle.timing_base.specs.Media.{Media}
+use Rattle.timing_base.specs.declared.address.Address.{Address}
 use Rattle.timing_base.specs.declared.media.Kind.{Kind}
 use Rattle.sdp_reader.specs.Lines.{TextLine}
 use Rattle.sdp_reader.specs.Parameters.{Item, cause_of}
@@ -26,7 +28,7 @@ abbrev pub causes : Name → List (List ℕ) → List (Option SdpCause)
 causes name values = map (λ value. cause_of name (item name (Some value))) values
 
 -- the destination of a part that begins on this line
-abbrev pub part : ℕ → ℕ → ℕ → Destination
+abbrev pub part : ℕ → Address → ℕ → Destination
 part line address port = record { line = line; target = Some (record { address = address; port = port }) }
 
 -- a part that begins on this line and has no valid address
@@ -41,7 +43,7 @@ raw_0 list = codes "\na=rtpmap:0 raw/90000\na=fmtp:0 " ++ list
 abbrev pub one_media : Option Kind → Media
 one_media declared = record {
   line = 3;
-  address = 16909060;
+  address = ipv4 1 2 3 4;
   port = 9;
   pt = 96;
   width = 7;

@@ -7,7 +7,7 @@ use Rattle.std.specs.List.{slice_split, filter_map, flat_map}
 use Rattle.std.specs.Str.{bytes_eq, str_eq_ignore_ascii_case}
 use Rattle.timing_base.specs.declared.media.Kind.{Kind}
 use Rattle.timing_base.specs.declared.media.Kind.TheVariants.{N, NL, W}
-use Rattle.sdp_reader.specs.Bytes.{before, after, holds, after_prefix, trim_end, trim_start, number, number_within}
+use Rattle.sdp_reader.specs.Bytes.{before, after, holds, after_prefix, trim, number, number_within}
 use Rattle.sdp_reader.specs.Lines.{TextLine, at, repeats}
 use Rattle.sdp_reader.specs.declared.fault.SdpCause.{SdpCause}
 use Rattle.sdp_reader.specs.declared.fault.SdpCause.TheVariants.{BadParameter, RepeatedParameter, BadRate, Segmented}
@@ -63,7 +63,7 @@ item_of line text =
 
 -- the parameter of an item with spaces and tabs around it
 abbrev pub item_at : ℕ → List ℕ → Option Item
-item_at line piece = item_of line (trim_start (trim_end piece))
+item_at line piece = item_of line (trim piece)
 
 -- the known parameters of a list, which is split at `;`
 abbrev pub items_of : ℕ → List ℕ → List Item

@@ -1,13 +1,14 @@
 -- Media sections (RFC 4566, section 5.14), connections (section 5.7), and raw parts, with their faults.
 -- A raw part is a video section of SMPTE ST 2110-20: its `a=rtpmap` (section 6) has the encoding raw/90000 of RFC
 -- 4175.
--- Addresses are 32-bit numbers with the first octet in the most significant byte.
 use Rattle.std.specs.Prelude.{ℕ, ◌+◌, ◌*◌, ◌&&◌, ◌||◌, Bool, true, false, if◌then◌else◌, List, [], ◌∷◌, ◌++◌, Option}
 use Rattle.std.specs.Prelude.{Some, None, is_some, is_none, codes, find}
 use Rattle.std.specs.Option.{option_and_then, option_map}
 use Rattle.std.specs.List.{list_any, flat_map}
 use Rattle.std.specs.Str.{str_eq_ignore_ascii_case}
+use Rattle.timing_base.specs.Addresses.{ipv4}
 use Rattle.timing_base.specs.Media.{Media}
+use Rattle.timing_base.specs.declared.address.Address.{Address}
 use Rattle.sdp_reader.specs.Bytes.{before, after, holds, after_prefix, digits_of, within, number}
 use Rattle.sdp_reader.specs.Lines.{TextLine, at, media_fields, video_of}
 use Rattle.sdp_reader.specs.Parameters.{Item, is_the, parameters, value_size, value_offset, value_limit, value_rate}
@@ -57,26 +58,26 @@ abbrev pub octet : List ℕ → Option ℕ
 octet text = option_and_then (within 0 255) (digits_of 3 text)
 
 -- the address of four octets
-abbrev pub address_from : Option ℕ → Option ℕ → Option ℕ → Option ℕ → Option ℕ
+abbrev pub address_from : Option ℕ → Option ℕ → Option ℕ → Option ℕ → Option Address
 address_from a b c d = option_and_then (λ x. option_and_then
-    (λ y. option_and_then (λ z. option_map (λ w. x * 16777216 + y * 65536 + z * 256 + w) d) c) b) a
+    (λ y. option_and_then (λ z. option_map (λ w. ipv4 x y z w) d) c) b) a
 
 -- there is either no slash or a valid TTL after it
 abbrev pub is_ttl : List ℕ → Bool
 is_ttl last = if holds 47 last then is_some (octet (after 47 last)) else true
 
 -- three octets, and a fourth, with or without a TTL
-abbrev pub dotted : List ℕ → List ℕ → List ℕ → List ℕ → Option ℕ
+abbrev pub dotted : List ℕ → List ℕ → List ℕ → List ℕ → Option Address
 dotted a b c last = if is_ttl last then address_from (octet a) (octet b) (octet c) (octet (before 47 last)) else None
 
 -- `A.B.C.D` or `A.B.C.D/TTL`
-abbrev pub address_at : List ℕ → Option ℕ
+abbrev pub address_at : List ℕ → Option Address
 address_at rest =
     dotted (before 46 rest) (before 46 (after 46 rest)) (before 46 (after 46 (after 46 rest)))
     (after 46 (after 46 (after 46 rest)))
 
 -- the address of a line `c=IN IP4 ADDRESS`
-abbrev pub address_of : TextLine → Option ℕ
+abbrev pub address_of : TextLine → Option Address
 address_of l = option_and_then address_at (after_prefix (codes "c=IN IP4 ") l.text)
 
 -- `FORMAT raw/90000`
@@ -142,11 +143,11 @@ abbrev pub part_faults : RawPart → List SdpFault
 part_faults r = faults_at r.line r.connection r.items
 
 -- the address, if the connection is valid
-abbrev pub good_address : RawPart → Option ℕ
+abbrev pub good_address : RawPart → Option Address
 good_address r = option_and_then address_of r.connection
 
 -- the stream with these sizes and this rate
-abbrev pub media_with : ℕ → Video → List Item → ℕ → ℕ → ℕ → Rate → Media
+abbrev pub media_with : ℕ → Video → List Item → Address → ℕ → ℕ → Rate → Media
 media_with line video items address width height rate = record {
   line = line;
   address = address;
@@ -163,7 +164,7 @@ media_with line video items address width height rate = record {
 }
 
 -- the stream of a part, if the part has all that a stream needs
-abbrev pub media_from : ℕ → Video → Option ℕ → List Item → Option Media
+abbrev pub media_from : ℕ → Video → Option Address → List Item → Option Media
 media_from line video address items =
     option_and_then (λ a. option_and_then (λ w. option_and_then (λ h. option_map (media_with line video items a w h)
     (option_and_then value_rate (item_named ExactFrameRate items)))

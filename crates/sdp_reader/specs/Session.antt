@@ -1,10 +1,12 @@
 -- The video streams of a session description, or its first fault (RFC 4566, SMPTE ST 2110-20 and ST 2110-21; the
 -- limits and the numbers of the causes are this project's profile).
-use Rattle.std.specs.Prelude.{ℕ, ◌==◌, ◌&&◌, nat_lt, Bool, true, false, if◌then◌else◌, List, [], ◌∷◌, ◌++◌, length}
-use Rattle.std.specs.Prelude.{drop, map, Option, Some, None, Result, Ok, Err}
+use Rattle.std.specs.Prelude.{ℕ, ◌-◌, nat_lt, Bool, true, false, if◌then◌else◌, List, [], ◌∷◌, ◌++◌, length}
+use Rattle.std.specs.Prelude.{drop, take, map, Option, Some, None, Result, Ok, Err}
 use Rattle.std.specs.Option.{option_map}
 use Rattle.std.specs.List.{flat_map, filter_map}
 use Rattle.timing_base.specs.Media.{Media}
+use Rattle.timing_base.specs.Targets.{is_same_target}
+use Rattle.timing_base.specs.declared.address.Address.{Address}
 use Rattle.timing_base.specs.declared.target.Target.{Target}
 use Rattle.sdp_reader.specs.Fault.{least, IsAmong}
 use Rattle.sdp_reader.specs.Lines.{TextLine, lines, at, repeats, line_faults, version_faults}
@@ -19,23 +21,27 @@ use Rattle.sdp_reader.specs.declared.part.Destination.{Destination}
 abbrev pub raw_parts : List TextLine → List RawPart
 raw_parts ls = filter_map (raw_of (connection_line (own_lines ls))) (parts ls)
 
+-- the streams that these lines describe: those of the raw parts that have all that a stream needs
+abbrev pub media_in : List TextLine → List Media
+media_in ls = filter_map media_of (raw_parts ls)
+
+-- the lines before the one with this number, counted from 1; none before line 0
+abbrev pub lines_before : ℕ → List TextLine → List TextLine
+lines_before line ls = take (line - 1) ls
+
 -- the target with this address, if there is one, and this port
-abbrev pub target_at : Option ℕ → ℕ → Option Target
+abbrev pub target_at : Option Address → ℕ → Option Target
 target_at address port = option_map (λ a. record { address = a; port = port }) address
 
 -- the first line of a raw part, and its target
 abbrev pub destination_of : RawPart → Destination
 destination_of r = record { line = r.line; target = target_at (good_address r) r.video.port }
 
--- address and port are equal
-abbrev pub is_same : Target → Target → Bool
-is_same a b = (a.address == b.address) && (a.port == b.port)
-
 -- both targets are there and equal
 abbrev pub are_same : Option Target → Option Target → Bool
 are_same None own = false
 are_same (Some t) None = false
-are_same (Some t) (Some own) = is_same own t
+are_same (Some t) (Some own) = is_same_target own t
 
 -- a part and a later one have the same target
 abbrev pub have_one_target : Destination → Destination → Bool

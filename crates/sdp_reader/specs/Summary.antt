@@ -31,7 +31,7 @@ pub record Adds (old : Kept) (reading : Option Reading) (new : Kept) : Type 0 wh
 
 -- the order of targets: by address, then by port
 abbrev pub target_cmp : Target → Target → Ordering
-target_cmp a b = ordering_then (nat_cmp a.address b.address) (nat_cmp a.port b.port)
+target_cmp a b = ordering_then (nat_cmp a.address.bits b.address.bits) (nat_cmp a.port b.port)
 
 -- the set contains the target
 abbrev pub has : BTreeSet Target → Target → Bool

@@ -4,13 +4,13 @@ ghost use Rattle.std.specs.Prelude.{◌≡◌, ◌≤◌, ◌<◌, ◌==◌, len
 ghost use Rattle.std.specs.Option.{option_copied};
 ghost use Rattle.std.specs.List.{slice_split};
 ghost use Rattle.std.specs.Str.{bytes_eq, str_eq_ignore_ascii_case};
-ghost use Rattle.sdp_reader.specs.Bytes.{before, after, holds, after_prefix, trim_end, trim_start, is_blank, digits_of, number, number_within};
+ghost use Rattle.sdp_reader.specs.Bytes.{before, after, holds, after_prefix, trim, trim_end, trim_start, is_blank, digits_of, number, number_within};
 
 use memchr::memchr;
 
 /// Splits the text at the first `byte`, and returns what is before and after it, or `None` if it
 /// isn't there.
-pub(crate) fn cut(byte: u8, text: &[u8]) -> Option<(&[u8], &[u8])>
+pub fn cut(byte: u8, text: &[u8]) -> Option<(&[u8], &[u8])>
     ensures nowhere { MatchOption result (holds byte text.now ≡ false)
         (λ parts. holds byte text.now ≡ true) }
     ensures before { MatchOption result (before byte text.now ≡ text.now)
@@ -31,7 +31,7 @@ pub(crate) fn cut(byte: u8, text: &[u8]) -> Option<(&[u8], &[u8])>
 
 /// Splits the text at the first `byte`, and returns the first field and the rest. Without that byte
 /// the field is the whole text and the rest is empty.
-pub(crate) fn field(byte: u8, text: &[u8]) -> (&[u8], &[u8])
+pub fn field(byte: u8, text: &[u8]) -> (&[u8], &[u8])
     ensures first { result.0.now ≡ before byte text.now }
     ensures rest { result.1.now ≡ after byte text.now }
 {
@@ -42,7 +42,7 @@ pub(crate) fn field(byte: u8, text: &[u8]) -> (&[u8], &[u8])
 }
 
 /// Returns what follows a prefix, or `None` if the text doesn't begin with it.
-pub(crate) fn strip<'a>(text: &'a [u8], prefix: &[u8]) -> Option<&'a [u8]>
+pub fn strip<'a>(text: &'a [u8], prefix: &[u8]) -> Option<&'a [u8]>
     ensures { option_copied result ≡ after_prefix prefix.now text.now }
 {
     let mut rest = text;
@@ -94,7 +94,7 @@ pub(crate) fn trim_end(text: &[u8]) -> &[u8]
 }
 
 /// Returns the text without the spaces and tabs at its start.
-pub(crate) fn trim_start(text: &[u8]) -> &[u8]
+fn trim_start(text: &[u8]) -> &[u8]
     ensures { result.now ≡ trim_start text.now }
 {
     let mut begin = 0;
@@ -102,6 +102,13 @@ pub(crate) fn trim_start(text: &[u8]) -> &[u8]
         begin += 1;
     }
     &text[begin..]
+}
+
+/// Returns the text without the spaces and tabs around it.
+pub fn trim(text: &[u8]) -> &[u8]
+    ensures { result.now ≡ trim text.now }
+{
+    trim_start(trim_end(text))
 }
 
 /// Returns the value of 1 to `most` decimal digits, or `None` if the text is anything else.

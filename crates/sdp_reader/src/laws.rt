@@ -4,6 +4,7 @@
 ghost use Rattle.std.specs.Prelude.{◌≡◌, ◌<◌, ◌≤◌, ℕ, List, [], ◌∷◌, ◌++◌, All, map, length, replicate, Some, None, Ok, Err, codes, true, false};
 ghost use Rattle.std.specs.Fmt.{decimal};
 ghost use Rattle.timing_base.specs.Media.{IsMedia, Media};
+ghost use Rattle.timing_base.specs.Addresses.{ipv4};
 ghost use Rattle.timing_base.specs.Targets.{HaveOwnTargets};
 ghost use Rattle.sdp_reader.specs.Bytes.{before, after, number};
 ghost use Rattle.sdp_reader.specs.Examples.{line, fault, item, causes, part, lost_part, raw_0, one_part, one_media};
@@ -11,7 +12,7 @@ ghost use Rattle.sdp_reader.specs.Fault.{number_of, fault_text, comes_before, le
 ghost use Rattle.sdp_reader.specs.Lines.{TextLine, lines, line_faults, version_faults, video_of};
 ghost use Rattle.sdp_reader.specs.Parameters.{items_of, list_of, value_size, value_offset, value_limit, value_rate, value_kind, cause_of, repeated_faults, item_named};
 ghost use Rattle.sdp_reader.specs.Parts.{own_lines, connection_line, counting, address_of, is_raw_map, connection_faults, is_missing, faults_at, media_of};
-ghost use Rattle.sdp_reader.specs.Session.{session, answer, faults, raw_parts, target_faults, too_many_faults, StandsOn};
+ghost use Rattle.sdp_reader.specs.Session.{session, answer, faults, lines_before, media_in, raw_parts, target_faults, too_many_faults, StandsOn};
 ghost use Rattle.sdp_reader.specs.declared.fault.SdpCause.TheVariants.{NotText, NoVersion, BadLine, BadMedia, NoConnection, BadAddress, BadParameter, RepeatedParameter, MissingParameter, BadRate, Segmented, ExtendedUdp, SameTarget, TooManyMedia, NoVideo, TooLarge};
 ghost use Rattle.sdp_reader.specs.declared.fault.SdpFault.{SdpFault};
 ghost use Rattle.sdp_reader.specs.declared.parameter.Name.TheVariants as name;
@@ -45,6 +46,12 @@ pub fn targets_are_own()
 pub fn media_are_within()
     ensures { (bytes : List ℕ) (media : List Media) → session bytes ≡ Ok media
         → All IsMedia media }
+{}
+
+/// The media of a session are those that its lines describe.
+pub fn accepted_media_are_described()
+    ensures { (bytes : List ℕ) (media : List Media) → session bytes ≡ Ok media
+        → media ≡ media_in (lines bytes) }
 {}
 
 /// A session description of more than 1,048,576 bytes is too large, whatever it contains.
@@ -140,7 +147,8 @@ pub fn connections_by_hand()
     ensures good { map address_of (line 7 (codes "c=IN IP4 0.0.0.0")
         ∷ line 7 (codes "c=IN IP4 1.2.3.4") ∷ line 7 (codes "c=IN IP4 001.2.3.4/0")
         ∷ line 7 (codes "c=IN IP4 255.255.255.255/255") ∷ [])
-        ≡ Some 0 ∷ Some 16909060 ∷ Some 16909060 ∷ Some 4294967295 ∷ [] }
+        ≡ Some (ipv4 0 0 0 0) ∷ Some (ipv4 1 2 3 4) ∷ Some (ipv4 1 2 3 4)
+        ∷ Some (ipv4 255 255 255 255) ∷ [] }
     ensures octets { map address_of (line 7 (codes "c=IN IP4 256.2.3.4")
         ∷ line 7 (codes "c=IN IP4 1.256.3.4") ∷ line 7 (codes "c=IN IP4 1.2.256.4")
         ∷ line 7 (codes "c=IN IP4 1.2.3.256")
@@ -262,12 +270,12 @@ pub fn parts_by_hand()
         ≡ true ∷ true ∷ true ∷ [] }
     ensures on_head { faults_at 5 (Some (line 2 (codes "c=IN IP4 1.2.3.4"))) []
         ≡ fault 5 MissingParameter ∷ [] }
-    ensures same { target_faults (part 3 1 9 ∷ part 7 2 9 ∷ part 11 1 9 ∷ [])
+    ensures same { target_faults (part 3 (ipv4 1 2 3 1) 9 ∷ part 7 (ipv4 1 2 3 2) 9 ∷ part 11 (ipv4 1 2 3 1) 9 ∷ [])
         ≡ fault 11 SameTarget ∷ [] }
-    ensures others { target_faults (part 3 1 9 ∷ part 7 2 9 ∷ part 11 1 8 ∷ []) ≡ [] }
+    ensures others { target_faults (part 3 (ipv4 1 2 3 1) 9 ∷ part 7 (ipv4 1 2 3 2) 9 ∷ part 11 (ipv4 1 2 3 1) 8 ∷ []) ≡ [] }
     ensures lost { target_faults (lost_part 3 ∷ lost_part 7 ∷ []) ≡ [] }
-    ensures most { too_many_faults (replicate 64 (part 3 1 9)) ≡ [] }
-    ensures more { too_many_faults (replicate 64 (part 3 1 9) ++ part 7 1 9 ∷ part 8 1 9 ∷ [])
+    ensures most { too_many_faults (replicate 64 (part 3 (ipv4 1 2 3 1) 9)) ≡ [] }
+    ensures more { too_many_faults (replicate 64 (part 3 (ipv4 1 2 3 1) 9) ++ part 7 (ipv4 1 2 3 1) 9 ∷ part 8 (ipv4 1 2 3 1) 9 ∷ [])
         ≡ fault 7 TooManyMedia ∷ [] }
 {}
 
@@ -317,7 +325,7 @@ pub fn accepted_by_hand()
         ++ raw_0 (codes "interlace; CMAX=4; TROFF=6; width=1; height=2; exactframerate=50")))
         ≡ Ok (one_media None ∷ record {
           line = 8;
-          address = 16909061;
+          address = ipv4 1 2 3 5;
           port = 9;
           pt = 0;
           width = 1;
@@ -329,4 +337,19 @@ pub fn accepted_by_hand()
           troff = Some 6;
           cmax = Some 4;
         } ∷ []) }
+{}
+
+/// Worked by hand: the media that the lines before one describe. The second part begins on line 6 and
+/// its parameters are on line 8; no media is described before its last line.
+pub fn media_before_by_hand()
+    ensures all { media_in (lines (one_part (codes "\nm=video 9 RTP/AVP 0"
+        ++ raw_0 (codes "width=7; height=5")))) ≡ one_media None ∷ [] }
+    ensures first { media_in (lines_before 6 (lines (one_part (codes "\nx"))))
+        ≡ one_media None ∷ [] }
+    ensures cut { media_in (lines_before 5 (lines (one_part (codes "\nx")))) ≡ [] }
+    ensures whole { media_in (lines_before 0 (lines (one_part (codes "")))) ≡ [] }
+
+    // The fault on line 6 isn't one of the media of line 3.
+    ensures later { media_in (lines_before 6 (lines (one_part (codes "\na=fmtp:96 TP=x"))))
+        ≡ one_media None ∷ [] }
 {}

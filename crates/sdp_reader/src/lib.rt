@@ -2,7 +2,7 @@
 //! timing parameters of SMPTE ST 2110-21.
 #![tactic(auto)]
 
-mod bytes;
+pub mod bytes;
 mod fault;
 pub mod laws;
 mod line;
@@ -11,4 +11,7 @@ mod part;
 mod session;
 
 pub use fault::{SdpCause, SdpError, SdpFault};
-pub use session::read_sdp;
+pub use line::{Line, Video, read_lines, video_of};
+pub use parameter::{is_known, is_the};
+pub use part::{is_raw, own_lines};
+pub use session::{media_before, read_sdp};

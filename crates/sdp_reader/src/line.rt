@@ -12,7 +12,7 @@ use std::alloc::{AllocError, Global};
 
 /// One line, without its line ending and the spaces and tabs before it.
 #[derive(Clone, Copy, Debug)]
-pub(crate) struct Line<'a> {
+pub struct Line<'a> {
     /// The number of the line, counted from 1.
     pub number: u32,
     /// The text.
@@ -21,7 +21,7 @@ pub(crate) struct Line<'a> {
 
 /// The port and format of a video line.
 #[derive(Clone, Copy, Debug)]
-pub(crate) struct Video {
+pub struct Video {
     /// The UDP port, 1 to 65,535.
     pub port: u16,
     /// The RTP payload type, 0 to 127.
@@ -41,7 +41,7 @@ fn without_cr(piece: &[u8]) -> &[u8]
 }
 
 /// Returns the lines of a text of at most 1,048,576 bytes. Returns `Err` if memory runs out.
-pub(crate) fn read_lines(alloc: Global, bytes: &[u8]) -> Result<Vec<Line<'_>>, AllocError>
+pub fn read_lines(alloc: Global, bytes: &[u8]) -> Result<Vec<Line<'_>>, AllocError>
     requires { length bytes.now ≤ 1048576 }
     ensures { IfOk result (λ v. map plain v.items ≡ lines bytes.now) }
 {
@@ -78,7 +78,7 @@ pub(crate) fn at(line: u32, what: SdpCause, stands: bool) -> Option<SdpFault>
 
 /// Returns the port and the format of a video line, from the text after `m=`. Returns `None` if the
 /// line isn't `m=video PORT RTP/AVP FORMAT`.
-pub(crate) fn video_of(fields: &[u8]) -> Option<Video>
+pub fn video_of(fields: &[u8]) -> Option<Video>
     ensures value { result ≡ video_of fields.now }
     ensures ranges { IfSome result (λ v. (1 ≤ v.port) × (v.format ≤ 127)) }
 {
@@ -109,11 +109,11 @@ fn is_video(fields: &[u8]) -> bool
     is_same(kind, b"video")
 }
 
-impl Line<'_> {
+impl<'a> Line<'a> {
     ghost use Rattle.std.specs.Option.{option_copied};
 
     /// Returns the text after `m=`, or `None` if this isn't an `m=` line.
-    pub(crate) fn media_fields(&self) -> Option<&[u8]>
+    pub fn media_fields(&self) -> Option<&'a [u8]>
         ensures { option_copied result ≡ media_fields (plain self.now) }
     {
         strip(self.text, b"m=")

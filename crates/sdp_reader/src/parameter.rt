@@ -1,6 +1,6 @@
 //! The parameters of a raw part: names, values and their faults.
 
-ghost use Rattle.std.specs.Prelude.{◌≡◌, ◌≤◌, ◌<◌, ◌*◌, ◌++◌, [], map, IfOk, OnOk, IfSome};
+ghost use Rattle.std.specs.Prelude.{◌≡◌, ◌≤◌, ◌<◌, ◌*◌, ◌++◌, [], map, IfOk, OnOk, IfSome, is_some};
 ghost use Rattle.std.specs.Option.{option_map, option_to_list};
 ghost use Rattle.std.specs.List.{flat_map};
 ghost use Rattle.sdp_reader.specs.Fault.{least};
@@ -8,9 +8,7 @@ ghost use Rattle.sdp_reader.specs.Parameters.{table_name, row_of, item_at, items
 ghost use Rattle.sdp_reader.specs.Bytes.{number};
 ghost use Rattle.sdp_reader.specs.Plain.{plain, plain_item};
 
-use crate::bytes::{
-    cut, field, is_same, is_same_word, number, number_within, strip, trim_end, trim_start,
-};
+use crate::bytes::{cut, field, is_same, is_same_word, number, number_within, strip, trim};
 use crate::fault::{SdpCause, SdpFault, first_of};
 use crate::line::{Line, at};
 use std::alloc::{AllocError, Global};
@@ -106,12 +104,19 @@ fn table_name(text: &[u8]) -> Option<Name>
     }
 }
 
+/// Returns whether a parameter of this name is known, ignoring ASCII case.
+pub fn is_known(name: &[u8]) -> bool
+    ensures { result ≡ is_some (table_name name.now) }
+{
+    table_name(name).is_some()
+}
+
 /// Returns the parameter of one item of a list, `name=value` or `name`, or `None` if the name isn't
 /// known.
 fn item_at(line: u32, piece: &[u8]) -> Option<Parameter<'_>>
     ensures { option_map plain_item result ≡ item_at line piece.now }
 {
-    let text = trim_start(trim_end(piece));
+    let text = trim(piece);
     let (name, value) = match cut(b'=', text) {
         Some((name, value)) => (name, Some(value)),
         None => (text, None),
@@ -270,7 +275,7 @@ fn list_of<'a>(line: &Line<'a>, format: u8) -> &'a [u8]
 }
 
 /// Returns whether the text is this number.
-pub(crate) fn is_the(format: u8, text: &[u8]) -> bool
+pub fn is_the(format: u8, text: &[u8]) -> bool
     ensures { result ≡ is_the format (number text.now) }
 {
     number(text) == Some(u64::from(format))

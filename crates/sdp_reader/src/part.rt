@@ -19,7 +19,7 @@ use crate::parameter::{
     Name, Parameter, Rate, is_the, item_fault, item_named, parameters, repeated_fault,
 };
 use std::alloc::{AllocError, Global};
-use timing_base::{Kind, Media, Target};
+use timing_base::{Address, Kind, Media, Target};
 
 /// The first line of a part, and its target, if the address is valid.
 #[derive(Clone, Copy, Debug)]
@@ -71,7 +71,7 @@ impl Kept {
 }
 
 /// Returns the lines before the first `m=` line.
-pub(crate) fn own_lines<'b, 'a>(lines: &'b [Line<'a>]) -> &'b [Line<'a>]
+pub fn own_lines<'b, 'a>(lines: &'b [Line<'a>]) -> &'b [Line<'a>]
     ensures { map plain result.now ≡ own_lines (map plain lines.now) }
 {
     for (i, line) in lines.iter().enumerate() {
@@ -95,12 +95,11 @@ pub(crate) fn connection_line<'a>(lines: &[Line<'a>]) -> Option<Line<'a>>
 }
 
 /// Returns the value of 1 to 3 digits if it is at most 255: an octet or a TTL.
-fn octet(text: &[u8]) -> Option<u32>
-    ensures value { result ≡ octet text.now }
-    ensures range { IfSome result (λ n. n ≤ 255) }
+fn octet(text: &[u8]) -> Option<u8>
+    ensures { result ≡ octet text.now }
 {
     match digits_of(3, text) {
-        Some(n) if n <= 255 => Some(n as u32),
+        Some(n) if n <= 255 => Some(n as u8),
         _ => None,
     }
 }
@@ -115,19 +114,19 @@ fn is_ttl(last: &[u8]) -> bool
     }
 }
 
-/// Returns the address of four octets, the first in the most significant byte.
-fn address_from(a: &[u8], b: &[u8], c: &[u8], d: &[u8]) -> Option<u32>
+/// Returns the address of four octets.
+fn address_from(a: &[u8], b: &[u8], c: &[u8], d: &[u8]) -> Option<Address>
     ensures { result ≡ address_from (octet a.now) (octet b.now) (octet c.now) (octet d.now) }
 {
     let a = octet(a)?;
     let b = octet(b)?;
     let c = octet(c)?;
     let d = octet(d)?;
-    Some(a * 16_777_216 + b * 65_536 + c * 256 + d)
+    Some(Address::new(a, b, c, d))
 }
 
 /// Returns the address of `A.B.C.D` or `A.B.C.D/TTL`.
-fn address_at(rest: &[u8]) -> Option<u32>
+fn address_at(rest: &[u8]) -> Option<Address>
     ensures { result ≡ address_at rest.now }
 {
     let (a, rest) = field(b'.', rest);
@@ -142,7 +141,7 @@ fn address_at(rest: &[u8]) -> Option<u32>
 }
 
 /// Returns the address of a line `c=IN IP4 ADDRESS`.
-fn address_of(line: &Line) -> Option<u32>
+fn address_of(line: &Line) -> Option<Address>
     ensures { result ≡ address_of (plain line.now) }
 {
     address_at(strip(line.text, b"c=IN IP4 ")?)
@@ -162,7 +161,7 @@ fn is_raw_map(line: &Line, format: u8) -> bool
 }
 
 /// Returns whether a line of the part maps its format to `raw/90000`.
-fn is_raw(body: &[Line], format: u8) -> bool
+pub fn is_raw(body: &[Line], format: u8) -> bool
     ensures { result ≡ list_any (is_raw_map format) (map plain body.now) }
 {
     for line in body {
@@ -245,7 +244,7 @@ fn rate_named(items: &[Parameter]) -> Option<Rate>
 }
 
 /// Returns the stream of a part, if the part has all that a stream needs.
-fn media_of(line: u32, video: Video, address: Option<u32>, items: &[Parameter]) -> Option<Media>
+fn media_of(line: u32, video: Video, address: Option<Address>, items: &[Parameter]) -> Option<Media>
     requires port { 1 ≤ video.port }
     requires format { video.format ≤ 127 }
     ensures { result ≡ media_from line video address (map plain_item items.now) }
@@ -322,14 +321,14 @@ fn counting<'a>(own: Option<Line<'a>>, session: Option<Line<'a>>) -> Option<Line
 }
 
 /// Returns the address, if the connection is valid.
-fn good_address(connection: Option<Line>) -> Option<u32>
+fn good_address(connection: Option<Line>) -> Option<Address>
     ensures { result ≡ option_and_then address_of (option_map plain connection.entry) }
 {
     address_of(&connection?)
 }
 
 /// Returns the target with this address, if there is one, and this port.
-fn target_at(address: Option<u32>, port: u16) -> Option<Target>
+fn target_at(address: Option<Address>, port: u16) -> Option<Target>
     ensures { result ≡ target_at address port }
 {
     let address = address?;

@@ -1,13 +1,14 @@
 //! The whole session description: its media, or its first fault.
 
-ghost use Rattle.std.specs.Prelude.{◌≡◌, [], map, IfOk, Err, Ok};
+ghost use Rattle.std.specs.Prelude.{◌≡◌, ◌≤◌, [], length, map, IfOk, Err, Ok};
 ghost use Rattle.std.specs.List.{filter_map, flat_map};
 ghost use Rattle.std.specs.Option.{option_map};
 ghost use Rattle.timing_base.specs.Targets.{HaveOwnTargets};
 ghost use Rattle.sdp_reader.specs.Fault.{least};
+ghost use Rattle.sdp_reader.specs.Lines.{lines};
 ghost use Rattle.sdp_reader.specs.Parts.{parts, part_faults, raw_of};
 ghost use Rattle.sdp_reader.specs.Plain.{plain};
-ghost use Rattle.sdp_reader.specs.Session.{answer, raw_parts, destination_of, faults, session, target_faults, too_many_faults};
+ghost use Rattle.sdp_reader.specs.Session.{answer, raw_parts, destination_of, faults, lines_before, media_in, session, target_faults, too_many_faults};
 ghost use Rattle.sdp_reader.specs.Answer.{Tells};
 ghost use Rattle.sdp_reader.specs.Summary.{Keeps, TakesTarget};
 
@@ -16,7 +17,7 @@ use crate::line::{Line, at, line_fault, read_lines, version_fault};
 use crate::part::{Destination, Kept, connection_line, own_lines, read_part};
 use std::alloc::{AllocError, Global};
 use std::collections::BTreeSet;
-use timing_base::{Items, Session, Target};
+use timing_base::{Items, Media, Session, Target};
 
 /// Returns the results of the raw parts, in order. `session` is the first `c=` line of the session
 /// section. Returns `Err` if memory runs out.
@@ -142,4 +143,26 @@ pub fn read_sdp(alloc: Global, bytes: &[u8]) -> Result<Session, SdpError>
     let lines = read_lines(alloc, bytes)?;
     let list = lines.as_slice();
     answer(alloc, list)
+}
+
+/// Returns the media that these lines describe. Returns `Err` if memory runs out.
+fn media_in(alloc: Global, lines: &[Line]) -> Result<Vec<Media>, AllocError>
+    ensures { IfOk result (λ media. media.items ≡ media_in (map plain lines.now)) }
+{
+    let session = connection_line(own_lines(lines));
+    let kept = read_parts(alloc, session, lines)?;
+    Ok(kept.media)
+}
+
+/// Returns the media that the lines before the line with this number describe, in order: the raw
+/// parts that have all that a media needs, whatever else is invalid. Lines count from 1; before line
+/// 0 there is none. Returns `Err` if memory runs out.
+pub fn media_before(alloc: Global, bytes: &[u8], line: u32) -> Result<Vec<Media>, AllocError>
+    requires { length bytes.now ≤ 1048576 }
+    ensures { IfOk result (λ media. media.items ≡ media_in (lines_before line (lines bytes.now))) }
+{
+    let lines = read_lines(alloc, bytes)?;
+    let count = line.saturating_sub(1) as usize;
+    let before = &lines.as_slice()[..count.min(lines.len())];
+    media_in(alloc, before)
 }

@@ -13,7 +13,7 @@ abbrev pub described : (height : ℕ) (interlaced : Bool) (p q : ℕ) (declared 
     → Media
 described height interlaced p q declared troff cmax = record {
   line = 5;
-  address = 0;
+  address = record { bits = 0 };
   port = 50000;
   pt = 96;
   width = 1920;

@@ -3,7 +3,7 @@
 ghost use Rattle.std.specs.Prelude.{◌≡◌, ◌≤◌, ◌*◌};
 ghost use Rattle.sender_params.specs.Worked.{video as worked};
 
-use timing_base::{Kind, Media};
+use timing_base::{Address, Kind, Media};
 
 /// Returns a video of this height at `p / q` frames per second, declared narrow, without TROFF and CMAX.
 pub fn video(height: u32, interlaced: bool, p: u32, q: u32) -> Media
@@ -17,7 +17,7 @@ pub fn video(height: u32, interlaced: bool, p: u32, q: u32) -> Media
 {
     Media {
         line: 5,
-        address: 0,
+        address: Address { bits: 0 },
         port: 50000,
         pt: 96,
         width: 1920,

@@ -4,3 +4,4 @@ pub mod Grouped
 pub mod Numerals
 pub mod Places
 pub mod Sizes
+pub mod Targets

@@ -1,5 +1,6 @@
 -- Small flows for examples worked by hand, with payload type 96 and source 7, and a plain video.
 use Rattle.std.specs.Prelude.{ℕ, Bool, true, false, List, [], ◌∷◌, Option, Some, None, Ok, Err}
+use Rattle.timing_base.specs.Addresses.{ipv4}
 use Rattle.timing_base.specs.Captures.{Record}
 use Rattle.timing_base.specs.Judged.{RunOutcome, whole_frames}
 use Rattle.timing_base.specs.Media.{Media}
@@ -58,7 +59,7 @@ judged_twos groups stamps = whole_frames record { n = 2; groups = groups; head =
 abbrev pub video : (interlaced : Bool) (p : ℕ) (declared : Option Kind) (cmax : Option ℕ) → Media
 video interlaced p declared cmax = record {
   line = 5;
-  address = 4009754625;
+  address = ipv4 239 0 0 1;
   port = 50000;
   pt = 96;
   width = 1920;

@@ -117,3 +117,8 @@ pub record SeriesJob : Type 0 where
 pub record ScanJob : Type 0 where
   pub capture : List ℕ
   pub form : ScanForm
+
+-- `sdp`: prints how a session description is read
+pub record SdpJob : Type 0 where
+  pub sdp : List ℕ
+  pub json : Bool

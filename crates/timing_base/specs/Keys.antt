@@ -11,7 +11,7 @@ key_of file media = record { file = file; media = media }
 abbrev pub no_media : Media
 no_media = record {
   line = 0;
-  address = 0;
+  address = record { bits = 0 };
   port = 0;
   pt = 0;
   width = 0;

@@ -1,4 +1,5 @@
 -- definitions that the crate's clauses cite
+pub mod Addresses
 pub mod Captures
 pub mod Flows
 pub mod Jobs

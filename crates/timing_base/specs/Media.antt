@@ -2,12 +2,13 @@
 -- quantities. Units and meanings are those of the fields of `Media`.
 use Rattle.std.specs.Prelude.{◌≤◌, ◌*◌, ℕ, Bool, List, length, Option}
 use Rattle.std.specs.Option.{ForSome}
+use Rattle.timing_base.specs.declared.address.Address.{Address}
 use Rattle.timing_base.specs.declared.media.Kind.{Kind}
 
 -- one video stream
 pub record Media : Type 0 where
   pub line : ℕ
-  pub address : ℕ
+  pub address : Address
   pub port : ℕ
   pub pt : ℕ
   pub width : ℕ

@@ -1,19 +1,17 @@
 -- The destination of the packets of a media, and its printed form.
-use Rattle.std.specs.Prelude.{◌≡◌, ℕ, ◌/◌, ◌%◌, ◌^◌, List, ◌++◌, codes, slice_get, Some}
+use Rattle.std.specs.Prelude.{◌≡◌, ℕ, ◌==◌, ◌&&◌, Bool, List, ◌++◌, codes, slice_get, Some}
 use Rattle.std.specs.Fmt.{decimal}
+use Rattle.timing_base.specs.Addresses.{address_text, is_same_address}
 use Rattle.timing_base.specs.Media.{Media}
 use Rattle.timing_base.specs.declared.target.Target.{Target}
 
--- the four octets of an address and a port, as `239.0.0.1:50000`
-abbrev pub address_text : ℕ → ℕ → List ℕ
-address_text address port =
-    decimal (address / 2 ^ 24) ++ (codes "." ++ (decimal (address / 2 ^ 16 % 2 ^ 8) ++ (codes "."
-    ++ (decimal (address / 2 ^ 8 % 2 ^ 8) ++ (codes "." ++ (decimal (address % 2 ^ 8)
-    ++ (codes ":" ++ decimal port)))))))
-
--- the printed form of a target
+-- the printed form of a target, as `239.0.0.1:50000`
 abbrev pub target_text : Target → List ℕ
-target_text target = address_text target.address target.port
+target_text target = address_text target.address ++ (codes ":" ++ decimal target.port)
+
+-- whether two targets have the same address and port
+abbrev pub is_same_target : Target → Target → Bool
+is_same_target a b = is_same_address a.address b.address && (a.port == b.port)
 
 -- the target of a media
 abbrev pub target_of : Media → Target

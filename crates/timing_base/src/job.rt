@@ -247,3 +247,20 @@ impl Model for ScanJob {
 
     ghost view = { λ job. record { capture = job.capture; form = job.form } };
 }
+
+/// The command `sdp`: prints how a session description is read.
+#[derive(Debug, Drop)]
+pub struct SdpJob {
+    /// The file name of the session description.
+    pub sdp: FileName,
+    /// Whether the output is JSON.
+    pub json: bool,
+}
+
+impl Model for SdpJob {
+    ghost use Rattle.timing_base.specs.Jobs.{SdpJob as Seen};
+
+    ghost Value = { Seen };
+
+    ghost view = { λ job. record { sdp = job.sdp; json = job.json } };
+}

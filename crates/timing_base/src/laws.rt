@@ -9,7 +9,8 @@ ghost use Rattle.timing_base.specs.Grouped.{IsGroupedVerdict};
 ghost use Rattle.timing_base.specs.Captures.{joined};
 ghost use Rattle.timing_base.specs.Name.{is_file_name};
 ghost use Rattle.timing_base.specs.Routes.{route};
-ghost use Rattle.timing_base.specs.Targets.{address_text};
+ghost use Rattle.timing_base.specs.Addresses.{ipv4, address_text, is_same_address, octets_of};
+ghost use Rattle.timing_base.specs.Targets.{is_same_target, target_text};
 ghost use Rattle.timing_base.specs.Examples.{captured, judged_twos, sent, sent_by, sent_as, unread, two_groups, equal_low_halves};
 
 use crate::packet::PacketFault;
@@ -225,13 +226,39 @@ pub fn routes_by_hand()
     ensures one { route (record { file = 2; media = 1 }) 3 1 ≡ 0 }
 {}
 
-/// Worked by hand: the first octet of an address is its most significant one.
+/// Worked by hand: the first octet of an address is its most significant one, so it is compared
+/// first.
+#[tactic(auto, using(crate::proofs::Numerals::written_out))]
+pub fn addresses_by_hand()
+    ensures group { ipv4 239 0 0 1 ≡ record { bits = 4009754625 } }
+    ensures octets { octets_of (record { bits = 16909060 }) ≡ 1 ∷ 2 ∷ 3 ∷ 4 ∷ [] }
+    ensures text { address_text (record { bits = 16909060 }) ≡ codes "1.2.3.4" }
+    ensures least { address_text (ipv4 0 0 0 0) ≡ codes "0.0.0.0" }
+    ensures greatest { address_text (record { bits = 4294967295 }) ≡ codes "255.255.255.255" }
+    ensures order { (ipv4 1 2 3 4).bits < (ipv4 1 2 4 3).bits }
+    ensures same { is_same_address (ipv4 1 2 3 4) (record { bits = 16909060 }) ≡ true }
+    ensures turned { is_same_address (ipv4 1 2 3 4) (ipv4 4 3 2 1) ≡ false }
+{}
+
+/// Worked by hand: the printed form of a target, and targets that differ in one part.
 #[tactic(auto, using(crate::proofs::Numerals::written_out))]
 pub fn targets_by_hand()
-    ensures text { address_text 4009754625 50000 ≡ codes "239.0.0.1:50000" }
-    ensures octets { address_text 16909060 9 ≡ codes "1.2.3.4:9" }
-    ensures least { address_text 0 1 ≡ codes "0.0.0.0:1" }
-    ensures greatest { address_text 4294967295 65535 ≡ codes "255.255.255.255:65535" }
+    ensures text { target_text (record { address = ipv4 239 0 0 1; port = 50000 })
+        ≡ codes "239.0.0.1:50000" }
+    ensures greatest { target_text (record { address = ipv4 255 255 255 255; port = 65535 })
+        ≡ codes "255.255.255.255:65535" }
+    ensures same { is_same_target (record { address = ipv4 239 0 0 1; port = 9 })
+        (record { address = record { bits = 4009754625 }; port = 9 }) ≡ true }
+    ensures other_port { is_same_target (record { address = ipv4 239 0 0 1; port = 9 })
+        (record { address = ipv4 239 0 0 1; port = 8 }) ≡ false }
+    ensures other_address { is_same_target (record { address = ipv4 239 0 0 1; port = 9 })
+        (record { address = ipv4 239 0 0 2; port = 9 }) ≡ false }
+{}
+
+/// An address has the octets that it was made of.
+pub fn addresses_have_their_octets()
+    ensures octets { (a b c d : ℕ) → a < 2 ^ 8 → b < 2 ^ 8 → c < 2 ^ 8 → d < 2 ^ 8
+        → octets_of (ipv4 a b c d) ≡ a ∷ b ∷ c ∷ d ∷ [] }
 {}
 
 /// Worked by hand: a file name has at least 1 byte and no control character.

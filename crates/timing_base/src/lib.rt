@@ -10,6 +10,7 @@
 //! count from 1. The packet records of a capture count from 1 everywhere.
 #![tactic(auto)]
 
+mod address;
 mod capture;
 mod fail;
 mod job;
@@ -23,11 +24,12 @@ mod row;
 mod target;
 pub mod worked;
 
+pub use address::Address;
 pub use capture::{FileNote, PcapFault};
 pub use fail::{Broken, FailProof};
 pub use job::{
-    CaptureJob, CheckJob, FlowJob, ReportJob, ScanForm, ScanJob, SelfTestJob, SeriesJob, ShapeJob,
-    SkewJob, VerifyJob,
+    CaptureJob, CheckJob, FlowJob, ReportJob, ScanForm, ScanJob, SdpJob, SelfTestJob, SeriesJob,
+    ShapeJob, SkewJob, VerifyJob,
 };
 pub use key::{FlowKey, route};
 pub use list::Items;

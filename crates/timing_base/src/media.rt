@@ -2,6 +2,7 @@
 
 ghost use Rattle.std.specs.Prelude.{◌≡◌};
 
+use crate::address::Address;
 use crate::list::Items;
 use crate::target::Target;
 use std::marker::Model;
@@ -22,8 +23,8 @@ pub enum Kind {
 pub struct Media {
     /// The line of the session description on which the media section begins, counted from 1.
     pub line: u32,
-    /// The destination IPv4 address, the first octet in the most significant byte.
-    pub address: u32,
+    /// The destination IPv4 address.
+    pub address: Address,
     /// The destination UDP port, at least 1.
     pub port: u16,
     /// The RTP payload type, at most 127.

@@ -1,12 +1,13 @@
 //! Destinations of packets.
 
+use crate::address::Address;
 use std::fmt;
 
 /// The destination of a media: an IPv4 address and a UDP port, printed as `239.0.0.1:50000`.
-#[derive(Clone, Copy, Debug, PartialEq, Eq, PartialOrd, Ord)]
+#[derive(Clone, Copy, Debug, PartialEq, Eq, PartialOrd, Ord, Hash)]
 pub struct Target {
-    /// The IPv4 address, the first octet in the most significant byte.
-    pub address: u32,
+    /// The IPv4 address.
+    pub address: Address,
     /// The UDP port.
     pub port: u16,
 }
@@ -18,7 +19,6 @@ impl fmt::Display for Target {
     ghost output = { λ target. Some (target_text target) };
 
     fn fmt<W: fmt::Write>(&self, f: &mut fmt::Formatter<W>) -> fmt::Result {
-        let [a, b, c, d] = self.address.to_be_bytes();
-        write!(f, "{a}.{b}.{c}.{d}:{}", self.port)
+        write!(f, "{}:{}", self.address, self.port)
     }
 }

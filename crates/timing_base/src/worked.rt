@@ -4,6 +4,7 @@
 ghost use Rattle.std.specs.Prelude.{◌≡◌, true, IfOk};
 ghost use Rattle.timing_base.specs.Name.{is_file_name};
 
+use crate::address::Address;
 use crate::fail::{Broken, FailProof};
 use crate::job::CheckJob;
 use crate::list::Items;
@@ -17,7 +18,7 @@ use std::alloc::{AllocError as OutOfMemory, Global};
 /// declared narrow.
 pub const PLAIN: Media = Media {
     line: 5,
-    address: 0xef00_0001,
+    address: Address { bits: 0xef00_0001 },
     port: 50_000,
     pt: 96,
     width: 1920,

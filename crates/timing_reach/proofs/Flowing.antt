@@ -30,8 +30,8 @@ pub once-flow : (job : FlowJob) (Has : Media → List Record → FileNote → An
     → DefinesOnce (flow_query job Has)
 once-flow job Has once media files notes a b h k = on (slice_get media job.media) h k
   where
-    on : (found : Option Media) → OnMedia found (λ m. Has m (only_file files) (only_note notes) a) → OnMedia found (λ m. Has m (only_file files) (only_note notes) b)
-        → a ≡ b
+    on : (found : Option Media) → OnMedia found (λ m. Has m (only_file files) (only_note notes) a)
+        → OnMedia found (λ m. Has m (only_file files) (only_note notes) b) → a ≡ b
     on None h k = absurd h
     on (Some m) h k = once m (only_file files) (only_note notes) a b h k
 

@@ -1,9 +1,9 @@
 -- One record more of two flows that are compared.
-use Rattle.std.specs.Prelude.{◌==◌, ◌||◌, IfOk, IfSome, Result, Ok, Err, if◌then◌else◌, is_some, not}
+use Rattle.std.specs.Prelude.{◌||◌, IfOk, IfSome, Result, Ok, Err, if◌then◌else◌, is_some, not}
 use Rattle.std.specs.List.{cons_option}
 use Rattle.std.proofs.Common.{◌≡◌, ℕ, Bool, true, false, List, [], ◌∷◌, ◌++◌, length, Option, Some, None, refl, arith, ap, ◌∙◌, sym, subst, append-nil}
-use Rattle.std.proofs.lemmas.Bool.{and_parts, eqb-true, false≢true}
-use Rattle.std.proofs.lemmas.Bool.Decides.{nat_tests}
+use Rattle.std.proofs.lemmas.Bool.{false≢true}
+use Rattle.timing_base.proofs.Targets.{same-target, target-itself}
 use Rattle.timing_base.specs.Captures.{Record}
 use Rattle.timing_base.specs.Media.{Media}
 use Rattle.timing_base.specs.Targets.{target_of}
@@ -19,18 +19,9 @@ use Rattle.timing_reach.specs.skew.Paired.{IsSameFlow, packets_in}
 use Rattle.timing_reach.specs.skew.Pairs.{PairsOn, are_apart}
 use Rattle.timing_reach.specs.declared.skew.pairing.Pairing.{Pairing}
 
--- targets that are the same by their parts
-same-parts : (a b : Target) → is_same_target a b ≡ true → a ≡ b
-same-parts a b e =
-    let (address, port) = and_parts (a.address == b.address) (a.port == b.port) e in
-    λ i. record { address = eqb-true a.address b.address address i; port = eqb-true a.port b.port port i }
-
-same-target : (a b : Target) → a ≡ b → is_same_target a b ≡ true
-same-target a b e = subst (λ x. is_same_target a x ≡ true) e (grind (arith, nat_tests))
-
 -- nothing goes to two targets
 two-targets : (d a b : Target) → is_same_target a b ≡ false → is_same_target d a ≡ true → is_same_target d b ≡ true → ⊥
-two-targets d a b differ one other = false≢true (sym differ ∙ same-target a b (sym (same-parts d a one) ∙ same-parts d b other))
+two-targets d a b differ one other = false≢true (sym differ ∙ subst (λ x. is_same_target a x ≡ true) (sym (same-target d a one) ∙ same-target d b other) (target-itself a))
 
 none-if : (b c : Bool) (x p : FlowPacket) → (b ≡ true → c ≡ true → ⊥) → (if b then Some x else None) ≡ Some p → (if c then Some x else None) ≡ None
 none-if b false x p never is = refl

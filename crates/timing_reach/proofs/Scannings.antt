@@ -1,6 +1,7 @@
 -- What follows for `scan` from what was found in its capture, and that a text has one answer.
 use Rattle.std.specs.Prelude.{IfErr, IfOk, Result, Ok, Err}
-use Rattle.std.proofs.Common.{◌≡◌, ◌≤◌, ◌^◌, ◌==◌, ◌||◌, if◌then◌else◌, ℕ, Bool, true, false, List, [], Option, Some, refl, arith, ap, ◌∙◌, sym, subst, inl, inr}
+use Rattle.std.proofs.Common.{◌≡◌, ◌≤◌, ◌^◌, ◌==◌, ◌||◌, if◌then◌else◌, ℕ, Bool, true, false, List, [], Option, Some, refl, arith, ap, ◌∙◌, sym, subst, inl}
+use Rattle.std.proofs.Common.{inr}
 use Rattle.std.specs.Option.{option_map}
 use Rattle.timing_base.specs.Captures.{Record}
 use Rattle.timing_base.specs.Jobs.{ScanJob}

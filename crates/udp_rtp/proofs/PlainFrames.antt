@@ -9,8 +9,9 @@ use Rattle.timing_base.specs.declared.target.Target.{Target}
 use Rattle.udp_rtp.specs.Carried.{carries, goes_to, has_fields, is_plain_rtp, is_plain_udp, number}
 use Rattle.timing_base.specs.Captures.{Record}
 use Rattle.timing_base.specs.Media.{Media}
+use Rattle.timing_base.proofs.Targets.{target-itself}
 use Rattle.timing_base.specs.Targets.{target_of}
-use Rattle.udp_rtp.specs.Flow.{datagram_packet, flow_packet, is_same_target}
+use Rattle.udp_rtp.specs.Flow.{datagram_packet, flow_packet}
 use Rattle.udp_rtp.specs.Frames.{datagram_at, datagram_of, is_udp_at, payload_at, udp_place}
 use Rattle.byteorder.specs.Endian.{big_number}
 use Rattle.byteorder.specs.Numbers.{big_from-take}
@@ -25,7 +26,7 @@ pub record IsCarried (target : Target) (p : Rtp) (frame : List ℕ) : Type 0 whe
   pub first : slice_index frame 14 ≡ 0x45
   pub whole : number16 frame 20 % 2 ^ 14 ≡ 0
   pub protocol : slice_index frame 23 ≡ 17
-  pub address : number32 frame 30 ≡ target.address
+  pub address : number32 frame 30 ≡ target.address.bits
   pub port : number16 frame 36 ≡ target.port
   pub stated : 22 ≤ number16 frame 38
   pub version : slice_index frame 42 ≡ 0x80
@@ -71,7 +72,7 @@ carried target p frame h =
     and5 (nat_le 56 (length frame)) (is_plain_udp frame) (goes_to target frame) (is_plain_rtp frame) (has_fields p frame) h in
     let (kind, first, whole, protocol) =
     and4 (number16 frame 12 == 0x0800) (slice_index frame 14 == 0x45) (number16 frame 20 % 2 ^ 14 == 0) (slice_index frame 23 == 17) udp in
-    let (address, port) = and_parts (number32 frame 30 == target.address) (number16 frame 36 == target.port) goes in
+    let (address, port) = and_parts (number32 frame 30 == target.address.bits) (number16 frame 36 == target.port) goes in
     let (stated, version) = and_parts (nat_le 22 (number16 frame 38)) (slice_index frame 42 == 0x80) rtp in
     let (marker, small, pt, same, timestamp, ssrc) =
     and6 (not p.marker) (nat_lt p.pt 128) (slice_index frame 43 == p.pt) (number frame == p.number)
@@ -158,12 +159,9 @@ reading-carried target p frame f =
     (number-payload 4 4 frame f.stated (omega arith) ∙ f.timestamp)
     (number-payload 4 8 frame f.stated (omega arith) ∙ f.ssrc))
 
-same-target : (t : Target) → is_same_target t t ≡ true
-same-target t = grind (arith, nat_tests, and_from)
-
 -- a record of it has this packet in the flow of each media of this target
 pub packet-carried : (media : Media) (p : Rtp) (r : Record) → IsCarried (target_of media) p r.bytes
     → flow_packet media r ≡ Some (record { rec = r.number; at = r.stamp; rtp = Ok p })
 packet-carried media p r f =
     ap (datagram_packet media r.number r.stamp) (datagram-carried (target_of media) p r.bytes f)
-    ∙ rw (same-target (target_of media), reading-carried (target_of media) p r.bytes f) refl
+    ∙ rw (target-itself (target_of media), reading-carried (target_of media) p r.bytes f) refl

@@ -24,7 +24,7 @@ packet_of a = record {
 
 -- the target of the expected packet
 abbrev pub target_of : Awaited → Target
-target_of a = record { address = a.destination / 2 ^ 32; port = a.destination % 2 ^ 16 }
+target_of a = record { address = record { bits = a.destination / 2 ^ 32 }; port = a.destination % 2 ^ 16 }
 
 -- the expected packet and its target; none, if the place of the source port isn't zero
 abbrev pub awaited : Awaited → Option (Target × Rtp)

@@ -19,7 +19,7 @@ is_plain_udp frame =
 
 -- the datagram goes to this address and port
 abbrev pub goes_to : Target → List ℕ → Bool
-goes_to target frame = (number32 frame 30 == target.address) && (number16 frame 36 == target.port)
+goes_to target frame = (number32 frame 30 == target.address.bits) && (number16 frame 36 == target.port)
 
 -- the UDP length includes at least the eight bytes of its header, the twelve of RTP and the extended sequence number;
 -- RTP has version 2 and no padding, header extension or contributing sources: 0x80

@@ -1,5 +1,6 @@
 -- An Ethernet frame laid out by hand, byte by byte, with the fields that vary as arguments.
 use Rattle.std.specs.Prelude.{ℕ, false, List, [], ◌∷◌, ◌++◌}
+use Rattle.timing_base.specs.Addresses.{ipv4}
 use Rattle.timing_base.specs.declared.packet.Rtp.{Rtp}
 use Rattle.timing_base.specs.declared.target.Target.{Target}
 use Rattle.udp_rtp.specs.Frames.{Datagram}
@@ -70,7 +71,7 @@ frame_of header = frame_with header (udp 22) packet
 
 -- 239.0.0.1, port 50000
 abbrev pub group : Target
-group = record { address = 0xef000001; port = 50000 }
+group = record { address = ipv4 239 0 0 1; port = 50000 }
 
 -- a datagram to that target with this payload
 abbrev pub to_group : List ℕ → Datagram

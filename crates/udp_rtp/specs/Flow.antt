@@ -1,16 +1,12 @@
 -- The flow of a media: those packet records of a capture that go to its target, an address and a port.
-use Rattle.std.specs.Prelude.{ℕ, Bool, ◌==◌, ◌&&◌, if◌then◌else◌, List, filter_map, Option, Some, None}
+use Rattle.std.specs.Prelude.{ℕ, if◌then◌else◌, List, filter_map, Option, Some, None}
 use Rattle.timing_base.specs.Captures.{Record}
 use Rattle.timing_base.specs.Media.{Media}
+pub use Rattle.timing_base.specs.Targets.{is_same_target}
 use Rattle.timing_base.specs.Targets.{target_of}
 use Rattle.timing_base.specs.declared.packet.FlowPacket.{FlowPacket}
-use Rattle.timing_base.specs.declared.target.Target.{Target}
 use Rattle.udp_rtp.specs.Frames.{Datagram, datagram_of}
 use Rattle.udp_rtp.specs.Reading.{reading}
-
--- both targets have the same address and port
-abbrev pub is_same_target : Target → Target → Bool
-is_same_target a b = (a.address == b.address) && (a.port == b.port)
 
 -- the packet of a media's flow in the packet record of a datagram, if the datagram goes to the media's target
 abbrev pub datagram_packet : Media → ℕ → ℕ → Option Datagram → Option FlowPacket

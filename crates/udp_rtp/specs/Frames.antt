@@ -49,7 +49,7 @@ payload_at frame u = take (number16 frame (u + 4) - 8) (drop (u + 8) frame)
 abbrev pub datagram_at : List ℕ → ℕ → Datagram
 datagram_at frame e = record {
   target = record {
-    address = number32 frame (e + 16);
+    address = record { bits = number32 frame (e + 16) };
     port = number16 frame (udp_place frame e + 2);
   };
   payload = payload_at frame (udp_place frame e);

@@ -1,5 +1,6 @@
 -- Two small captures of two flows, laid out by hand. Capture timestamps are nanoseconds since 1970-01-01 00:00:00.
 use Rattle.std.specs.Prelude.{ℕ, List, [], ◌∷◌, ◌++◌, take}
+use Rattle.timing_base.specs.Addresses.{ipv4}
 use Rattle.timing_base.specs.Captures.{Record, joined}
 use Rattle.timing_base.specs.declared.packet.FlowPacket.{FlowPacket}
 use Rattle.timing_base.specs.declared.target.Target.{Target}
@@ -8,7 +9,7 @@ use Rattle.udp_rtp.specs.Reading.{reading}
 
 -- 239.0.0.1, port 50001
 abbrev pub next_port : Target
-next_port = record { address = 0xef000001; port = 50001 }
+next_port = record { address = ipv4 239 0 0 1; port = 50001 }
 
 -- an untagged frame with a whole packet to the port of these two bytes
 abbrev pub frame_to : ℕ → ℕ → List ℕ

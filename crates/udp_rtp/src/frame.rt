@@ -5,7 +5,7 @@ ghost use Rattle.udp_rtp.specs.Frames.{datagram_from, datagram_of, ip_place, is_
 
 use crate::udp::Datagram;
 use byteorder::{BigEndian, ByteOrder};
-use timing_base::Target;
+use timing_base::{Address, Target};
 
 /// The type field of IPv4 (IEEE 802.3; RFC 894).
 const IPV4: u16 = 0x0800;
@@ -79,7 +79,9 @@ fn datagram_behind(frame: &[u8], ip: usize) -> Option<Datagram<'_>>
     let udp = ip + 4 * usize::from(frame[ip] % 16);
     Some(Datagram {
         target: Target {
-            address: BigEndian::read_u32(&frame[ip + 16..]),
+            address: Address {
+                bits: BigEndian::read_u32(&frame[ip + 16..]),
+            },
             port: BigEndian::read_u16(&frame[udp + 2..]),
         },
         payload: payload(frame, udp),

@@ -2,6 +2,7 @@
 //! its clauses are what is proved.
 
 ghost use Rattle.std.specs.Prelude.{◌≡◌, ◌+◌, ◌++◌, [], ◌∷◌, ℕ, true, false, List, min, length, take, drop, replicate};
+ghost use Rattle.timing_base.specs.Addresses.{ipv4};
 ghost use Rattle.timing_base.specs.Captures.{Record};
 ghost use Rattle.timing_base.specs.Media.{Media};
 ghost use Rattle.timing_base.specs.Targets.{target_of};
@@ -182,7 +183,7 @@ pub fn carried_by_hand()
 
     // Another port and another address; a tag, options, another type and another protocol.
     ensures port { carries next_port plain_packet (frame_of plain_ip) ≡ false }
-    ensures address { carries (record { address = 0xef000002; port = 50000 }) plain_packet
+    ensures address { carries (record { address = ipv4 239 0 0 2; port = 50000 }) plain_packet
         (frame_of plain_ip) ≡ false }
     ensures tagged { carries group plain_packet
         (macs ++ tag ++ ip_type ++ plain_ip ++ udp 22 ++ packet) ≡ false }

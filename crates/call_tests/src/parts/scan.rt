@@ -8,7 +8,7 @@ use capture_scan::{Found, Line, Packet, Scan, Seen, Span, Stream, UnreadTarget, 
 use std::alloc::Global;
 use std::process::Abort;
 use std::test::Fail;
-use timing_base::{Rtp, Target};
+use timing_base::{Address, Rtp, Target};
 
 // A packet with the marker from 192.0.2.1 to 239.0.0.1, with the first line header of a field.
 const FRAME: [u8; 62] = [
@@ -30,12 +30,12 @@ const FRAME: [u8; 62] = [
 ];
 
 const SOURCE: Target = Target {
-    address: 0xc000_0201,
+    address: Address { bits: 0xc000_0201 },
     port: 5000,
 };
 
 const TARGET: Target = Target {
-    address: 0xef00_0001,
+    address: Address { bits: 0xef00_0001 },
     port: 50_000,
 };
 

@@ -8,6 +8,9 @@ use Rattle.std.specs.Prelude.{false}
 use Rattle.std.specs.Prelude.{if◌then◌else◌, List, [], ◌∷◌, ◌++◌, fold, length, Option, Some, None, is_none, codes}
 use Rattle.std.specs.Fmt.{decimal}
 use Rattle.std.specs.List.{flat_map, list_any}
+use Rattle.timing_base.specs.Addresses.{address_text}
+use Rattle.timing_base.specs.Targets.{is_same_target}
+use Rattle.timing_base.specs.declared.address.Address.{Address}
 use Rattle.timing_base.specs.declared.target.Target.{Target}
 use Rattle.capture_scan.specs.declared.stream.Lines.{Lines}
 use Rattle.capture_scan.specs.declared.stream.Pace.{Pace}
@@ -125,7 +128,7 @@ can_be_drafted s = nat_le 3 s.markers && (nat_lt 0 s.target.port && is_raw s.lin
 -- whether one of the videos has this target
 abbrev pub has_target : Target → List DraftVideo → Bool
 has_target t videos =
-    list_any (λ v. (v.target.address == t.address) && (v.target.port == t.port)) videos
+    list_any (λ v. is_same_target v.target t) videos
 
 -- a stream adds its video if there are fewer than 64, and none has its target
 abbrev pub is_added : List DraftVideo → Stream → Bool
@@ -140,15 +143,12 @@ abbrev pub videos_of : List Stream → List DraftVideo
 videos_of streams = fold with_stream [] streams
 
 -- a multicast address (RFC 5771): its first octet is 224 to 239
-abbrev pub is_multicast : ℕ → Bool
-is_multicast address = nat_le 224 (address / 2 ^ 24) && nat_lt (address / 2 ^ 24) 240
+abbrev pub is_multicast : Address → Bool
+is_multicast address = nat_le 224 (address.bits / 2 ^ 24) && nat_lt (address.bits / 2 ^ 24) 240
 
--- an address as four decimal octets, with `/32` as the TTL if it is a multicast address
-abbrev pub octets_text : ℕ → List ℕ
-octets_text address =
-    decimal (address / 2 ^ 24) ++ (codes "." ++ (decimal (address / 2 ^ 16 % 2 ^ 8) ++ (codes "."
-    ++ (decimal (address / 2 ^ 8 % 2 ^ 8) ++ (codes "." ++ (decimal (address % 2 ^ 8)
-    ++ (if is_multicast address then codes "/32" else codes "")))))))
+-- an address, with `/32` as the TTL if it is a multicast address
+abbrev pub connection_address : Address → List ℕ
+connection_address address = address_text address ++ (if is_multicast address then codes "/32" else codes "")
 
 -- the line `m=` of a video, with its newline
 abbrev pub media_line : DraftVideo → List ℕ
@@ -171,7 +171,7 @@ guess_line v = codes "i=guessed: width" ++ guesses_text v.guesses
 
 -- the line `c=` of a video
 abbrev pub connection_line : DraftVideo → List ℕ
-connection_line v = codes "c=IN IP4 " ++ (octets_text v.target.address ++ codes "\n")
+connection_line v = codes "c=IN IP4 " ++ (connection_address v.target.address ++ codes "\n")
 
 -- the line `a=rtpmap` of a video
 abbrev pub map_line : DraftVideo → List ℕ

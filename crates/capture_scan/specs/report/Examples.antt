@@ -1,6 +1,7 @@
 -- The results of scans for the examples that are worked by hand. The first capture has 41 packets of one sender: one
 -- packet with the marker, and two frames of 20 packets at 50 frames per second.
 use Rattle.std.specs.Prelude.{ℕ, Bool, true, false, [], ◌∷◌, Some, None}
+use Rattle.timing_base.specs.Addresses.{ipv4}
 use Rattle.timing_base.specs.declared.target.Target.{Target}
 use Rattle.capture_scan.specs.Examples.{order_with, pace_with, sender}
 use Rattle.capture_scan.specs.declared.found.PassedOver.{PassedOver}
@@ -11,7 +12,7 @@ use Rattle.capture_scan.specs.report.Draft.{height_of, is_height_guessed}
 
 -- 239.0.0.1, port 50000
 abbrev pub group : Target
-group = record { address = 0xef000001; port = 50000 }
+group = record { address = ipv4 239 0 0 1; port = 50000 }
 
 -- no frame without a target
 abbrev pub none_passed : PassedOver
@@ -93,7 +94,7 @@ stream_of_478 = record plain_stream {
 -- a stream of audio to the next port; a line header doesn't fit raw video
 abbrev pub stream_of_audio : Stream
 stream_of_audio = record plain_stream {
-  target = record { address = 0xef000001; port = 50001 };
+  target = record { address = ipv4 239 0 0 1; port = 50001 };
   pace = Some (pace_with 1 1 48 48 1920 40);
   lines = Some (record { greatest = 22253; second_field = true; fits = false });
 }

@@ -39,7 +39,7 @@ HaveOwnTargets (v ∷ rest) = (has_target v.target rest ≡ false) × HaveOwnTar
 -- the values of a video are in the ranges of an SDP: address, port and payload type, sizes of 1 to 32,767, and a rate
 -- above 0 and at most 240 frames per second, as a fraction with a denominator of 1 to 1001
 pub record IsDrafted (v : DraftVideo) : Type 0 where
-  pub address : v.target.address < 2 ^ 32
+  pub address : v.target.address.bits < 2 ^ 32
   pub port_some : 1 ≤ v.target.port
   pub port : v.target.port ≤ 65535
   pub pt : v.pt ≤ 127
@@ -54,6 +54,6 @@ pub record IsDrafted (v : DraftVideo) : Type 0 where
 
 -- the address, port and payload type of a stream have 32, 16 and 7 bits, as in a packet
 pub record HasBits (s : Stream) : Type 0 where
-  pub address : s.target.address < 2 ^ 32
+  pub address : s.target.address.bits < 2 ^ 32
   pub port : s.target.port < 2 ^ 16
   pub pt : s.pt < 2 ^ 7

@@ -8,7 +8,7 @@ use crate::report::rate::{Ratio, is_known};
 use crate::{Lines, Pace, Stream};
 use std::alloc::{AllocError as OutOfMemory, Global};
 use std::fmt;
-use timing_base::Target;
+use timing_base::{Address, Target};
 
 /// The values of a video that are guesses. The width always is one, since no packet contains it.
 #[derive(Clone, Copy)]
@@ -220,7 +220,7 @@ fn has_target(target: Target, videos: &[DraftVideo]) -> bool
     ensures { result ≡ has_target target videos.now }
 {
     for video in videos {
-        if video.target.address == target.address && video.target.port == target.port {
+        if video.target == target {
             return true;
         }
     }
@@ -269,21 +269,21 @@ impl Draft {
 /// An address of a line `c=`, with `/32` as the TTL if it is a multicast address.
 #[derive(Clone, Copy)]
 struct ConnectionText {
-    address: u32,
+    address: Address,
 }
 
 impl fmt::Display for ConnectionText {
     ghost use Rattle.std.specs.Prelude.{Some};
-    ghost use Rattle.capture_scan.specs.report.Draft.{octets_text};
+    ghost use Rattle.capture_scan.specs.report.Draft.{connection_address};
 
-    ghost output = { λ text. Some (octets_text text.address) };
+    ghost output = { λ text. Some (connection_address text.address) };
 
     fn fmt<W: fmt::Write>(&self, f: &mut fmt::Formatter<W>) -> fmt::Result {
-        let [a, b, c, d] = self.address.to_be_bytes();
-        if 224 <= a && a < 240 {
-            write!(f, "{a}.{b}.{c}.{d}/32")
+        let [first, ..] = self.address.octets();
+        if 224 <= first && first < 240 {
+            write!(f, "{}/32", self.address)
         } else {
-            write!(f, "{a}.{b}.{c}.{d}")
+            write!(f, "{}", self.address)
         }
     }
 }

@@ -2,7 +2,7 @@
 
 use super::compare::same;
 use std::alloc::Global;
-use timing_base::{FlowKey, Items, Row, Run, RunVerdict, Runs, Target, Verdict, route};
+use timing_base::{Address, FlowKey, Items, Row, Run, RunVerdict, Runs, Target, Verdict, route};
 
 const FLOW: FlowKey = FlowKey { file: 2, media: 1 };
 
@@ -27,7 +27,7 @@ fn flows_are_dealt_out_in_order(rt: HostRuntime) {
 #[test]
 fn target_is_written_in_octets(rt: HostRuntime) {
     let target = Target {
-        address: 0xef00_0001,
+        address: Address::new(239, 0, 0, 1),
         port: 50000,
     };
     let text = format!(in rt.alloc(); "{target}").expect(&rt, "there is memory");

@@ -9,7 +9,7 @@ use sdp_reader::{SdpCause, SdpError, SdpFault, read_sdp};
 use std::alloc::{AllocError, Global};
 use std::process::Abort;
 use timing_base::worked::PLAIN;
-use timing_base::{Kind, Media};
+use timing_base::{Address, Kind, Media};
 
 // The plain SDP: lines 1 to 4, 5, 6, 7, three parts of line 8, and the lines 9 and 10 behind its end.
 const SESSION: &str = "v=0\no=- 1 1 IN IP4 192.0.2.1\ns=test\nt=0 0\n";
@@ -40,7 +40,7 @@ const PAIR_END: &str =
     "\na=mid:a\nm=video 50000 RTP/AVP 96\nc=IN IP4 239.0.1.1/32\na=rtpmap:96 raw/90000\na=fmtp:96 width=1280; height=720; exactframerate=60000/1001; TP=2110TPNL;\na=mid:b\n";
 
 // A video of payload type 96 at 60,000 / 1,001 frames per second, without TROFF and CMAX.
-fn video(line: u32, address: u32, port: u16, size: (u32, u32), declared: Kind) -> Media
+fn video(line: u32, address: Address, port: u16, size: (u32, u32), declared: Kind) -> Media
     requires port { 1 ≤ port }
     requires width_some { 1 ≤ size.0 }
     requires width_most { size.0 ≤ 32767 }
@@ -175,8 +175,8 @@ fn sdp_same_target(rt: HostRuntime) -> Result<(), AllocError> {
 
 #[test]
 fn sdp_dup_pair(rt: HostRuntime) -> Result<(), AllocError> {
-    let first = video(7, 0xef00_0001, 50_000, (1280, 720), Kind::NL);
-    let second = video(11, 0xef00_0101, 50_000, (1280, 720), Kind::NL);
+    let first = video(7, Address::new(239, 0, 0, 1), 50_000, (1280, 720), Kind::NL);
+    let second = video(11, Address::new(239, 0, 1, 1), 50_000, (1280, 720), Kind::NL);
     assert_joined_media(&rt, rt.alloc(), &[PAIR, PAIR_END], &[first, second])?;
     assert_extended(&rt, rt.alloc(), &[PAIR, "MAXUDP=8960;", PAIR_END])
 }
@@ -648,7 +648,7 @@ fn interlaced_with_all_parameters(rt: HostRuntime) {
         "v=0\nc=IN IP4 239.0.0.1\nm=video 5000 RTP/AVP 96\na=rtpmap:96 raw/90000\na=fmtp:96 interlace; width=1920; height=1080; exactframerate=30000/1001; tp=2110TPNL; troff=25; cmax=7; MAXUDP=1460\n";
     let want = Media {
         line: 3,
-        address: 0xef00_0001,
+        address: Address::new(239, 0, 0, 1),
         port: 5000,
         pt: 96,
         width: 1920,
@@ -676,6 +676,6 @@ fn of_ffmpeg(rt: HostRuntime) {
 fn of_gstreamer(rt: HostRuntime) {
     let text =
         "v=0\no=- 123456 11 IN IP4 192.0.2.1\ns=gst 640x480 59.94\nt=0 0\na=recvonly\nm=video 20000 RTP/AVP 96\nc=IN IP4 239.0.0.7/32\na=source-filter: incl IN IP4 239.0.0.7 192.0.2.1\na=rtpmap:96 raw/90000\na=fmtp:96 sampling=YCbCr-4:2:2; width=640; height=480; exactframerate=60000/1001; depth=8; TCS=SDR; colorimetry=BT709; PM=2110GPM; SSN=ST2110-20:2017; TP=2110TPW; \na=mediaclk:direct=0\na=ts-refclk:localmac=02-00-00-00-00-01\n";
-    let want = video(6, 0xef00_0007, 20_000, (640, 480), Kind::W);
+    let want = video(6, Address::new(239, 0, 0, 7), 20_000, (640, 480), Kind::W);
     assert_media(&rt, rt.alloc(), text, &[want]);
 }

@@ -1,5 +1,6 @@
 -- The reading of a flow that is kept while it is judged.
-use Rattle.std.specs.Prelude.{◌≡◌, ◌≤◌, ◌+◌, ◌^◌, ℕ, Bool, if◌then◌else◌, List, [], ◌∷◌, ◌++◌, All, Option, None, is_some}
+use Rattle.std.specs.Prelude.{◌≡◌, ◌≤◌, ◌+◌, ◌^◌, ℕ, Bool, if◌then◌else◌, List, [], ◌∷◌, ◌++◌, All, Option, None}
+use Rattle.std.specs.Prelude.{is_some}
 use Rattle.std.specs.List.{cons_option}
 use Rattle.std.proofs.Common.{arith, sym, subst, append-nil, append_assoc, ap, ◌∙◌}
 use Rattle.std.proofs.lemmas.List.Elements.{filter-append, filter_map-append}
@@ -112,4 +113,5 @@ pub record IsRead (m : Media) (tai : ℕ) (list : Bool) (f : KeptFlow) : Type 0 
 -- the answer of `shape` is that for the flow of this media in some packet records
 pub record AnswersSome (job : ShapeJob) (m : Media) (answer : Answer) : Type 0 where
   pub items : List Record
-  pub on_run : OnRun m (HasShape job.list job.flow.tai job.kind m items) (judged (flow items m) m.pt job.flow.tai) answer
+  pub on_run : OnRun m (HasShape job.list job.flow.tai job.kind m items)
+      (judged (flow items m) m.pt job.flow.tai) answer

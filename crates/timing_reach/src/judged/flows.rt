@@ -9,13 +9,12 @@ ghost use Rattle.pcapng_reader.specs.Classic.{classic_texts};
 ghost use Rattle.timing_steps.specs.Answers.{OnReadFault};
 ghost use Rattle.timing_reach.specs.judged.Flows.{TakesIn};
 
-use timing_steps::take_capture;
-use timing_steps::Failure;
 use flow_demux::{FlowTaker, MediaFlow};
 use std::alloc::Global;
 use timing_base::Media;
 use timing_outside::Shelf;
 use timing_report::Input;
+use timing_steps::{Failure, take_capture};
 
 /// Opens the one capture of a job, gives the taker the flow of a media in it, and gives the source back to the shelf.
 pub fn take_flow<H: Shelf, F: FlowTaker>(

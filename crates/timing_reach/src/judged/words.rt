@@ -3,10 +3,10 @@
 ghost use Rattle.std.specs.Prelude.{◌≡◌, IfOk};
 ghost use Rattle.timing_reach.specs.Asked.{not_judged};
 
-use timing_steps::Answer;
 use std::alloc::{AllocError as OutOfMemory, Global};
 use timing_base::{Media, Verdict};
 use timing_report::{Status, verdict_of};
+use timing_steps::Answer;
 
 /// Returns the answer for a flow that isn't judged in one run. Returns `Err` if memory runs out.
 pub fn not_judged(alloc: Global, media: &Media, verdict: &Verdict) -> Result<Answer, OutOfMemory>

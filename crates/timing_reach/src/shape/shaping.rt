@@ -14,11 +14,11 @@ use crate::shape::kept::Kept;
 use crate::shape::leaver::Leaver;
 use crate::shape::walk::Walk;
 use crate::shape::words::not_shaped;
-use timing_steps::Answer;
 use flow_shaper::Late;
 use std::alloc::{AllocError as OutOfMemory, Global};
 use timing_base::{Judged, Kind, Media};
 use timing_report::Status;
+use timing_steps::Answer;
 
 /// Returns the answer with the list of the delayed packets. `stamps` are the capture timestamps of the judged packets
 /// in nanoseconds, as they stand in the capture.

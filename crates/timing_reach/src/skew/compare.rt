@@ -11,13 +11,13 @@ ghost use Rattle.timing_reach.specs.skew.Comparing.{ComparesNext, IsComparedIn};
 ghost use Rattle.timing_reach.specs.skew.Pairs.{pair_given};
 
 use crate::skew::pairing::Pairing;
-use timing_steps::{Failure, fetch_captures, give_back, take_source};
 use path_skew::SkewRow;
 use pcapng_reader::Classic;
 use std::alloc::Global;
 use timing_base::{FileNote, Media, SkewJob};
 use timing_outside::{Shelf, Source};
 use timing_report::Input;
+use timing_steps::{Failure, fetch_captures, give_back, take_source};
 
 /// The result of comparing two flows in the captures of a job.
 #[derive(Drop)]

@@ -1,6 +1,6 @@
 -- A draft has no fault, its parts are its videos, and what is read of them is what they were written from.
 use Rattle.std.proofs.Common.{◌≡◌, ◌∙◌, ℕ, ◌+◌, ◌*◌, ◌/◌, ◌%◌, ◌^◌, ◌<◌, ◌≤◌, Bool, true, false, ◌==◌, ◌&&◌, ◌||◌, List, [], ◌∷◌, ◌++◌, length, map}
-use Rattle.std.proofs.Common.{refl, sym, ap, ap₂, arith, codes}
+use Rattle.std.proofs.Common.{refl, sym, ap, ap₂, arith, codes, subst}
 use Rattle.std.proofs.Common.{Some, None, Option, Ok, Err, length-append}
 use Rattle.std.specs.Prelude.{All, if◌then◌else◌, not, nat_lt, nat_le, is_some, is_none}
 use Rattle.std.specs.Char.{is_ascii_lowercase}
@@ -14,6 +14,8 @@ use Rattle.sdp_reader.specs.Fault.{least}
 use Rattle.sdp_reader.specs.Lines.{TextLine, at, is_bad_line, is_bad_media, is_video, is_well_begun, line_faults, lines}
 use Rattle.std.specs.Option.{option_and_then, option_map}
 use Rattle.timing_base.specs.Media.{Media}
+use Rattle.timing_base.specs.Targets.{is_same_target}
+use Rattle.timing_base.specs.declared.address.Address.{Address}
 use Rattle.timing_base.specs.declared.target.Target.{Target}
 use Rattle.sdp_reader.proofs.Items.{filter_map-cons}
 use Rattle.sdp_reader.specs.Parameters.{Item, at_most_one, item_faults, repeated_faults, unless, value_rate, value_size}
@@ -26,7 +28,7 @@ use Rattle.sdp_reader.specs.declared.fault.SdpCause.TheVariants.{BadAddress, Bad
 use Rattle.sdp_reader.specs.declared.fault.SdpCause.TheVariants.{SameTarget, TooLarge}
 use Rattle.sdp_reader.specs.declared.fault.SdpFault.{SdpFault}
 use Rattle.capture_scan.specs.report.Draft.{connection_line, draft_text, guess_line, has_target, interlace_text, is_multicast, map_line, media_line}
-use Rattle.capture_scan.specs.report.Draft.{octets_text}
+use Rattle.capture_scan.specs.report.Draft.{connection_address}
 use Rattle.capture_scan.specs.report.Draft.{parameter_line, session_text, video_text}
 use Rattle.capture_scan.specs.report.Rates.{ratio_text}
 use Rattle.capture_scan.specs.report.ReadBack.{HaveOwnTargets, IsDrafted, media_at, media_from, media_of}
@@ -34,11 +36,11 @@ use Rattle.capture_scan.specs.declared.report.draft.DraftVideo.{DraftVideo}
 use Rattle.capture_scan.specs.declared.report.rate.Ratio.{Ratio}
 use Rattle.capture_scan.proofs.lemmas.report.Cutting.{both_true}
 use Rattle.capture_scan.proofs.lemmas.report.Decimals.{at_most}
-use Rattle.capture_scan.proofs.lemmas.report.DraftLines.{IsLimited, body_lines, connection_text, ends-guess, guess_piece, inner-parameter, is_inner, limited-of}
+use Rattle.capture_scan.proofs.lemmas.report.DraftLines.{IsLimited, address-then, body_lines, connection_text, ends-guess, guess_piece, inner-parameter, is_inner, limited-of}
 use Rattle.capture_scan.proofs.lemmas.report.DraftLines.{line_at, lines-draft, list_text, map_text}
 use Rattle.capture_scan.proofs.lemmas.report.DraftLines.{media_text}
-use Rattle.capture_scan.proofs.lemmas.report.DraftLines.{others_text, parameter_text, reads-connection, reads-guess, reads-map, reads-media, session_lines}
-use Rattle.capture_scan.proofs.lemmas.report.DraftLines.{video_lines}
+use Rattle.capture_scan.proofs.lemmas.report.DraftLines.{octets_then, others_text, parameter_text, reads-connection, reads-guess, reads-map, reads-media, session_lines}
+use Rattle.capture_scan.proofs.lemmas.report.DraftLines.{ttl_text, video_lines}
 use Rattle.capture_scan.proofs.lemmas.report.DraftParts.{ExactFrameRate, Given, Height, Interlace, Rate, Video, Width, fields_text, interlace_items, item_with}
 use Rattle.capture_scan.proofs.lemmas.report.DraftParts.{items_found, parameters-are, rate_found, read-address, read-video}
 use Rattle.capture_scan.proofs.lemmas.report.DraftParts.{reads-raw, value-height, value-ratio, value-width, video_found}
@@ -166,7 +168,7 @@ videos-clean n (v ∷ rest) are =
     (line-clean n (media_text v) (reads-media v d).inner (begun 109 (fields_text v) refl) (media-good n v d))
     (line-clean (n + 1) (guess_piece v) (reads-guess v).inner
     (begun 105 (codes "guessed: width" ++ others_text v.guesses.height v.guesses.rate v.guesses.lines) refl) refl)
-    (line-clean (n + 2) (connection_text v) (reads-connection v d).inner (begun 99 (codes "IN IP4 " ++ octets_text v.target.address) refl) refl)
+    (line-clean (n + 2) (connection_text v) (reads-connection v d).inner (begun 99 (codes "IN IP4 " ++ connection_address v.target.address) refl) refl)
     (line-clean (n + 3) (map_text v) (reads-map v d).inner (begun 97 (codes "rtpmap:" ++ (decimal v.pt ++ codes " raw/90000")) refl) refl)
     (line-clean (n + 4) (parameter_text v) (inner-parameter v d) (begun 97 (codes "fmtp:" ++ (decimal v.pt ++ (codes " " ++ list_text v))) refl) refl)
     (videos-clean (n + 5) rest (All-tail IsDrafted v rest are))
@@ -224,7 +226,7 @@ destinations n (v ∷ rest) = to n v ∷ destinations (n + 5) rest
 
 destination-is : (n : ℕ) (v : DraftVideo) → IsDrafted v → destination_of (raw_found n v) ≡ to n v
 destination-is n v d =
-    ap (λ (a : Option ℕ). to_target n (target_at a v.target.port)) (read-address (n + 2) v.target.address d.address)
+    ap (λ (a : Option Address). to_target n (target_at a v.target.port)) (read-address (n + 2) v.target.address d.address)
 
 destinations-are : (n : ℕ) (videos : List DraftVideo) → All IsDrafted videos → map destination_of (raws_found n videos) ≡ destinations n videos
 destinations-are n [] are = refl
@@ -239,8 +241,8 @@ none-later : (line n : ℕ) (v : DraftVideo) (videos : List DraftVideo) → has_
     → flat_map (λ later. at (later.line) SameTarget (have_one_target (to line v) later)) (destinations n videos) ≡ []
 none-later line n v [] h = refl
 none-later line n v (w ∷ rest) h =
-    let o = or_false ((w.target.address == v.target.address) && (w.target.port == v.target.port)) (has_target v.target rest) h in
-    let turned = ap₂ (λ (a b : Bool). a && b) (same-turned v.target.address w.target.address) (same-turned v.target.port w.target.port) in
+    let o = or_false (is_same_target w.target v.target) (has_target v.target rest) h in
+    let turned = ap₂ (λ (a b : Bool). a && b) (same-turned v.target.address.bits w.target.address.bits) (same-turned v.target.port w.target.port) in
     ap₂ (λ (a : Bool) (b : List SdpFault). at n SameTarget a ++ b) (turned ∙ o.0) (none-later line (n + 5) v rest o.1)
 
 targets-clean : (n : ℕ) (videos : List DraftVideo) → HaveOwnTargets videos → target_faults (destinations n videos) ≡ []
@@ -270,18 +272,18 @@ faults-none videos are own few =
 -- ---- media
 
 -- the media that these three items lead to
-abbrev media_by : ℕ → Video → List Item → ℕ → Option ℕ → Option ℕ → Option Rate → Option Media
+abbrev media_by : ℕ → Video → List Item → Address → Option ℕ → Option ℕ → Option Rate → Option Media
 media_by n video items a width height rate =
     option_and_then (λ w. option_and_then (λ h. option_map (media_built n video items a w h) rate) height) width
 
-media-by : (n : ℕ) (video : Video) (items : List Item) (a width height : ℕ) (rate : Rate) (w h r : Item)
+media-by : (n : ℕ) (video : Video) (items : List Item) (a : Address) (width height : ℕ) (rate : Rate) (w h r : Item)
     → value_size w ≡ Some width → value_size h ≡ Some height → value_rate r ≡ Some rate
     → media_by n video items a (value_size w) (value_size h) (value_rate r) ≡ Some (media_built n video items a width height rate)
 media-by n video items a width height rate w h r ew eh er =
     ap₂ (λ (x y : Option ℕ). media_by n video items a x y (value_rate r)) ew eh
     ∙ ap (λ (z : Option Rate). media_by n video items a (Some width) (Some height) z) er
 
-media-with : (line n : ℕ) (video : Video) (w h r : List ℕ) (b : Bool) (a width height : ℕ) (rate : Rate)
+media-with : (line n : ℕ) (video : Video) (w h r : List ℕ) (b : Bool) (a : Address) (width height : ℕ) (rate : Rate)
     → value_size (item_with line Width w) ≡ Some width → value_size (item_with line Height h) ≡ Some height
     → value_rate (item_with line ExactFrameRate r) ≡ Some rate
     → media_found n video (Some a) (item_with line Width w ∷ item_with line Height h ∷ item_with line ExactFrameRate r ∷ interlace_items line b)
@@ -389,21 +391,25 @@ short-media v d =
     (omega arith)) (omega arith)) (omega arith))
     (omega arith)
 
-short-octets : (a : ℕ) → a < 2 ^ 32 → Short 60 (octets_text a)
-short-octets a small =
+short-octets : (a : ℕ) (b : Bool) → a < 2 ^ 32
+    → Short 60 (octets_then (a / 2 ^ 24) (a / 2 ^ 16 % 2 ^ 8) (a / 2 ^ 8 % 2 ^ 8) (a % 2 ^ 8) (if b then codes "/32" else codes ""))
+short-octets a b small =
     short-append 10 50 60 (decimal (a / 2 ^ 24)) _ (short-decimal (a / 2 ^ 24) (omega (arith, small)))
     (short-append 1 49 50 (codes ".") _ (omega arith)
     (short-append 10 39 49 (decimal (a / 2 ^ 16 % 2 ^ 8)) _ (short-decimal (a / 2 ^ 16 % 2 ^ 8) (omega arith))
     (short-append 1 38 39 (codes ".") _ (omega arith)
     (short-append 10 28 38 (decimal (a / 2 ^ 8 % 2 ^ 8)) _ (short-decimal (a / 2 ^ 8 % 2 ^ 8) (omega arith))
     (short-append 1 27 28 (codes ".") _ (omega arith)
-    (short-append 10 3 27 (decimal (a % 2 ^ 8)) _ (short-decimal (a % 2 ^ 8) (omega arith)) (short-ttl (is_multicast a)) (omega arith))
+    (short-append 10 3 27 (decimal (a % 2 ^ 8)) _ (short-decimal (a % 2 ^ 8) (omega arith)) (short-ttl b) (omega arith))
     (omega arith)) (omega arith)) (omega arith)) (omega arith)) (omega arith)) (omega arith)
+
+short-address : (a : Address) → a.bits < 2 ^ 32 → Short 60 (connection_address a)
+short-address a small = subst (Short 60) (sym (address-then a (ttl_text a))) (short-octets a.bits (is_multicast a) small)
 
 short-connection : (v : DraftVideo) → IsDrafted v → Short 80 (connection_line v)
 short-connection v d =
     short-append 9 61 80 (codes "c=IN IP4 ") _ (omega arith)
-    (short-append 60 1 61 (octets_text v.target.address) (codes "\n") (short-octets v.target.address d.address).most (record { most = omega arith })
+    (short-append 60 1 61 (connection_address v.target.address) (codes "\n") (short-address v.target.address d.address).most (record { most = omega arith })
     (omega arith))
     (omega arith)
 

@@ -1,6 +1,6 @@
 -- The lines of a draft.
 use Rattle.std.proofs.Common.{◌≡◌, ◌∙◌, ℕ, ◌+◌, ◌*◌, ◌/◌, ◌%◌, ◌^◌, ◌<◌, ◌≤◌, Bool, true, false, ◌==◌, ◌&&◌, ◌||◌, List, [], ◌∷◌, ◌++◌, length, refl}
-use Rattle.std.proofs.Common.{sym, ap, arith, append_assoc, codes, ap₂}
+use Rattle.std.proofs.Common.{sym, ap, arith, append_assoc, codes, ap₂, subst}
 use Rattle.std.specs.Prelude.{All, if◌then◌else◌, not}
 use Rattle.std.proofs.lemmas.List.Elements.{All-head, All-tail}
 use Rattle.std.specs.Fmt.{decimal}
@@ -9,8 +9,10 @@ use Rattle.std.proofs.lemmas.Fmt.{decimal_nonempty}
 use Rattle.sdp_reader.specs.Bytes.{is_blank, onto_trimmed, trim_end}
 use Rattle.sdp_reader.specs.Lines.{TextLine, lines, numbered, without_cr}
 use Rattle.sdp_reader.proofs.Numbering.{numbered-line}
+use Rattle.timing_base.specs.Addresses.{address_text}
+use Rattle.timing_base.specs.declared.address.Address.{Address}
 use Rattle.capture_scan.specs.report.Draft.{connection_line, draft_text, guess_line, guess_text, interlace_text, is_multicast, map_line, media_line}
-use Rattle.capture_scan.specs.report.Draft.{octets_text, parameter_line}
+use Rattle.capture_scan.specs.report.Draft.{connection_address, parameter_line}
 use Rattle.capture_scan.specs.report.Draft.{video_text}
 use Rattle.capture_scan.specs.report.Rates.{ratio_text}
 use Rattle.capture_scan.specs.report.ReadBack.{IsDrafted}
@@ -136,7 +138,7 @@ abbrev pub media_text : DraftVideo → List ℕ
 media_text v = codes "m=video " ++ (decimal v.target.port ++ (codes " RTP/AVP " ++ decimal v.pt))
 
 abbrev pub connection_text : DraftVideo → List ℕ
-connection_text v = codes "c=IN IP4 " ++ octets_text v.target.address
+connection_text v = codes "c=IN IP4 " ++ connection_address v.target.address
 
 abbrev pub map_text : DraftVideo → List ℕ
 map_text v = codes "a=rtpmap:" ++ (decimal v.pt ++ codes " raw/90000")
@@ -240,10 +242,32 @@ stays-ttl n false small =
     longer-front [] h = h
     longer-front (x ∷ xs) h = omega arith
 
-pub reads-connection : (v : DraftVideo) → IsDrafted v → Reads (connection_text v) (connection_text v)
-reads-connection v d =
-    let a = v.target.address in
-    let small : a < 2 ^ 32 = d.address in
+-- ---- the text of an address, octet by octet
+
+-- four octets and what follows them
+abbrev pub octets_then : (a b c d : ℕ) → List ℕ → List ℕ
+octets_then a b c d last =
+    decimal a ++ (codes "." ++ (decimal b ++ (codes "." ++ (decimal c ++ (codes "." ++ (decimal d ++ last))))))
+
+-- what follows an address
+abbrev pub ttl_text : Address → List ℕ
+ttl_text a = if is_multicast a then codes "/32" else codes ""
+
+dots-then : (a b c d last : List ℕ) → (a ++ 46 ∷ (b ++ 46 ∷ (c ++ 46 ∷ d))) ++ last ≡ a ++ 46 ∷ (b ++ 46 ∷ (c ++ 46 ∷ (d ++ last)))
+dots-then a b c d last =
+    append_assoc a (46 ∷ (b ++ 46 ∷ (c ++ 46 ∷ d))) last
+    ∙ ap (λ t. a ++ 46 ∷ t) (append_assoc b (46 ∷ (c ++ 46 ∷ d)) last ∙ ap (λ t. b ++ 46 ∷ t) (append_assoc c (46 ∷ d) last))
+
+pub address-then : (a : Address) (last : List ℕ)
+    → address_text a ++ last ≡ octets_then (a.bits / 2 ^ 24) (a.bits / 2 ^ 16 % 2 ^ 8) (a.bits / 2 ^ 8 % 2 ^ 8) (a.bits % 2 ^ 8) last
+address-then a last =
+    dots-then (decimal (a.bits / 2 ^ 24)) (decimal (a.bits / 2 ^ 16 % 2 ^ 8)) (decimal (a.bits / 2 ^ 8 % 2 ^ 8)) (decimal (a.bits % 2 ^ 8)) last
+
+reads-octets : (a : ℕ) (b : Bool) → a < 2 ^ 32 → (text : List ℕ)
+    → text ≡ codes "c=IN IP4 "
+    ++ octets_then (a / 2 ^ 24) (a / 2 ^ 16 % 2 ^ 8) (a / 2 ^ 8 % 2 ^ 8) (a % 2 ^ 8) (if b then codes "/32" else codes "") → Reads text text
+reads-octets a b small text is =
+    subst (λ t. Reads t t) (sym is)
     record {
       inner = (inner-then (codes "c=IN IP4 ") _ refl
           (inner-then (decimal (a / 2 ^ 24)) _ (inner-decimal (a / 2 ^ 24) (omega (arith, small)))
@@ -252,11 +276,16 @@ reads-connection v d =
           (inner-then (codes ".") _ refl
           (inner-then (decimal (a / 2 ^ 8 % 2 ^ 8)) _ (inner-decimal (a / 2 ^ 8 % 2 ^ 8) (omega arith))
           (inner-then (codes ".") _ refl
-          (inner-then (decimal (a % 2 ^ 8)) _ (inner-decimal (a % 2 ^ 8) (omega arith)) (record { all = inner-ttl (is_multicast a) }))))))))).all;
+          (inner-then (decimal (a % 2 ^ 8)) _ (inner-decimal (a % 2 ^ 8) (omega arith)) (record { all = inner-ttl b }))))))))).all;
       trimmed = (stays-after (codes "c=IN IP4 ") _ (stays-after (decimal (a / 2 ^ 24)) _ (stays-after (codes ".") _
           (stays-after (decimal (a / 2 ^ 16 % 2 ^ 8)) _ (stays-after (codes ".") _
-          (stays-after (decimal (a / 2 ^ 8 % 2 ^ 8)) _ (stays-after (codes ".") _ (stays-ttl (a % 2 ^ 8) (is_multicast a) (omega arith))))))))).same;
+          (stays-after (decimal (a / 2 ^ 8 % 2 ^ 8)) _ (stays-after (codes ".") _ (stays-ttl (a % 2 ^ 8) b (omega arith))))))))).same;
     }
+
+pub reads-connection : (v : DraftVideo) → IsDrafted v → Reads (connection_text v) (connection_text v)
+reads-connection v d =
+    reads-octets v.target.address.bits (is_multicast v.target.address) d.address (connection_text v)
+    (ap (λ t. codes "c=IN IP4 " ++ t) (address-then v.target.address (ttl_text v.target.address)))
 
 inner-interlace : (b : Bool) → list_all is_inner (codes "; " ++ interlace_text b) ≡ true
 inner-interlace true = refl

@@ -15,15 +15,17 @@ use Rattle.sdp_reader.proofs.Items.{filter_map-cons}
 use Rattle.sdp_reader.specs.Parameters.{Item, is_the, item_at, item_of, items_of, list_of, named, parameters, rate_at, rate_of, table_name}
 use Rattle.sdp_reader.specs.Parameters.{value_rate, value_size}
 use Rattle.sdp_reader.specs.Parts.{address_at, address_from, RawPart, address_of, dotted, is_raw_map, is_ttl, octet}
-use Rattle.capture_scan.specs.report.Draft.{is_multicast, octets_text}
+use Rattle.timing_base.specs.Addresses.{ipv4}
+use Rattle.timing_base.specs.declared.address.Address.{Address}
+use Rattle.capture_scan.specs.report.Draft.{is_multicast, connection_address}
 use Rattle.capture_scan.specs.report.Rates.{ratio_text}
 use Rattle.capture_scan.specs.report.ReadBack.{IsDrafted}
 use Rattle.capture_scan.specs.declared.report.draft.DraftVideo.{DraftVideo}
 use Rattle.capture_scan.specs.declared.report.rate.Ratio.{Ratio}
 use Rattle.capture_scan.proofs.lemmas.report.Cutting.{after-at, all-append, before-at, before-lacks, holds-at, holds-lacks, lacks, split-at}
 use Rattle.capture_scan.proofs.lemmas.report.Decimals.{above-digits, at_most, below-digits, read-digits, read-number, read-within, within-is}
-use Rattle.capture_scan.proofs.lemmas.report.DraftLines.{IsLimited, Stays, body_lines, limited-of, list_text, parameter_text, map_text, stays-after}
-use Rattle.capture_scan.proofs.lemmas.report.DraftLines.{stays-decimal, tail_text}
+use Rattle.capture_scan.proofs.lemmas.report.DraftLines.{IsLimited, Stays, address-then, body_lines, limited-of, list_text, parameter_text, map_text, stays-after}
+use Rattle.capture_scan.proofs.lemmas.report.DraftLines.{stays-decimal, tail_text, ttl_text}
 
 -- ---- types of the reader, by the definitions that give them
 
@@ -143,7 +145,7 @@ last-octet n false small =
 
 dots : (a b c d : ℕ) (ttl : Bool) → a < 256 → b < 256 → c < 256 → d < 256
     → address_at (decimal a ++ (codes "." ++ (decimal b ++ (codes "." ++ (decimal c ++ (codes "." ++ last_text d ttl))))))
-    ≡ Some (a * 16777216 + b * 65536 + c * 256 + d)
+    ≡ Some (ipv4 a b c d)
 dots a b c d ttl sa sb sc sd =
     let la = below-digits 46 a (omega arith) (omega (arith, sa)) in
     let lb = below-digits 46 b (omega arith) (omega (arith, sb)) in
@@ -168,16 +170,19 @@ dots a b c d ttl sa sb sc sd =
         ∙ ap₂ (λ (x y : List ℕ). dotted a b x y) (ap (before 46) to_third ∙ a3) (ap (after 46) to_third ∙ r3)
 
     four-octets : (x y z last : List ℕ) → octet x ≡ Some a → octet y ≡ Some b → octet z ≡ Some c → is_ttl last ≡ true → octet (before 47 last) ≡ Some d
-        → dotted x y z last ≡ Some (a * 16777216 + b * 65536 + c * 256 + d)
+        → dotted x y z last ≡ Some (ipv4 a b c d)
     four-octets x y z last ea eb ec et ed =
         ap (λ (t : Bool). if t then address_from (octet x) (octet y) (octet z) (octet (before 47 last)) else None) et
         ∙ ap₂ (λ (p q : Option ℕ). address_from p q (octet z) (octet (before 47 last))) ea eb
         ∙ ap₂ (λ (p q : Option ℕ). address_from (Some a) (Some b) p q) ec ed
 
-pub read-address : (n : ℕ) (address : ℕ) → address < 2 ^ 32 → address_of (record { number = n; text = codes "c=IN IP4 " ++ octets_text address }) ≡ Some address
+pub read-address : (n : ℕ) (address : Address) → address.bits < 2 ^ 32
+    → address_of (record { number = n; text = codes "c=IN IP4 " ++ connection_address address }) ≡ Some address
 read-address n a small =
-    dots (a / 2 ^ 24) (a / 2 ^ 16 % 2 ^ 8) (a / 2 ^ 8 % 2 ^ 8) (a % 2 ^ 8) (is_multicast a) (omega (arith, small)) (omega arith) (omega arith) (omega arith)
-    ∙ ap Some (together a small)
+    ap address_at (address-then a (ttl_text a))
+    ∙ dots (a.bits / 2 ^ 24) (a.bits / 2 ^ 16 % 2 ^ 8) (a.bits / 2 ^ 8 % 2 ^ 8) (a.bits % 2 ^ 8) (is_multicast a) (omega (arith, small)) (omega arith)
+    (omega arith) (omega arith)
+    ∙ (λ i. Some (record { bits = together a.bits small i }))
   where
     together : (x : ℕ) → x < 2 ^ 32 → x / 2 ^ 24 * 16777216 + x / 2 ^ 16 % 2 ^ 8 * 65536 + x / 2 ^ 8 % 2 ^ 8 * 256 + x % 2 ^ 8 ≡ x
     together x h =

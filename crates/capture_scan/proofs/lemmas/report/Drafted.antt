@@ -5,6 +5,7 @@ use Rattle.std.specs.Prelude.{⊤, All, fold, if◌then◌else◌, max, min, nat
 use Rattle.std.proofs.lemmas.List.{length_push}
 use Rattle.std.proofs.lemmas.List.Elements.{All-cons, All-head, All-nil, All-tail}
 use Rattle.std.proofs.lemmas.Bool.Decides.{nat_tests}
+use Rattle.timing_base.specs.Targets.{is_same_target}
 use Rattle.capture_scan.specs.declared.stream.Lines.{Lines}
 use Rattle.capture_scan.specs.declared.stream.Pace.{Pace}
 use Rattle.capture_scan.specs.declared.stream.Rate.{Rate}
@@ -185,17 +186,17 @@ same-turned : (a b : ℕ) → (a == b) ≡ (b == a)
 same-turned a b = grind (arith, nat_tests)
 
 target-push : (v w : DraftVideo) (rest : List DraftVideo) → has_target w.target rest ≡ false
-    → ((v.target.address == w.target.address) && (v.target.port == w.target.port)) ≡ false → has_target w.target (rest ++ v ∷ []) ≡ false
+    → is_same_target v.target w.target ≡ false → has_target w.target (rest ++ v ∷ []) ≡ false
 target-push v w [] h k = ap (λ b. b || false) k
 target-push v w (u ∷ rest) h k =
-    let o = or_false ((u.target.address == w.target.address) && (u.target.port == w.target.port)) (has_target w.target rest) h in
+    let o = or_false (is_same_target u.target w.target) (has_target w.target rest) h in
     ap₂ (λ a b. a || b) o.0 (target-push v w rest o.1 k)
 
 own-push : (v : DraftVideo) (videos : List DraftVideo) → HaveOwnTargets videos → has_target v.target videos ≡ false → HaveOwnTargets (videos ++ v ∷ [])
 own-push v [] own h = (refl, tt)
 own-push v (w ∷ rest) own h =
-    let o = or_false ((w.target.address == v.target.address) && (w.target.port == v.target.port)) (has_target v.target rest) h in
-    let turned = ap₂ (λ a b. a && b) (same-turned v.target.address w.target.address) (same-turned v.target.port w.target.port) in
+    let o = or_false (is_same_target w.target v.target) (has_target v.target rest) h in
+    let turned = ap₂ (λ a b. a && b) (same-turned v.target.address.bits w.target.address.bits) (same-turned v.target.port w.target.port) in
     (target-push v w rest own.0 (turned ∙ o.0), own-push v rest own.1 o.1)
 
 -- ---- one stream more

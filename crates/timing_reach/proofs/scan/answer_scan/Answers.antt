@@ -19,4 +19,5 @@ returns-clause-follows g c =
 pub returns-clause-cause : goal.returns-clause-cause
 returns-clause-cause g c =
     let i = seen_of g.H.Shelf c.args.shelf.now c.read_capture.new.shelf in
-    scan-cause i c.args.job.now c.answer_scanned.result c.answer_scanned.ensures.answered (captures-cause c.answer_scanned.result _ c.answer_scanned.ensures.cause)
+    scan-cause i c.args.job.now c.answer_scanned.result c.answer_scanned.ensures.answered
+    (captures-cause c.answer_scanned.result _ c.answer_scanned.ensures.cause)

@@ -1,13 +1,15 @@
-use Rattle.std.proofs.Common.{refl}
+use Rattle.std.proofs.Common.{refl, rules, Some, ◌≡◌}
+use Rattle.std.specs.Prelude.{slice_get}
 use Rattle.timing_steps.specs.Answers.{seen_of}
-use Rattle.timing_steps.proofs.Capturing.{only-capture, reads-one}
+use Rattle.timing_steps.proofs.Capturing.{reads-one}
 use Rattle.timing_reach.specs.Windows.{window_query}
 use Rattle.timing_reach.proofs.Windowing.{has-window}
 use Rattle.timing_reach.proofs.window.answer_window.Goals as goal
 
 pub returns-clause-follows : goal.returns-clause-follows
 returns-clause-follows g c =
+    let found : slice_get c.args.session.now c.args.job.now.media ≡ Some c.media_of-media.result.now = search rules in
     reads-one (window_query c.args.job.now) c.args.session.now (seen_of g.H.Shelf c.args.shelf.now c.measure.new.shelf) c.args.job.now.capture _ refl
     c.in_ok-measured.ensures.there
     (λ text t. has-window c.args.job.now c.args.session.now c.media_of-media.result.now text c.in_ok-measured.measured c.in_ok-told_of.field-0
-    c.media_of-media.ensures c.in_ok-told_of.ensures.answers (c.in_ok-measured.ensures.told text t)) tt
+    found c.in_ok-told_of.ensures.answers (c.in_ok-measured.ensures.told text t)) tt

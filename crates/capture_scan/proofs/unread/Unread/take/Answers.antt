@@ -3,7 +3,7 @@ use Rattle.std.specs.Map.{values_of}
 use Rattle.std.proofs.lemmas.List.{length_push}
 use Rattle.std.proofs.lemmas.List.Elements.{All-weaker}
 use Rattle.capture_scan.proofs.Entries.{all-at, all-set, have-written, key-same, targets_apart}
-use Rattle.capture_scan.specs.Scans.{most_told, target_key}
+use Rattle.capture_scan.specs.Scans.{most_told}
 use Rattle.capture_scan.proofs.unread.Unread.take.Goals as goal
 
 -- no target has more packets than were taken
@@ -25,7 +25,7 @@ invariant_of-self-in-Some c =
 -- the count of the target goes on
 pub returns-in-Some-clause-stands : goal.returns-in-Some-clause-stands
 returns-in-Some-clause-stands c = λ ts s.
-    have-written targets_apart target_key most_told (λ n items. n ≡ length items) c.args.self.now.counts c.args.self.now.more ts c.args.target s
+    have-written targets_apart (λ t. t) most_told (λ n items. n ≡ length items) c.args.self.now.counts c.args.self.now.more ts c.args.target s
     c.in-Some.place _ c.pair_mut-count.result.1.now (c.pair_mut-count.result.1.now + 1) c.pair_mut-count.ensures.unique c.pair_mut-count.ensures.value
-    (key-same _ _ _ _ _ c.pair_mut-count.ensures.value c.in-Some.ensures.some.1 ∙ c.of-key.ensures)
+    (key-same _ _ _ _ _ c.pair_mut-count.ensures.value c.in-Some.ensures.some.1)
     (λ items e. ap (λ (n : ℕ). n + 1) e ∙ sym (length_push items c.args.target))
