@@ -36,14 +36,14 @@ pub returns-in_err-sources-clause-stays : goal.returns-in_err-sources-clause-sta
 returns-in_err-sources-clause-stays g c = c.fetch_captures.ensures.stays
 
 pub read_each-requires-clause-few : goal.read_each-requires-clause-few
-read_each-requires-clause-few g c κs within =
+read_each-requires-clause-few g c =
     let long = fetched-length (name_of g.H.Source.Source.name) (left_of g.H.Source.Source.left) (faults_of g.H.Source.Source.faults)
     (classic_texts (g.H.Shelf.text c.args.shelf.now)) c.as_slice.result.now c.in_ok-sources.sources.items
     c.in_ok-sources.ensures.fetched in
     omega (arith, long, ap length c.as_slice.ensures, c.job.invariant.few)
 
 pub read_each-requires-clause-fresh : goal.read_each-requires-clause-fresh
-read_each-requires-clause-fresh g c κs within =
+read_each-requires-clause-fresh g c =
     fetched-fresh (name_of g.H.Source.Source.name) (left_of g.H.Source.Source.left) (faults_of g.H.Source.Source.faults)
     (classic_texts (g.H.Shelf.text c.args.shelf.now)) c.as_slice.result.now c.in_ok-sources.sources.items
     c.in_ok-sources.ensures.fetched
