@@ -6,9 +6,10 @@ ghost use Rattle.timing_report.specs.declared.json_report.reading.ReportProof.{R
 ghost use Rattle.timing_outside.specs.Causes.{Rose};
 ghost use Rattle.timing_outside.specs.Shelves.{StaysAs};
 ghost use Rattle.timing_steps.specs.Answers.{Gives, OnReadFault, Yields, seen_of};
-ghost use Rattle.timing_steps.specs.Ends.{EndsWith, HasStatus, report_ends};
+ghost use Rattle.timing_steps.specs.Ends.{EndsWith, HasStatus};
 ghost use Rattle.timing_steps.specs.Ran.{HasCause, Ran, output_of};
 ghost use Rattle.timing_top.specs.verify.Asked.{FollowsReport, HasReported, ReadsNeeded, ReadsReport, ReportInputRose};
+ghost use Rattle.timing_top.specs.verify.Verified.{report_ends};
 
 use crate::verify::needs::check_each;
 use crate::verify::words::reported;
