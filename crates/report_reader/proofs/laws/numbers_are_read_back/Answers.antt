@@ -1,0 +1,6 @@
+use Rattle.report_reader.proofs.Lines
+use Rattle.std.proofs.Common.{refl}
+use Rattle.report_reader.proofs.laws.numbers_are_read_back.Goals as goal
+
+pub returns : goal.returns
+returns c = λ n. refl

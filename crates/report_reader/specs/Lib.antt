@@ -1,0 +1,5 @@
+-- the definitions that the public clauses cite
+pub mod Told
+pub mod Pieces
+pub mod Reading
+pub mod Words

@@ -1,0 +1,59 @@
+-- The numbers of results that a report tells, as the analyser bounds them: each has 64 bits.
+use Rattle.std.specs.Prelude.{◌≡◌, ◌<◌, ◌^◌, ℕ, ⊤, true, List, All}
+use Rattle.timing_base.specs.Media.{Media, IsMedia}
+use Rattle.timing_base.specs.Name.{is_file_name}
+use Rattle.timing_base.specs.declared.capture.FileNote.{FileNote}
+use Rattle.timing_base.specs.declared.capture.FileNote.TheVariants as note
+use Rattle.timing_base.specs.declared.capture.PcapFault.{PcapFault}
+use Rattle.timing_base.specs.declared.capture.PcapFault.TheVariants as pcap
+use Rattle.timing_base.specs.declared.packet.PacketFault.{PacketFault}
+use Rattle.timing_base.specs.declared.packet.PacketFault.TheVariants as packet
+use Rattle.timing_base.specs.declared.row.Row.{Row}
+use Rattle.timing_base.specs.declared.row.Unjudged.{Unjudged}
+use Rattle.timing_base.specs.declared.row.Unjudged.TheVariants as unjudged
+use Rattle.timing_base.specs.declared.row.Verdict.{Verdict}
+use Rattle.timing_base.specs.declared.row.Verdict.TheVariants as verdict
+use Rattle.timing_report.specs.json_report.Fails.{IsWord, FitsVerdict}
+
+-- the numbers of the fault of a packet that the text tells
+abbrev pub FitsFault : PacketFault → Type 0
+FitsFault (packet.StampBack before got) = IsWord before × IsWord got
+FitsFault (packet.FrameSize want got) = IsWord want × IsWord got
+FitsFault other = ⊤
+
+-- those of the reason why a flow isn't judged
+abbrev pub FitsReason : Unjudged → Type 0
+FitsReason (unjudged.Refused rec fault) = FitsFault fault
+FitsReason other = ⊤
+
+-- those of the fault of a verdict
+abbrev pub FitsRefusal : Verdict → Type 0
+FitsRefusal (verdict.Unjudged reason) = FitsReason reason
+FitsRefusal other = ⊤
+
+-- those of a row
+pub record FitsRow (row : Row) : Type 0 where
+  pub verdict : FitsVerdict row.verdict
+  pub refusal : FitsRefusal row.verdict
+
+-- those of the fault of a capture
+abbrev pub FitsPcap : PcapFault → Type 0
+FitsPcap (pcap.BadStamp rec) = IsWord rec
+FitsPcap (pcap.BadLength rec) = IsWord rec
+FitsPcap other = ⊤
+
+-- those of the way in which a capture ends
+abbrev pub FitsNote : FileNote → Type 0
+FitsNote note.End = ⊤
+FitsNote (note.Cut at) = IsWord at
+FitsNote (note.Refused fault) = FitsPcap fault
+
+-- a media of a session description: its address has 32 bits, and its port 16
+pub record FitsMedia (media : Media) : Type 0 where
+  pub is : IsMedia media
+  pub address : media.address < 2 ^ 32
+  pub port : media.port < 2 ^ 16
+
+-- file names
+abbrev pub AreNames : List (List ℕ) → Type 0
+AreNames names = All (λ name. is_file_name name ≡ true) names
