@@ -70,16 +70,32 @@ type_lines space next text =
     type_line (space ++ codes "N ") (λ narrow. type_line (space ++ codes "NL ") (λ linear.
     type_line (space ++ codes "W ") (λ wide. next narrow linear wide))) text
 
+-- `per frame` or `per field`: whether the video is interlaced
+unfoldable pub group_word : {B : Type 0} → (Bool → List ℕ → Option B) → List ℕ → Option B
+group_word next text = word ((codes " per frame, ", false) ∷ (codes " per field, ", true) ∷ []) next text
+
+-- `frames` or `fields`, which the words before have told
+unfoldable pub groups_word : {B : Type 0} → (List ℕ → Option B) → List ℕ → Option B
+groups_word next text = either (codes " frames, ") next (after (codes " fields, ") next) text
+
+-- the class of a judged run: the first type that passes
+unfoldable pub class_word : {B : Type 0} → (Option Kind → List ℕ → Option B) → List ℕ → Option B
+class_word next text =
+    word ((codes ", class narrow linear, declared ", Some NL) ∷ (codes ", class narrow, declared ", Some N)
+    ∷ (codes ", class wide, declared ", Some W) ∷ (codes ", class none, declared ", None) ∷ []) next text
+
+-- the type that the SDP declares, at the end of a line
+unfoldable pub declared_word : {B : Type 0} → (Option Kind → List ℕ → Option B) → List ℕ → Option B
+declared_word next text =
+    word ((codes "NL\n", Some NL) ∷ (codes "N\n", Some N) ∷ (codes "W\n", Some W) ∷ (codes "none\n", None) ∷ [])
+    next text
+
 -- the lines of a judged run: its numbers, and its types behind this indentation
 unfoldable pub judged_lines : {B : Type 0} → List ℕ → (ToldJudged → List ℕ → Option B) → List ℕ → Option B
 judged_lines space next text =
-    number (λ n. word ((codes " per frame, ", false) ∷ (codes " per field, ", true) ∷ []) (λ interlaced.
-    number (λ frames. word ((codes " frames, ", false) ∷ (codes " fields, ", true) ∷ []) (λ _.
-    number (λ packets. after (codes " packets, head ") (number (λ head. after (codes ", tail ") (number (λ tail.
-    after (codes ", class ") (word ((codes "narrow linear, declared ", Some NL) ∷ (codes "narrow, declared ", Some N)
-    ∷ (codes "wide, declared ", Some W) ∷ (codes "none, declared ", None) ∷ []) (λ class.
-    word ((codes "NL\n", Some NL) ∷ (codes "N\n", Some N) ∷ (codes "W\n", Some W) ∷ (codes "none\n", None) ∷ [])
-    (λ declared. type_lines space (λ narrow linear wide. next record {
+    number (λ n. group_word (λ interlaced. number (λ frames. groups_word (number (λ packets.
+    after (codes " packets, head ") (number (λ head. after (codes ", tail ") (number (λ tail.
+    class_word (λ class. declared_word (λ declared. type_lines space (λ narrow linear wide. next record {
       n = n;
       interlaced = interlaced;
       frames = frames;
@@ -91,7 +107,7 @@ judged_lines space next text =
       narrow = narrow;
       linear = linear;
       wide = wide;
-    }))))))))))))) text
+    })))))))))))) text
 
 -- the verdict on a run between gaps
 unfoldable pub run_outcome : {B : Type 0} → (ToldOutcome → List ℕ → Option B) → List ℕ → Option B
