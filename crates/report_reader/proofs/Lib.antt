@@ -1,2 +1,5 @@
+pub mod Flows
 pub mod Lines
 pub mod Numbers
+pub mod Report
+pub mod Rows

@@ -1,6 +1,7 @@
--- The numbers of results that a report tells, as the analyser bounds them: each has 64 bits.
+-- What a report is made of, as the analyser bounds it: numbers have 64 bits, and file names no newline.
 use Rattle.std.specs.Prelude.{◌≡◌, ◌<◌, ◌^◌, ℕ, ⊤, true, List, All}
-use Rattle.timing_base.specs.Media.{Media, IsMedia}
+use Rattle.timing_base.specs.Jobs.{CheckJob, IsCheckJob}
+use Rattle.timing_base.specs.Media.{Media, IsMedia, IsSession}
 use Rattle.timing_base.specs.Name.{is_file_name}
 use Rattle.timing_base.specs.declared.capture.FileNote.{FileNote}
 use Rattle.timing_base.specs.declared.capture.FileNote.TheVariants as note
@@ -13,6 +14,7 @@ use Rattle.timing_base.specs.declared.row.Unjudged.{Unjudged}
 use Rattle.timing_base.specs.declared.row.Unjudged.TheVariants as unjudged
 use Rattle.timing_base.specs.declared.row.Verdict.{Verdict}
 use Rattle.timing_base.specs.declared.row.Verdict.TheVariants as verdict
+use Rattle.timing_report.specs.Outcomes.{AreRowsOf}
 use Rattle.timing_report.specs.json_report.Fails.{IsWord, FitsVerdict}
 
 -- the numbers of the fault of a packet that the text tells
@@ -57,3 +59,13 @@ pub record FitsMedia (media : Media) : Type 0 where
 -- file names
 abbrev pub AreNames : List (List ℕ) → Type 0
 AreNames names = All (λ name. is_file_name name ≡ true) names
+
+-- a job, its session, the ways in which its captures end, and one result for each of its flows
+pub record AreReported (job : CheckJob) (session : List Media) (notes : List FileNote) (rows : List Row) : Type 0 where
+  pub is_job : IsCheckJob job
+  pub names : AreNames job.captures
+  pub is_session : IsSession session
+  pub media : All FitsMedia session
+  pub endings : All FitsNote notes
+  pub flows : AreRowsOf job session rows
+  pub results : All FitsRow rows

@@ -1,4 +1,5 @@
-use Rattle.report_reader.proofs.Lines
+use Rattle.report_reader.proofs.Report
+use Rattle.report_reader.proofs.Rows
 use Rattle.std.proofs.Common.{refl}
 use Rattle.report_reader.proofs.laws.numbers_are_read_back.Goals as goal
 

@@ -1,0 +1,1 @@
+-- The rows of a report are those of its lines.
