@@ -21,7 +21,7 @@ use Rattle.timing_report.specs.Words.{note_text}
 use Rattle.timing_report.proofs.Keys.{IsKeyOf, keys_of_rows}
 use Rattle.timing_report.proofs.lemmas.json_report.Limits.{code_small}
 use Rattle.report_reader.specs.Pieces.{line}
-use Rattle.report_reader.specs.Reading.{ending, file_line, files_lines, flows_lines, report_read}
+use Rattle.report_reader.specs.Reading.{ending, file_line, files_lines, flows_lines, report_read, report_within}
 use Rattle.report_reader.specs.Told.{ToldFile, ToldFlow, told_files, told_flow, told_report}
 use Rattle.report_reader.specs.Words.{AreNames, AreReported, FitsMedia, FitsNote, FitsRow}
 use Rattle.report_reader.proofs.Flows.{flow_back, flow_is, flow_rest}
@@ -140,16 +140,31 @@ no_file : (session : List Media) (rows : List Row) (status : ℕ) → after_pref
 no_file session [] status = refl
 no_file session (row ∷ rows) status = refl
 
-status_read : {B : Type 0} (next : ℕ → List ℕ → Option B) (status : ℕ) → after_prefix (codes "flow ") (last_line status) ≡ None
-status_read next status = refl
+report_at : (most : ℕ) (job : CheckJob) (session : List Media) (notes : List FileNote) (rows : List Row) (status : ℕ)
+    → AreReported job session notes rows → status < 2 ^ 64 → length (lines_of_files 0 job.captures notes) ≤ most → length rows ≤ most
+    → report_within most ((title ++ codes "\n") ++ (text_of_lines (lines_of_files 0 job.captures notes)
+    ++ (rows_text session rows ++ last_line status)))
+    ≡ Some record { files = told_files job.captures notes; flows = map (told_flow session) rows; status = status }
+unfolding report_within
+report_at most job session notes rows status are small files_fit rows_fit =
+    files_back _ most 0 job.captures notes _ files_fit (omega (arith, are.is_job.captures_are.few)) are.names are.endings (no_file session rows status)
+    ∙ flows_back _ most session rows (last_line status) rows_fit are.is_session.few are.media (keys_of_rows job session rows are.is_job are.flows) are.results refl
+    ∙ number_back _ status _ small refl
 
+-- the text has more bytes than captures and than flows
 pub report_back : (job : CheckJob) (session : List Media) (notes : List FileNote) (rows : List Row) → AreReported job session notes rows
     → report_read (report_text job session notes rows) ≡ Some (told_report job session notes rows)
-unfolding report_read
 report_back job session notes rows are =
-    let text = report_text job session notes rows in
     let files = lines_of_files 0 job.captures notes in
     let flows = flat_map (row_lines session) rows in
     let status = code_of (status_of session notes rows) in
-    let whole = report_is job session notes rows in
-    ?
+    let most = length (report_text job session notes rows) in
+    let whole : most ≡ length ((title ++ codes "\n") ++ (text_of_lines files ++ (text_of_lines flows ++ last_line status)))
+    = ap length (report_is job session notes rows) in
+    let first = length-append (title ++ codes "\n") (text_of_lines files ++ (text_of_lines flows ++ last_line status)) in
+    let second = length-append (text_of_lines files) (text_of_lines flows ++ last_line status) in
+    let third = length-append (text_of_lines flows) (last_line status) in
+    let files_fit : length files ≤ most = omega (arith, whole, first, second, lines_few files) in
+    let rows_fit : length rows ≤ most = omega (arith, whole, first, second, third, lines_few flows, rows_few session rows) in
+    ap (report_within most) (report_is job session notes rows)
+    ∙ report_at most job session notes rows status are (code_small (status_of session notes rows)) files_fit rows_fit

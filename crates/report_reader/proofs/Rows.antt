@@ -1,1 +1,80 @@
--- The rows of a report are those of its lines.
+-- The rows of a report are those of its lines, and equal texts have equal rows.
+use Rattle.std.proofs.Common.{◌≡◌, ◌∙◌, ℕ, zero, suc, ◌<◌, ◌≤◌, Bool, true, false, List, [], ◌∷◌, ◌++◌, length, refl, ap, ap₂, sym, subst, arith}
+use Rattle.std.specs.Prelude.{Option, Some, None, ⊤, map, All, unwrap_or, slice_index_or, codes, is_some, ◌||◌}
+use Rattle.std.specs.List.{list_any}
+use Rattle.timing_base.specs.Jobs.{CheckJob}
+use Rattle.timing_base.specs.Keys.{media_of}
+use Rattle.timing_base.specs.Media.{Media}
+use Rattle.timing_base.specs.Verdicts.{Judged}
+use Rattle.timing_base.specs.declared.capture.FileNote.{FileNote}
+use Rattle.timing_base.specs.declared.row.KindVerdict.{KindVerdict}
+use Rattle.timing_base.specs.declared.row.KindVerdict.TheVariants.{Pass, Fail}
+use Rattle.timing_base.specs.declared.row.Row.{Row}
+use Rattle.timing_base.specs.declared.row.Run.{Run}
+use Rattle.timing_base.specs.declared.row.RunVerdict.{RunVerdict}
+use Rattle.timing_base.specs.declared.row.RunVerdict.TheVariants as run_verdict
+use Rattle.timing_base.specs.declared.row.Verdict.{Verdict}
+use Rattle.timing_base.specs.declared.row.Verdict.TheVariants as verdict
+use Rattle.timing_report.specs.Text.{report_text}
+use Rattle.timing_report.specs.json_report.Fails.{FitsRun, FitsRunVerdict, FitsVerdict}
+use Rattle.report_reader.specs.Reading.{report_read}
+use Rattle.report_reader.specs.Told.{ToldReport, judged_of, row_of, rows_of, run_of, run_verdict_of, told_flow, told_judged, told_of, told_outcome, told_report}
+use Rattle.report_reader.specs.Told.{told_row, told_run, told_verdict, verdict_of}
+use Rattle.report_reader.specs.Words.{AreReported, FitsRow}
+use Rattle.report_reader.proofs.Report.{report_back}
+
+three_are : (kinds : List KindVerdict) → length kinds ≡ 3
+    → slice_index_or kinds 0 Pass ∷ slice_index_or kinds 1 Pass ∷ slice_index_or kinds 2 Pass ∷ [] ≡ kinds
+three_are [] e = absurd (omega (arith, e))
+three_are (a ∷ []) e = absurd (omega (arith, e))
+three_are (a ∷ b ∷ []) e = absurd (omega (arith, e))
+three_are (a ∷ b ∷ c ∷ []) e = refl
+three_are (a ∷ b ∷ c ∷ d ∷ more) e = absurd (omega (arith, e))
+
+judged_is : (media : Media) (judged : Judged) → length judged.kinds ≡ 3 → judged_of (told_judged media judged) ≡ judged
+judged_is media judged three =
+    ap (λ ks. record judged { kinds = ks }) (three_are judged.kinds three)
+
+run_verdict_is : (media : Media) (found : RunVerdict) → FitsRunVerdict found → run_verdict_of (told_outcome media found) ≡ found
+run_verdict_is media (run_verdict.NoWholeFrame head) fits = refl
+run_verdict_is media (run_verdict.Judged judged) fits = ap run_verdict.Judged (judged_is media judged fits.is.three)
+
+runs_are : (media : Media) (runs : List Run) → All FitsRun runs → map run_of (map (told_run media) runs) ≡ runs
+runs_are media [] fits = refl
+runs_are media (run ∷ runs) fits =
+    let here : run_of (told_run media run) ≡ run
+    = ap (λ v. record { rec = run.rec; number = run.number; expected = run.expected; verdict = v })
+    (run_verdict_is media run.verdict (fits 0 run (omega arith)).outcome) in
+    ap₂ (λ r rs. r ∷ rs) here (runs_are media runs (λ k d lt. fits (suc k) d (omega arith)))
+
+verdict_is : (media : Media) (found : Verdict) → FitsVerdict found → verdict_of (told_of media found) ≡ told_verdict found
+verdict_is media (verdict.Unjudged why) fits = refl
+verdict_is media (verdict.Judged judged) fits = ap verdict.Judged (judged_is media judged fits.is.three)
+verdict_is media (verdict.Runs runs) fits = ap verdict.Runs (runs_are media runs fits.1)
+
+pub rows_are : (session : List Media) (rows : List Row) → All FitsRow rows → map row_of (map (told_flow session) rows) ≡ map told_row rows
+rows_are session [] fits = refl
+rows_are session (row ∷ rows) fits =
+    ap₂ (λ v rs. record { key = row.key; verdict = v } ∷ rs) (verdict_is (media_of session row.key) row.verdict (fits 0 row (omega arith)).verdict)
+    (rows_are session rows (λ k d lt. fits (suc k) d (omega arith)))
+
+same_some : (a b : ToldReport) → Some a ≡ Some b → a ≡ b
+same_some a b e = ap (unwrap_or_told a) e
+  where
+    unwrap_or_told : ToldReport → Option ToldReport → ToldReport
+    unwrap_or_told a o = unwrap_or o a
+
+-- equal texts tell the same
+pub same_told : (job job' : CheckJob) (session session' : List Media) (notes notes' : List FileNote) (rows rows' : List Row)
+    → AreReported job session notes rows → AreReported job' session' notes' rows'
+    → report_text job session notes rows ≡ report_text job' session' notes' rows' → told_report job session notes rows ≡ told_report job' session' notes' rows'
+same_told job job' session session' notes notes' rows rows' are are' e =
+    same_some _ _ (sym (report_back job session notes rows are) ∙ ap report_read e ∙ report_back job' session' notes' rows' are')
+
+-- and have the same rows
+pub same_rows : (job job' : CheckJob) (session session' : List Media) (notes notes' : List FileNote) (rows rows' : List Row)
+    → AreReported job session notes rows → AreReported job' session' notes' rows'
+    → report_text job session notes rows ≡ report_text job' session' notes' rows' → map told_row rows ≡ map told_row rows'
+same_rows job job' session session' notes notes' rows rows' are are' e =
+    sym (rows_are session rows are.results) ∙ ap rows_of (same_told job job' session session' notes notes' rows rows' are are' e)
+    ∙ rows_are session' rows' are'.results

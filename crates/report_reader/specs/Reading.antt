@@ -203,9 +203,13 @@ files_lines zero next text = next [] text
 files_lines (suc most) next text =
     either (codes "file ") (file_line (λ file. files_lines most (λ files. next (file ∷ files)))) (next []) text
 
--- what the text of a report tells; none if it isn't in the form of a report
-unfoldable pub report_read : List ℕ → Option ToldReport
-report_read text =
-    after (codes "ST 2110-21 timing report\n") (files_lines (length text) (λ files. flows_lines (length text) (λ flows.
+-- what the text of a report of at most so many captures and flows tells; none if it isn't in the form of a report
+unfoldable pub report_within : ℕ → List ℕ → Option ToldReport
+report_within most text =
+    after (codes "ST 2110-21 timing report\n") (files_lines most (λ files. flows_lines most (λ flows.
     after (codes "status ") (number (λ status. after (codes "\n")
     (at_end record { files = files; flows = flows; status = status })))))) text
+
+-- what the text of a report tells
+abbrev pub report_read : List ℕ → Option ToldReport
+report_read text = report_within (length text) text
