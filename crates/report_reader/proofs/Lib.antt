@@ -1,5 +1,7 @@
 pub mod Flows
 pub mod Lines
 pub mod Numbers
+pub mod PassLines
+pub mod Readers
 pub mod Report
 pub mod Rows

@@ -9,7 +9,14 @@ use Rattle.timing_base.specs.Verdicts.{Judged}
 use Rattle.timing_base.specs.declared.capture.FileNote.{FileNote}
 use Rattle.timing_base.specs.declared.row.KindVerdict.{KindVerdict}
 use Rattle.timing_base.specs.declared.row.KindVerdict.TheVariants.{Pass, Fail}
+use Rattle.timing_base.specs.Flows.{FirstFault, first_fault, packet as packet_at}
+use Rattle.timing_base.specs.Judged.{FlowVerdict, judged, judged_runs, refused, refused_or, refusal}
+use Rattle.timing_base.specs.declared.packet.FlowPacket.{FlowPacket}
+use Rattle.timing_base.specs.declared.packet.PacketFault.{PacketFault}
+use Rattle.timing_base.specs.declared.packet.PacketFault.TheVariants as packet
 use Rattle.timing_base.specs.declared.row.Row.{Row}
+use Rattle.timing_base.specs.declared.row.Unjudged.{Unjudged}
+use Rattle.timing_base.specs.declared.row.Unjudged.TheVariants as unjudged
 use Rattle.timing_base.specs.declared.row.Run.{Run}
 use Rattle.timing_base.specs.declared.row.RunVerdict.{RunVerdict}
 use Rattle.timing_base.specs.declared.row.RunVerdict.TheVariants as run_verdict
@@ -19,7 +26,7 @@ use Rattle.timing_report.specs.Text.{report_text}
 use Rattle.timing_report.specs.json_report.Fails.{FitsRun, FitsRunVerdict, FitsVerdict}
 use Rattle.report_reader.specs.Reading.{report_read}
 use Rattle.report_reader.specs.Told.{ToldReport, judged_of, row_of, rows_of, run_of, run_verdict_of, told_flow, told_judged, told_of, told_outcome, told_report}
-use Rattle.report_reader.specs.Told.{told_row, told_run, told_verdict, verdict_of}
+use Rattle.report_reader.specs.Told.{is_for_number, is_number, leaves_out, told_fault, told_row, told_run, told_unjudged, told_verdict, verdict_of}
 use Rattle.report_reader.specs.Words.{AreReported, FitsRow}
 use Rattle.report_reader.proofs.Report.{report_back}
 
@@ -58,6 +65,40 @@ rows_are session (row ∷ rows) fits =
     ap₂ (λ v rs. record { key = row.key; verdict = v } ∷ rs) (verdict_is (media_of session row.key) row.verdict (fits 0 row (omega arith)).verdict)
     (rows_are session rows (λ k d lt. fits (suc k) d (omega arith)))
 
+fault_whole : (fault : PacketFault) → is_number fault ≡ false → told_fault fault ≡ fault
+fault_whole (packet.Number expected got) h = cc
+fault_whole packet.Short h = refl
+fault_whole packet.Version h = refl
+fault_whole packet.PayloadType h = refl
+fault_whole packet.SecondSource h = refl
+fault_whole (packet.StampBack before got) h = refl
+fault_whole packet.NoMarker h = refl
+fault_whole packet.SameStamp h = refl
+fault_whole (packet.FrameSize want got) h = refl
+fault_whole packet.FrameTooLarge h = refl
+
+reason_whole : (why : Unjudged) → is_for_number why ≡ false → told_unjudged why ≡ why
+reason_whole unjudged.Absent h = refl
+reason_whole (unjudged.NoWholeFrame head) h = refl
+reason_whole (unjudged.Refused rec fault) h = ap (unjudged.Refused rec) (fault_whole fault h)
+reason_whole (unjudged.Gap rec expected got) h = refl
+
+verdict_whole : (found : Verdict) → leaves_out found ≡ false → told_verdict found ≡ found
+verdict_whole (verdict.Unjudged why) h = ap verdict.Unjudged (reason_whole why h)
+verdict_whole (verdict.Judged judged) h = refl
+verdict_whole (verdict.Runs runs) h = refl
+
+rows_whole : (rows : List Row) → All (λ row. leaves_out row.verdict ≡ false) rows → map told_row rows ≡ rows
+rows_whole [] h = refl
+rows_whole (row ∷ rows) h =
+    ap₂ (λ v rs. record { key = row.key; verdict = v } ∷ rs) (verdict_whole row.verdict (h 0 row (omega arith)))
+    (rows_whole rows (λ k d lt. h (suc k) d (omega arith)))
+
+-- the rows of a report are those that it was made of
+pub rows_back : (session : List Media) (rows : List Row) → All FitsRow rows → All (λ row. leaves_out row.verdict ≡ false) rows
+    → map row_of (map (told_flow session) rows) ≡ rows
+rows_back session rows fits h = rows_are session rows fits ∙ rows_whole rows h
+
 same_some : (a b : ToldReport) → Some a ≡ Some b → a ≡ b
 same_some a b e = ap (unwrap_or_told a) e
   where
@@ -74,7 +115,15 @@ same_told job job' session session' notes notes' rows rows' are are' e =
 -- and have the same rows
 pub same_rows : (job job' : CheckJob) (session session' : List Media) (notes notes' : List FileNote) (rows rows' : List Row)
     → AreReported job session notes rows → AreReported job' session' notes' rows'
-    → report_text job session notes rows ≡ report_text job' session' notes' rows' → map told_row rows ≡ map told_row rows'
-same_rows job job' session session' notes notes' rows rows' are are' e =
-    sym (rows_are session rows are.results) ∙ ap rows_of (same_told job job' session session' notes notes' rows rows' are are' e)
-    ∙ rows_are session' rows' are'.results
+    → All (λ row. leaves_out row.verdict ≡ false) rows → All (λ row. leaves_out row.verdict ≡ false) rows'
+    → report_text job session notes rows ≡ report_text job' session' notes' rows' → rows ≡ rows'
+same_rows job job' session session' notes notes' rows rows' are are' all all' e =
+    sym (rows_back session rows are.results all) ∙ ap rows_of (same_told job job' session session' notes notes' rows rows' are are' e)
+    ∙ rows_back session' rows' are'.results all'
+
+-- no flow is refused for the fault `Number`
+abbrev IsNotRefusedForNumber : FlowVerdict → Type 0
+IsNotRefusedForNumber found = (rec : ℕ) (fault : PacketFault) → found ≡ refused rec fault → is_number fault ≡ false
+
+pub none_for_number : (packets : List FlowPacket) (pt tai : ℕ) → IsNotRefusedForNumber (judged packets pt tai)
+none_for_number packets pt tai = ?

@@ -1,8 +1,8 @@
 -- What the text of a report tells of each capture and of each flow. Captures and media count from 0 here and from 1 in
 -- the text, packet records from 1, and the packets of a judged run from 0. Counts and limits are packets.
--- Of a result the text leaves out two numbers alone: those of the fault `Number`. No flow is refused for this fault,
--- since it is reported as a gap, with both numbers.
-use Rattle.std.specs.Prelude.{ℕ, ◌+◌, Bool, List, [], ◌∷◌, map, Option}
+-- Of a result the text leaves out two numbers alone: those of the fault `Number`. No flow is refused for this fault, since
+-- it is reported as a gap, with both numbers.
+use Rattle.std.specs.Prelude.{ℕ, Bool, true, false, List, [], ◌∷◌, map, Option}
 use Rattle.timing_base.specs.Jobs.{CheckJob}
 use Rattle.timing_base.specs.Keys.{media_of}
 use Rattle.timing_base.specs.Media.{Media}
@@ -107,6 +107,21 @@ told_verdict other = other
 -- a row as far as the text tells it
 abbrev pub told_row : Row → Row
 told_row row = record { key = row.key; verdict = told_verdict row.verdict }
+
+-- whether a fault is `Number`
+abbrev pub is_number : PacketFault → Bool
+is_number (packet.Number expected got) = true
+is_number other = false
+
+-- whether a reason has the fault `Number`
+abbrev pub is_for_number : Unjudged → Bool
+is_for_number (unjudged.Refused rec fault) = is_number fault
+is_for_number other = false
+
+-- whether the text leaves out numbers of a result
+abbrev pub leaves_out : Verdict → Bool
+leaves_out (verdict.Unjudged reason) = is_for_number reason
+leaves_out other = false
 
 -- what is told of a sender type
 abbrev pub told_type : Media → Judged → Kind → ToldType
