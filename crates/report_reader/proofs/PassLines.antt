@@ -1,5 +1,5 @@
 -- A type has a line with `pass` exactly if it passes.
-use Rattle.std.proofs.Common.{◌≡◌, ◌∙◌, ℕ, Bool, true, false, List, [], ◌∷◌, ◌++◌, refl, ap}
+use Rattle.std.proofs.Common.{◌≡◌, ◌∙◌, ℕ, ◌+◌, Bool, true, false, List, [], ◌∷◌, ◌++◌, refl, ap}
 use Rattle.std.specs.Prelude.{◌||◌, codes, is_some}
 use Rattle.std.specs.List.{list_any}
 use Rattle.timing_base.specs.Media.{Media}
@@ -50,13 +50,15 @@ run_pass media index run kind = go run.verdict kind
     go (run_verdict.Judged judged) NL = run_types_pass media judged NL
     go (run_verdict.Judged judged) W = run_types_pass media judged W
 
+neither : (a b : Bool) → (a || b) ≡ false → (a ≡ false) × (b ≡ false)
+neither true b h = cc
+neither false b h = (refl, h)
+
 any-append : (p : List ℕ → Bool) (xs ys : List (List ℕ)) → list_any p xs ≡ false → list_any p ys ≡ false → list_any p (xs ++ ys) ≡ false
 any-append p [] ys h k = k
-any-append p (x ∷ xs) ys h k = go (p x) h
-  where
-    go : (b : Bool) → (b || list_any p xs) ≡ false → (b || list_any p (xs ++ ys)) ≡ false
-    go true h = h
-    go false h = any-append p xs ys h k
+any-append p (x ∷ xs) ys h k =
+    let b = neither (p x) (list_any p xs) h in
+    rw b.0 (any-append p xs ys b.1 k)
 
 -- the lines below a run are indented further than those of a flow in one run
 run_none : (media : Media) (index : ℕ) (run : Run) (kind : Kind) → list_any (is_pass_line (codes "  ") kind) (run_lines media index run) ≡ false
@@ -72,7 +74,9 @@ run_none media index run kind = go run.verdict kind
 
 runs_none : (media : Media) (index : ℕ) (runs : List Run) (kind : Kind) → list_any (is_pass_line (codes "  ") kind) (runs_lines media index runs) ≡ false
 runs_none media index [] kind = refl
-runs_none media index (run ∷ runs) kind = any-append _ (run_lines media index run) _ (run_none media index run kind) (runs_none media _ runs kind)
+runs_none media index (run ∷ runs) kind =
+    any-append (is_pass_line (codes "  ") kind) (run_lines media index run) (runs_lines media (index + 1) runs) (run_none media index run kind)
+    (runs_none media (index + 1) runs kind)
 
 pub flow_pass : (media : Media) (found : Verdict) (kind : Kind) → list_any (is_pass_line (codes "  ") kind) (lines_below media found) ≡ flow_passes found kind
 flow_pass media (verdict.Unjudged reason) kind = refl

@@ -1,7 +1,6 @@
 -- The rows of a report are those of its lines, and equal texts have equal rows.
 use Rattle.std.proofs.Common.{◌≡◌, ◌∙◌, ℕ, zero, suc, ◌<◌, ◌≤◌, Bool, true, false, List, [], ◌∷◌, ◌++◌, length, refl, ap, ap₂, sym, subst, arith}
-use Rattle.std.specs.Prelude.{Option, Some, None, ⊤, map, All, unwrap_or, slice_index_or, codes, is_some, ◌||◌}
-use Rattle.std.specs.List.{list_any}
+use Rattle.std.specs.Prelude.{Option, Some, None, ⊤, map, All, unwrap_or, slice_index_or, if◌then◌else◌, ◌==◌}
 use Rattle.timing_base.specs.Jobs.{CheckJob}
 use Rattle.timing_base.specs.Keys.{media_of}
 use Rattle.timing_base.specs.Media.{Media}
@@ -10,7 +9,7 @@ use Rattle.timing_base.specs.declared.capture.FileNote.{FileNote}
 use Rattle.timing_base.specs.declared.row.KindVerdict.{KindVerdict}
 use Rattle.timing_base.specs.declared.row.KindVerdict.TheVariants.{Pass, Fail}
 use Rattle.timing_base.specs.Flows.{FirstFault, first_fault, packet as packet_at}
-use Rattle.timing_base.specs.Judged.{FlowVerdict, judged, judged_runs, refused, refused_or, refusal}
+use Rattle.timing_base.specs.Judged.{FlowRun, FlowVerdict, RunOutcome, absent, in_one_run, in_runs, judged, judged_runs, refused, refused_or, refusal}
 use Rattle.timing_base.specs.declared.packet.FlowPacket.{FlowPacket}
 use Rattle.timing_base.specs.declared.packet.PacketFault.{PacketFault}
 use Rattle.timing_base.specs.declared.packet.PacketFault.TheVariants as packet
@@ -122,8 +121,30 @@ same_rows job job' session session' notes notes' rows rows' are are' all all' e 
     ∙ rows_back session' rows' are'.results all'
 
 -- no flow is refused for the fault `Number`
-abbrev IsNotRefusedForNumber : FlowVerdict → Type 0
-IsNotRefusedForNumber found = (rec : ℕ) (fault : PacketFault) → found ≡ refused rec fault → is_number fault ≡ false
+number_refused : FlowVerdict → Bool
+number_refused (refused rec fault) = is_number fault
+number_refused other = false
 
-pub none_for_number : (packets : List FlowPacket) (pt tai : ℕ) → IsNotRefusedForNumber (judged packets pt tai)
-none_for_number packets pt tai = ?
+gap_or_other : (rec : ℕ) (fault : PacketFault) → number_refused (refusal rec fault) ≡ false
+unfolding number_refused
+gap_or_other rec (packet.Number expected got) = refl
+gap_or_other rec other = refl
+
+runs_or_one : (b : Bool) (one : RunOutcome) (more : List FlowRun) → number_refused (if b then in_one_run one else in_runs more) ≡ false
+unfolding number_refused
+runs_or_one true one more = refl
+runs_or_one false one more = refl
+
+refused_or_judged : (packets : List FlowPacket) (tai : ℕ) (first : Option FirstFault) → number_refused (refused_or packets first (judged_runs packets tai)) ≡ false
+refused_or_judged packets tai (Some first) = gap_or_other (packet_at packets first.index).rec first.fault
+refused_or_judged packets tai None = runs_or_one _ _ _
+
+absent_or : (b : Bool) (found : FlowVerdict) → number_refused found ≡ false → number_refused (if b then absent else found) ≡ false
+unfolding number_refused
+absent_or true found h = refl
+absent_or false found h = h
+
+pub none_for_number : (packets : List FlowPacket) (pt tai rec : ℕ) (fault : PacketFault) → judged packets pt tai ≡ refused rec fault → is_number fault ≡ false
+unfolding number_refused
+none_for_number packets pt tai rec fault e =
+    sym (ap number_refused e) ∙ absent_or (length packets == 0) _ (refused_or_judged packets tai (first_fault packets pt))
