@@ -1,16 +1,13 @@
 -- The lines of runs and of flows are read back.
-use Rattle.std.proofs.Common.{◌≡◌, ◌∙◌, ℕ, zero, suc, ◌+◌, ◌-◌, ◌*◌, ◌%◌, ◌/◌, ◌^◌, ◌<◌, ◌≤◌, Bool, true, false, List, [], ◌∷◌, ◌++◌, length, refl, ap, ap₂, sym, subst}
+use Rattle.std.proofs.Common.{◌≡◌, ◌∙◌, ℕ, suc, ◌+◌, ◌-◌, ◌*◌, ◌%◌, ◌/◌, ◌^◌, ◌<◌, false, List, [], ◌∷◌, ◌++◌, length, refl, ap, ap₂}
 use Rattle.std.proofs.Common.{arith, append_assoc}
-use Rattle.std.specs.Prelude.{Option, Some, None, codes, ⊤, map, All}
+use Rattle.std.specs.Prelude.{Option, Some, None, codes, map, All}
 use Rattle.std.specs.Fmt.{decimal}
 use Rattle.std.specs.Option.{ForSome}
 use Rattle.std.proofs.lemmas.List.Concat.{flat_map-append}
 use Rattle.timing_base.specs.Media.{Media, IsMedia}
 use Rattle.timing_base.specs.Targets.{target_of, target_text}
-use Rattle.timing_base.specs.Verdicts.{Judged}
 use Rattle.timing_base.specs.declared.key.FlowKey.{FlowKey}
-use Rattle.timing_base.specs.declared.packet.PacketFault.{PacketFault}
-use Rattle.timing_base.specs.declared.packet.PacketFault.TheVariants as packet
 use Rattle.timing_base.specs.declared.row.Row.{Row}
 use Rattle.timing_base.specs.declared.row.Run.{Run}
 use Rattle.timing_base.specs.declared.row.RunVerdict.{RunVerdict}
@@ -20,16 +17,16 @@ use Rattle.timing_base.specs.declared.row.Unjudged.TheVariants as unjudged
 use Rattle.timing_base.specs.declared.row.Verdict.{Verdict}
 use Rattle.timing_base.specs.declared.row.Verdict.TheVariants as verdict
 use Rattle.timing_base.specs.declared.target.Target.{Target}
-use Rattle.timing_report.specs.Text.{ended, text_of_lines, flow_head, flow_text, flow_lines as lines_of_flow}
-use Rattle.timing_report.specs.Verdict.{expected_text, judged_text, lines_below, lines_below_run, run_verdict_text, run_head, run_text, run_lines as lines_of_run, runs_lines as lines_of_runs}
+use Rattle.timing_report.specs.Text.{ended, text_of_lines, flow_lines as lines_of_flow}
+use Rattle.timing_report.specs.Verdict.{lines_below, lines_below_run, run_verdict_text, run_head, run_lines as lines_of_run, runs_lines as lines_of_runs}
 use Rattle.timing_report.specs.Verdict.{type_lines as lines_of_types, unjudged_text, verdict_text}
-use Rattle.timing_report.specs.json_report.Fails.{IsWord, FitsJudged, FitsRun, FitsRunVerdict, FitsUnjudged, FitsVerdict}
+use Rattle.timing_report.specs.json_report.Fails.{IsWord, FitsRun, FitsRunVerdict, FitsUnjudged, FitsVerdict}
 use Rattle.report_reader.specs.Pieces.{begins_with_digit}
-use Rattle.report_reader.specs.Reading.{destination, flow_lines, judged_lines, reason, run_lines, run_outcome, runs_lines, verdict_lines}
-use Rattle.report_reader.specs.Told.{ToldFlow, ToldOutcome, headed, judged_run, ToldRun, ToldVerdict, in_one_run, in_runs, not_judged, told_judged}
+use Rattle.report_reader.specs.Reading.{destination, flow_lines, reason, run_lines, run_outcome, runs_lines, verdict_lines}
+use Rattle.report_reader.specs.Told.{ToldFlow, ToldOutcome, judged_run, ToldRun, ToldVerdict, in_one_run, not_judged}
 use Rattle.report_reader.specs.Told.{told_of, told_outcome, told_run, told_unjudged}
 use Rattle.report_reader.specs.Words.{FitsMedia, FitsReason, FitsRefusal, FitsRow}
-use Rattle.report_reader.proofs.Lines.{fault_back, judged_back, judged_is, judged_rest}
+use Rattle.report_reader.proofs.Lines.{fault_back, judged_back, judged_is}
 use Rattle.report_reader.proofs.Numbers.{number_back}
 
 reason_back : {B : Type 0} (next : Unjudged → List ℕ → Option B) (why : Unjudged) (rest : List ℕ) → FitsUnjudged why → FitsReason why

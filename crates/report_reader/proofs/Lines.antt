@@ -1,7 +1,7 @@
 -- The lines of a report are read back, one after another.
-use Rattle.std.proofs.Common.{◌≡◌, ◌∙◌, ℕ, zero, suc, ◌+◌, ◌-◌, ◌*◌, ◌%◌, ◌/◌, ◌^◌, ◌<◌, ◌≤◌, ◌==◌, Bool, true, false, List, [], ◌∷◌, ◌++◌, length, refl, ap, sym, subst}
+use Rattle.std.proofs.Common.{◌≡◌, ◌∙◌, ℕ, ◌^◌, ◌<◌, ◌==◌, Bool, true, false, List, [], ◌∷◌, ◌++◌, refl, ap}
 use Rattle.std.proofs.Common.{arith, append_assoc}
-use Rattle.std.specs.Prelude.{Option, Some, None, codes, ⊤}
+use Rattle.std.specs.Prelude.{Option, Some, None, codes}
 use Rattle.std.specs.Fmt.{decimal}
 use Rattle.std.proofs.lemmas.Bool.Decides.{nat_tests}
 use Rattle.timing_base.specs.Media.{Media, IsMedia}
@@ -15,18 +15,18 @@ use Rattle.timing_base.specs.declared.packet.PacketFault.{PacketFault}
 use Rattle.timing_base.specs.declared.packet.PacketFault.TheVariants as packet
 use Rattle.timing_base.specs.declared.row.KindVerdict.{KindVerdict}
 use Rattle.timing_base.specs.declared.row.KindVerdict.TheVariants.{Pass, Fail}
-use Rattle.timing_report.specs.Outcomes.{verdict_on, buffer_peak, first_passing}
-use Rattle.timing_report.specs.Verdict.{proof_text, outcome_text, type_text, type_lines as lines_of_types, judged_text}
+use Rattle.timing_report.specs.Outcomes.{first_passing}
+use Rattle.timing_report.specs.Verdict.{proof_text, outcome_text, type_lines as lines_of_types, judged_text}
 use Rattle.timing_report.specs.Words.{class_name, declared_name, group_name, packet_fault_text}
 use Rattle.timing_report.specs.Text.{text_of_lines}
-use Rattle.timing_report.specs.json_report.Fails.{IsWord, AreWords, FitsKind, FitsJudged}
-use Rattle.timing_report.proofs.lemmas.json_report.Limits.{c_max_small, vrx_full_small, code_small}
+use Rattle.timing_report.specs.json_report.Fails.{AreWords, FitsKind, FitsJudged}
+use Rattle.timing_report.proofs.lemmas.json_report.Limits.{c_max_small, vrx_full_small}
 use Rattle.report_reader.specs.Pieces.{after, begins_with_digit}
 use Rattle.report_reader.specs.Reading.{class_word, declared_word, group_word, groups_word, judged_lines, outcome, packet_fault, type_line, type_lines}
 use Rattle.report_reader.specs.Reading.{violation}
 use Rattle.report_reader.specs.Told.{ToldJudged, ToldType, told_fault, told_judged, told_type}
 use Rattle.report_reader.specs.Words.{FitsFault}
-use Rattle.report_reader.proofs.Numbers.{number_back, line_back}
+use Rattle.report_reader.proofs.Numbers.{number_back}
 
 violation_at : {B : Type 0} (next : FailProof → List ℕ → Option B) (broken : Broken) (from to count limit : ℕ) (rest : List ℕ)
     → from < 2 ^ 64 → to < 2 ^ 64 → count < 2 ^ 64 → limit < 2 ^ 64 → begins_with_digit rest ≡ false

@@ -1,5 +1,5 @@
 -- A type has a line with `pass` exactly if it passes.
-use Rattle.std.proofs.Common.{◌≡◌, ◌∙◌, ℕ, ◌+◌, Bool, true, false, List, [], ◌∷◌, ◌++◌, refl, ap}
+use Rattle.std.proofs.Common.{◌≡◌, ◌∙◌, ℕ, ◌+◌, Bool, true, false, List, [], ◌∷◌, ◌++◌, refl}
 use Rattle.std.specs.Prelude.{◌||◌, codes, is_some}
 use Rattle.std.specs.List.{list_any}
 use Rattle.timing_base.specs.Media.{Media}
@@ -15,7 +15,7 @@ use Rattle.timing_base.specs.declared.row.Verdict.{Verdict}
 use Rattle.timing_base.specs.declared.row.Verdict.TheVariants as verdict
 use Rattle.sdp_reader.specs.Bytes.{after_prefix}
 use Rattle.timing_report.specs.Outcomes.{is_pass, passes, verdict_on}
-use Rattle.timing_report.specs.Verdict.{lines_below, lines_below_run, outcome_text, run_lines, runs_lines, type_lines}
+use Rattle.timing_report.specs.Verdict.{lines_below, outcome_text, run_lines, runs_lines, type_lines}
 use Rattle.report_reader.specs.PassLines.{flow_passes, is_pass_line, run_passes}
 
 -- after the name of a type

@@ -1,7 +1,7 @@
 -- A whole report is read back.
-use Rattle.std.proofs.Common.{◌≡◌, ◌∙◌, ℕ, zero, suc, ◌+◌, ◌-◌, ◌*◌, ◌^◌, ◌<◌, ◌≤◌, Bool, true, false, List, [], ◌∷◌, ◌++◌, length, refl, ap, ap₂, sym, subst}
+use Rattle.std.proofs.Common.{◌≡◌, ◌∙◌, ℕ, zero, suc, ◌+◌, ◌^◌, ◌<◌, ◌≤◌, true, List, [], ◌∷◌, ◌++◌, length, refl, ap}
 use Rattle.std.proofs.Common.{arith, append_assoc, length-append}
-use Rattle.std.specs.Prelude.{Option, Some, None, codes, ⊤, map, All, nat_le, not, ◌&&◌, ◌==◌}
+use Rattle.std.specs.Prelude.{Option, Some, None, codes, map, All}
 use Rattle.std.specs.Fmt.{decimal}
 use Rattle.std.specs.List.{flat_map, list_all}
 use Rattle.std.proofs.lemmas.List.Concat.{flat_map-append}
@@ -16,7 +16,7 @@ use Rattle.timing_base.specs.declared.row.Row.{Row}
 use Rattle.sdp_reader.specs.Bytes.{after_prefix}
 use Rattle.timing_report.specs.Outcomes.{status_of}
 use Rattle.timing_report.specs.Status.{code_of}
-use Rattle.timing_report.specs.Text.{ended, file_text, files_lines as lines_of_files, report_lines, report_text, row_lines, status_text, text_of_lines, title}
+use Rattle.timing_report.specs.Text.{ended, file_text, files_lines as lines_of_files, report_text, row_lines, status_text, text_of_lines, title}
 use Rattle.timing_report.specs.Words.{note_text}
 use Rattle.timing_report.proofs.Keys.{IsKeyOf, keys_of_rows}
 use Rattle.timing_report.proofs.lemmas.json_report.Limits.{code_small}

@@ -1,13 +1,13 @@
 -- The rows of a report are those of its lines, and equal texts have equal rows.
-use Rattle.std.proofs.Common.{◌≡◌, ◌∙◌, ℕ, zero, suc, ◌<◌, ◌≤◌, Bool, true, false, List, [], ◌∷◌, ◌++◌, length, refl, ap, ap₂, sym, subst, arith}
-use Rattle.std.specs.Prelude.{Option, Some, None, ⊤, map, All, unwrap_or, slice_index_or, if◌then◌else◌, ◌==◌}
+use Rattle.std.proofs.Common.{◌≡◌, ◌∙◌, ℕ, suc, Bool, true, false, List, [], ◌∷◌, length, refl, ap, ap₂, sym, arith}
+use Rattle.std.specs.Prelude.{Option, Some, None, map, All, unwrap_or, slice_index_or, if◌then◌else◌, ◌==◌}
 use Rattle.timing_base.specs.Jobs.{CheckJob}
 use Rattle.timing_base.specs.Keys.{media_of}
 use Rattle.timing_base.specs.Media.{Media}
 use Rattle.timing_base.specs.Verdicts.{Judged}
 use Rattle.timing_base.specs.declared.capture.FileNote.{FileNote}
 use Rattle.timing_base.specs.declared.row.KindVerdict.{KindVerdict}
-use Rattle.timing_base.specs.declared.row.KindVerdict.TheVariants.{Pass, Fail}
+use Rattle.timing_base.specs.declared.row.KindVerdict.TheVariants.{Pass}
 use Rattle.timing_base.specs.Flows.{FirstFault, first_fault, packet as packet_at}
 use Rattle.timing_base.specs.Judged.{FlowRun, FlowVerdict, RunOutcome, absent, in_one_run, in_runs, judged, judged_runs, refused, refused_or, refusal}
 use Rattle.timing_base.specs.declared.packet.FlowPacket.{FlowPacket}

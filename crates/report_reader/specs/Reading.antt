@@ -7,7 +7,6 @@ use Rattle.std.specs.Prelude.{Option, Some, None, codes}
 use Rattle.timing_base.specs.declared.capture.FileNote.{FileNote}
 use Rattle.timing_base.specs.declared.capture.FileNote.TheVariants as note
 use Rattle.timing_base.specs.declared.capture.PcapFault.TheVariants as pcap
-use Rattle.timing_base.specs.declared.fail.Broken.{Broken}
 use Rattle.timing_base.specs.declared.fail.Broken.TheVariants as model
 use Rattle.timing_base.specs.declared.fail.FailProof.{FailProof}
 use Rattle.timing_base.specs.declared.media.Kind.{Kind}
@@ -31,10 +30,10 @@ packet_fault next text =
     (either (codes "FrameSize want ") (number (λ want. after (codes " got ") (number (λ got.
     next (packet.FrameSize want got)))))
     (word (
-        (codes "Short", packet.Short) ∷ (codes "Version", packet.Version) ∷ (codes "PayloadType", packet.PayloadType)
-        ∷ (codes "SecondSource", packet.SecondSource) ∷ (codes "Number", packet.Number 0 0)
-        ∷ (codes "NoMarker", packet.NoMarker) ∷ (codes "SameStamp", packet.SameStamp)
-        ∷ (codes "FrameTooLarge", packet.FrameTooLarge) ∷ []) next)) text
+    (codes "Short", packet.Short) ∷ (codes "Version", packet.Version) ∷ (codes "PayloadType", packet.PayloadType)
+    ∷ (codes "SecondSource", packet.SecondSource) ∷ (codes "Number", packet.Number 0 0)
+    ∷ (codes "NoMarker", packet.NoMarker) ∷ (codes "SameStamp", packet.SameStamp)
+    ∷ (codes "FrameTooLarge", packet.FrameTooLarge) ∷ []) next)) text
 
 -- the violation of a limit, after the name of its model
 unfoldable pub violation : {B : Type 0} → (FailProof → List ℕ → Option B) → List ℕ → Option B
@@ -186,11 +185,11 @@ ending next text =
     (either (codes "refused BadLength at record ") (number (λ rec. after (codes " ")
     (next (note.Refused (pcap.BadLength rec)))))
     (word (
-        (codes "end ", note.End) ∷ (codes "refused ReadFault ", note.Refused pcap.ReadFault)
-        ∷ (codes "refused BadMagic ", note.Refused pcap.BadMagic)
-        ∷ (codes "refused BadVersion ", note.Refused pcap.BadVersion)
-        ∷ (codes "refused BadLink ", note.Refused pcap.BadLink)
-        ∷ (codes "refused TooLong ", note.Refused pcap.TooLong) ∷ []) next))) text
+    (codes "end ", note.End) ∷ (codes "refused ReadFault ", note.Refused pcap.ReadFault)
+    ∷ (codes "refused BadMagic ", note.Refused pcap.BadMagic)
+    ∷ (codes "refused BadVersion ", note.Refused pcap.BadVersion)
+    ∷ (codes "refused BadLink ", note.Refused pcap.BadLink)
+    ∷ (codes "refused TooLong ", note.Refused pcap.TooLong) ∷ []) next))) text
 
 -- the line of a capture, after the word `file`: its name goes up to the end of the line
 unfoldable pub file_line : {B : Type 0} → (ToldFile → List ℕ → Option B) → List ℕ → Option B

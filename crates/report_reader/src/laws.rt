@@ -104,7 +104,7 @@ pub fn two_captures_by_hand()
         ++ codes "flow 2.1 239.0.0.1:50000 absent\nstatus 4\n"))))))
         ≡ Some (record {
           files = record { note = note.End; name = codes "a.pcap" }
-            ∷ record { note = note.Cut 2904; name = codes "at 7 end.pcap" } ∷ [];
+              ∷ record { note = note.Cut 2904; name = codes "at 7 end.pcap" } ∷ [];
           flows = flow_at 0 0 (in_one_run (record (alone 2 40 0) {
             class = Some kind.NL;
             narrow = one_of (violation model.Empty 1 1 1 2) 4 8;
@@ -127,8 +127,8 @@ pub fn two_runs_by_hand()
         ≡ Some (record {
           files = record { note = note.End; name = codes "a.pcap" } ∷ [];
           flows = flow_at 0 0 (in_runs (
-            record { rec = 1; number = 2; expected = None; outcome = judged_run (alone 1 20 10) }
-            ∷ record { rec = 32; number = 34; expected = Some 33; outcome = headed 9 } ∷ [])) ∷ [];
+              record { rec = 1; number = 2; expected = None; outcome = judged_run (alone 1 20 10) }
+              ∷ record { rec = 32; number = 34; expected = Some 33; outcome = headed 9 } ∷ [])) ∷ [];
           status = 4;
         }) }
 {}
@@ -144,9 +144,9 @@ pub fn unjudged_by_hand()
         ≡ Some (record {
           files = record { note = note.Refused pcap.BadMagic; name = codes "a.pcap" } ∷ [];
           flows = flow_at 0 0 (not_judged (unjudged.NoWholeFrame 5))
-            ∷ flow_at 0 1 (not_judged (unjudged.Refused 40 (packet.FrameSize 20 19)))
-            ∷ flow_at 0 2 (not_judged (unjudged.Refused 2 packet.SecondSource))
-            ∷ flow_at 0 3 (not_judged (unjudged.Gap 1026 2049 2050)) ∷ [];
+              ∷ flow_at 0 1 (not_judged (unjudged.Refused 40 (packet.FrameSize 20 19)))
+              ∷ flow_at 0 2 (not_judged (unjudged.Refused 2 packet.SecondSource))
+              ∷ flow_at 0 3 (not_judged (unjudged.Gap 1026 2049 2050)) ∷ [];
           status = 4;
         }) }
 {}
