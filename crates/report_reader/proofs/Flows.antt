@@ -59,7 +59,8 @@ run_at : {B : Type 0} (next : ToldRun → List ℕ → Option B) (media : Media)
     ≡ next record { rec = rec; number = number; expected = expected; outcome = told_outcome media outcome } rest
 unfolding run_lines
 run_at next media index rec number None outcome rest is i r n e fits =
-    simp append_assoc (number_back _ (index + 1) _ i refl ∙ number_back _ rec _ r refl ∙ number_back _ number _ n refl ∙ outcome_back _ media outcome rest is fits)
+    simp append_assoc (number_back _ (index + 1) _ i refl ∙ number_back _ rec _ r refl ∙ number_back _ number _ n refl
+    ∙ outcome_back _ media outcome rest is fits)
 run_at next media index rec number (Some expected) outcome rest is i r n e fits =
     simp append_assoc (number_back _ (index + 1) _ i refl ∙ number_back _ rec _ r refl ∙ number_back _ number _ n refl
     ∙ number_back _ expected _ (e expected refl) refl ∙ outcome_back _ media outcome rest is fits)

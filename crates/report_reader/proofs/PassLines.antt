@@ -19,7 +19,8 @@ use Rattle.timing_report.specs.Verdict.{lines_below, outcome_text, run_lines, ru
 use Rattle.report_reader.specs.PassLines.{flow_passes, is_pass_line, run_passes}
 
 -- after the name of a type
-pass_at : (found : KindVerdict) (more : List ℕ) → is_some (after_prefix (codes " pass,") (codes " " ++ (outcome_text found ++ (codes ", " ++ more)))) ≡ is_pass found
+pass_at : (found : KindVerdict) (more : List ℕ)
+    → is_some (after_prefix (codes " pass,") (codes " " ++ (outcome_text found ++ (codes ", " ++ more)))) ≡ is_pass found
 pass_at Pass more = refl
 pass_at (Fail proof) more = refl
 
@@ -27,18 +28,21 @@ or_false : (b : Bool) → (b || false) ≡ b
 or_false true = refl
 or_false false = refl
 
-types_pass : (media : Media) (judged : Judged) (kind : Kind) → list_any (is_pass_line (codes "  ") kind) (type_lines (codes "  ") media judged) ≡ passes judged kind
+types_pass : (media : Media) (judged : Judged) (kind : Kind)
+    → list_any (is_pass_line (codes "  ") kind) (type_lines (codes "  ") media judged) ≡ passes judged kind
 types_pass media judged N = or_false _ ∙ pass_at (verdict_on judged N) _
 types_pass media judged NL = or_false _ ∙ pass_at (verdict_on judged NL) _
 types_pass media judged W = or_false _ ∙ pass_at (verdict_on judged W) _
 
-run_types_pass : (media : Media) (judged : Judged) (kind : Kind) → list_any (is_pass_line (codes "    ") kind) (type_lines (codes "    ") media judged) ≡ passes judged kind
+run_types_pass : (media : Media) (judged : Judged) (kind : Kind)
+    → list_any (is_pass_line (codes "    ") kind) (type_lines (codes "    ") media judged) ≡ passes judged kind
 run_types_pass media judged N = or_false _ ∙ pass_at (verdict_on judged N) _
 run_types_pass media judged NL = or_false _ ∙ pass_at (verdict_on judged NL) _
 run_types_pass media judged W = or_false _ ∙ pass_at (verdict_on judged W) _
 
 -- the lines of one run
-pub run_pass : (media : Media) (index : ℕ) (run : Run) (kind : Kind) → list_any (is_pass_line (codes "    ") kind) (run_lines media index run) ≡ run_passes run.verdict kind
+pub run_pass : (media : Media) (index : ℕ) (run : Run) (kind : Kind)
+    → list_any (is_pass_line (codes "    ") kind) (run_lines media index run) ≡ run_passes run.verdict kind
 run_pass media index run kind = go run.verdict kind
   where
     go : (found : RunVerdict) (kind : Kind)
@@ -61,7 +65,8 @@ any-append p (x ∷ xs) ys h k =
     rw b.0 (any-append p xs ys b.1 k)
 
 -- the lines below a run are indented further than those of a flow in one run
-run_none : (media : Media) (index : ℕ) (run : Run) (kind : Kind) → list_any (is_pass_line (codes "  ") kind) (run_lines media index run) ≡ false
+run_none : (media : Media) (index : ℕ) (run : Run) (kind : Kind)
+    → list_any (is_pass_line (codes "  ") kind) (run_lines media index run) ≡ false
 run_none media index run kind = go run.verdict kind
   where
     go : (found : RunVerdict) (kind : Kind) → list_any (is_pass_line (codes "  ") kind) (run_lines media index record run { verdict = found }) ≡ false

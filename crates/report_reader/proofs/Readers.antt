@@ -6,5 +6,6 @@ use Rattle.report_reader.specs.Reading.{groups_word, judged_lines, outcome, pack
 use Rattle.report_reader.specs.Reading.{type_line, type_lines, verdict_lines, violation}
 
 unfoldable pub readers : ⊤
-unfolding line number class_word declared_word destination ending file_line files_lines flow_lines flows_lines group_word groups_word judged_lines outcome packet_fault reason report_within run_lines run_outcome runs_lines type_line type_lines verdict_lines violation
+unfolding line number class_word declared_word destination ending file_line files_lines flow_lines flows_lines group_word groups_word judged_lines
+    outcome packet_fault reason report_within run_lines run_outcome runs_lines type_line type_lines verdict_lines violation
 readers = tt

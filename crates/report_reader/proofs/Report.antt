@@ -148,7 +148,8 @@ report_at : (most : ℕ) (job : CheckJob) (session : List Media) (notes : List F
 unfolding report_within
 report_at most job session notes rows status are small files_fit rows_fit =
     files_back _ most 0 job.captures notes _ files_fit (omega (arith, are.is_job.captures_are.few)) are.names are.endings (no_file session rows status)
-    ∙ flows_back _ most session rows (last_line status) rows_fit are.is_session.few are.media (keys_of_rows job session rows are.is_job are.flows) are.results refl
+    ∙ flows_back _ most session rows (last_line status) rows_fit are.is_session.few are.media (keys_of_rows job session rows are.is_job are.flows)
+    are.results refl
     ∙ number_back _ status _ small refl
 
 -- the text has more bytes than captures and than flows

@@ -135,7 +135,8 @@ unfolding number_refused
 runs_or_one true one more = refl
 runs_or_one false one more = refl
 
-refused_or_judged : (packets : List FlowPacket) (tai : ℕ) (first : Option FirstFault) → number_refused (refused_or packets first (judged_runs packets tai)) ≡ false
+refused_or_judged : (packets : List FlowPacket) (tai : ℕ) (first : Option FirstFault)
+    → number_refused (refused_or packets first (judged_runs packets tai)) ≡ false
 refused_or_judged packets tai (Some first) = gap_or_other (packet_at packets first.index).rec first.fault
 refused_or_judged packets tai None = runs_or_one _ _ _
 

@@ -19,8 +19,8 @@ use Rattle.timing_base.specs.declared.row.Unjudged.{Unjudged}
 use Rattle.timing_base.specs.declared.row.Unjudged.TheVariants as unjudged
 use Rattle.timing_base.specs.declared.target.Target.{Target}
 use Rattle.report_reader.specs.Pieces.{after, either, word, number, line, at_end}
-use Rattle.report_reader.specs.Told.{ToldFile, ToldFlow, ToldJudged, ToldOutcome, headed, judged_run, ToldReport, ToldRun}
-use Rattle.report_reader.specs.Told.{ToldType, ToldVerdict, not_judged, in_one_run, in_runs}
+use Rattle.report_reader.specs.Told.{ToldFile, ToldFlow, ToldJudged, ToldOutcome, headed, judged_run, ToldReport}
+use Rattle.report_reader.specs.Told.{ToldRun, ToldType, ToldVerdict, not_judged, in_one_run, in_runs}
 
 -- the fault of a packet
 unfoldable pub packet_fault : {B : Type 0} → (PacketFault → List ℕ → Option B) → List ℕ → Option B

@@ -1,7 +1,7 @@
 -- What the text of a report tells of each capture and of each flow. Captures and media count from 0 here and from 1 in
 -- the text, packet records from 1, and the packets of a judged run from 0. Counts and limits are packets.
--- Of a result the text leaves out two numbers alone: those of the fault `Number`. No flow is refused for this fault, since
--- it is reported as a gap, with both numbers.
+-- Of a result the text leaves out two numbers alone, those of the fault `Number`. No flow is refused for this fault: it
+-- is reported as a gap, with both numbers.
 use Rattle.std.specs.Prelude.{ℕ, Bool, true, false, List, [], ◌∷◌, map, Option}
 use Rattle.timing_base.specs.Jobs.{CheckJob}
 use Rattle.timing_base.specs.Keys.{media_of}

@@ -1,5 +1,5 @@
-//! Laws of the text of a report, and reports that are read by hand. Each function is a theorem: it does nothing, and its
-//! clauses are proved.
+//! Laws of the text of a report, and reports that are read by hand. Each function is a theorem: it does nothing, and
+//! its clauses are proved.
 
 ghost use Rattle.std.specs.Prelude.{◌≡◌, ◌++◌, ◌∷◌, [], List, All, None, Some, codes, false, length, map, ℕ};
 ghost use Rattle.std.specs.List.{list_any};
