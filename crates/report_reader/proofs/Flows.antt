@@ -115,7 +115,7 @@ verdict_back next media (verdict.Runs runs) rest is fits more =
 octets : (a : ℕ) → a / 2 ^ 24 * 2 ^ 24 + a / 2 ^ 16 % 2 ^ 8 * 2 ^ 16 + a / 2 ^ 8 % 2 ^ 8 * 2 ^ 8 + a % 2 ^ 8 ≡ a
 octets a = omega arith
 
-target_back : {B : Type 0} (next : Target → List ℕ → Option B) (target : Target) (rest : List ℕ) → target.address < 2 ^ 32 → target.port < 2 ^ 16
+pub target_back : {B : Type 0} (next : Target → List ℕ → Option B) (target : Target) (rest : List ℕ) → target.address < 2 ^ 32 → target.port < 2 ^ 16
     → begins_with_digit rest ≡ false → destination next (target_text target ++ rest) ≡ next target rest
 unfolding destination
 target_back next target rest a p e =
@@ -124,7 +124,7 @@ target_back next target rest a p e =
     ∙ number_back _ target.port _ (omega (arith, p)) e ∙ ap (λ n. next record { address = n; port = target.port } rest) (octets target.address))
 
 -- the key that a number from 1 tells
-key_is : (key : FlowKey) → record { file = key.file + 1 - 1; media = key.media + 1 - 1 } ≡ key
+pub key_is : (key : FlowKey) → record { file = key.file + 1 - 1; media = key.media + 1 - 1 } ≡ key
 key_is key = ap₂ (λ a b. record { file = a; media = b }) (omega arith) (omega arith)
 
 -- the text of a flow after its first word

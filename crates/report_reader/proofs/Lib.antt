@@ -1,4 +1,5 @@
 pub mod Flows
+pub mod Json
 pub mod Lines
 pub mod Numbers
 pub mod PassLines

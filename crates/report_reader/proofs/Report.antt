@@ -27,7 +27,7 @@ use Rattle.report_reader.specs.Words.{AreNames, AreReported, FitsMedia, FitsNote
 use Rattle.report_reader.proofs.Flows.{flow_back, flow_is, flow_rest}
 use Rattle.report_reader.proofs.Numbers.{both_true, line_back, number_back}
 
-ending_back : {B : Type 0} (next : FileNote → List ℕ → Option B) (end : FileNote) (rest : List ℕ) → FitsNote end
+pub ending_back : {B : Type 0} (next : FileNote → List ℕ → Option B) (end : FileNote) (rest : List ℕ) → FitsNote end
     → ending next (note_text end ++ (codes " " ++ rest)) ≡ next end rest
 unfolding ending
 ending_back next note.End rest fits = refl

@@ -1,6 +1,6 @@
 -- The rows of a report are those of its lines, and equal texts have equal rows.
 use Rattle.std.proofs.Common.{◌≡◌, ◌∙◌, ℕ, suc, Bool, true, false, List, [], ◌∷◌, length, refl, ap, ap₂, sym, arith}
-use Rattle.std.specs.Prelude.{Option, Some, None, map, All, unwrap_or, slice_index_or, if◌then◌else◌, ◌==◌}
+use Rattle.std.specs.Prelude.{Option, Some, None, map, All, IsUtf8, unwrap_or, slice_index_or, if◌then◌else◌, ◌==◌}
 use Rattle.timing_base.specs.Jobs.{CheckJob}
 use Rattle.timing_base.specs.Keys.{media_of}
 use Rattle.timing_base.specs.Media.{Media}
@@ -22,8 +22,11 @@ use Rattle.timing_base.specs.declared.row.RunVerdict.TheVariants as run_verdict
 use Rattle.timing_base.specs.declared.row.Verdict.{Verdict}
 use Rattle.timing_base.specs.declared.row.Verdict.TheVariants as verdict
 use Rattle.timing_report.specs.Text.{report_text}
+use Rattle.timing_report.specs.json_report.Json.{json_text}
 use Rattle.timing_report.specs.json_report.Fails.{FitsRun, FitsRunVerdict, FitsVerdict}
+use Rattle.report_reader.specs.JsonReading.{json_read}
 use Rattle.report_reader.specs.Reading.{report_read}
+use Rattle.report_reader.proofs.Json.{json_back}
 use Rattle.report_reader.specs.Told.{ToldReport, judged_of, row_of, rows_of, run_of, run_verdict_of, told_flow, told_judged, told_of, told_outcome, told_report}
 use Rattle.report_reader.specs.Told.{is_for_number, is_number, leaves_out, told_fault, told_row, told_run, told_unjudged, told_verdict, verdict_of}
 use Rattle.report_reader.specs.Words.{AreReported, FitsRow}
@@ -118,6 +121,21 @@ pub same_rows : (job job' : CheckJob) (session session' : List Media) (notes not
     → report_text job session notes rows ≡ report_text job' session' notes' rows' → rows ≡ rows'
 same_rows job job' session session' notes notes' rows rows' are are' all all' e =
     sym (rows_back session rows are.results all) ∙ ap rows_of (same_told job job' session session' notes notes' rows rows' are are' e)
+    ∙ rows_back session' rows' are'.results all'
+
+-- the same of JSON
+pub same_json : (job job' : CheckJob) (session session' : List Media) (notes notes' : List FileNote) (rows rows' : List Row)
+    → AreReported job session notes rows → AreReported job' session' notes' rows' → All IsUtf8 job.captures → All IsUtf8 job'.captures
+    → json_text job session notes rows ≡ json_text job' session' notes' rows' → told_report job session notes rows ≡ told_report job' session' notes' rows'
+same_json job job' session session' notes notes' rows rows' are are' utf8 utf8' e =
+    same_some _ _ (sym (json_back job session notes rows are utf8) ∙ ap json_read e ∙ json_back job' session' notes' rows' are' utf8')
+
+pub same_json_rows : (job job' : CheckJob) (session session' : List Media) (notes notes' : List FileNote) (rows rows' : List Row)
+    → AreReported job session notes rows → AreReported job' session' notes' rows' → All IsUtf8 job.captures → All IsUtf8 job'.captures
+    → All (λ row. leaves_out row.verdict ≡ false) rows → All (λ row. leaves_out row.verdict ≡ false) rows'
+    → json_text job session notes rows ≡ json_text job' session' notes' rows' → rows ≡ rows'
+same_json_rows job job' session session' notes notes' rows rows' are are' utf8 utf8' all all' e =
+    sym (rows_back session rows are.results all) ∙ ap rows_of (same_json job job' session session' notes notes' rows rows' are are' utf8 utf8' e)
     ∙ rows_back session' rows' are'.results all'
 
 -- no flow is refused for the fault `Number`

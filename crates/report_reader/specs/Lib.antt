@@ -1,4 +1,5 @@
 -- the definitions that the public clauses cite
+pub mod JsonReading
 pub mod PassLines
 pub mod Pieces
 pub mod Reading

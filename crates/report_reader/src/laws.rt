@@ -1,7 +1,7 @@
 //! Laws of the text of a report, and reports that are read by hand. Each function is a theorem: it does nothing, and
 //! its clauses are proved.
 
-ghost use Rattle.std.specs.Prelude.{◌≡◌, ◌++◌, ◌∷◌, [], List, All, None, Some, codes, false, length, map, ℕ};
+ghost use Rattle.std.specs.Prelude.{◌≡◌, ◌++◌, ◌∷◌, [], List, All, IsUtf8, None, Some, codes, false, length, map, ℕ};
 ghost use Rattle.std.specs.List.{list_any};
 ghost use Rattle.timing_base.specs.Jobs.{CheckJob};
 ghost use Rattle.timing_base.specs.Judged.{judged as judged_of_packets, refused};
@@ -20,8 +20,10 @@ ghost use Rattle.timing_base.specs.declared.row.Row.{Row};
 ghost use Rattle.timing_base.specs.declared.row.Run.{Run};
 ghost use Rattle.timing_base.specs.declared.row.Unjudged.TheVariants as unjudged;
 ghost use Rattle.timing_base.specs.declared.row.Verdict.{Verdict};
+ghost use Rattle.timing_report.specs.json_report.Json.{json_text};
 ghost use Rattle.timing_report.specs.Text.{report_text};
 ghost use Rattle.timing_report.specs.Verdict.{lines_below, run_lines};
+ghost use Rattle.report_reader.specs.JsonReading.{json_read};
 ghost use Rattle.report_reader.specs.PassLines.{flow_passes, is_pass_line, run_passes};
 ghost use Rattle.report_reader.specs.Reading.{report_read};
 ghost use Rattle.report_reader.specs.Told.{headed, in_one_run, in_runs, is_number, judged_run, leaves_out, not_judged, rows_of, told_report, told_row};
@@ -33,6 +35,16 @@ pub fn reports_are_read_back()
     ensures { (job : CheckJob) (session : List Media) (notes : List FileNote) (rows : List Row)
         → AreReported job session notes rows
         → report_read (report_text job session notes rows) ≡ Some (told_report job session notes rows) }
+{}
+
+/// A JSON report is read back as the same that its text contains, if the file names are UTF-8.
+pub fn json_reports_are_read_back()
+    ensures json { (job : CheckJob) (session : List Media) (notes : List FileNote) (rows : List Row)
+        → AreReported job session notes rows → All IsUtf8 job.captures
+        → json_read (json_text job session notes rows) ≡ Some (told_report job session notes rows) }
+    ensures both { (job : CheckJob) (session : List Media) (notes : List FileNote) (rows : List Row)
+        → AreReported job session notes rows → All IsUtf8 job.captures
+        → json_read (json_text job session notes rows) ≡ report_read (report_text job session notes rows) }
 {}
 
 /// The lines of a report give its rows: all of them that the text tells, and the whole rows if no flow is refused for
@@ -57,6 +69,23 @@ pub fn one_text_has_one_result()
         → AreReported job session notes rows → AreReported other_job other_session other_notes other_rows
         → All (λ row. leaves_out row.verdict ≡ false) rows → All (λ row. leaves_out row.verdict ≡ false) other_rows
         → report_text job session notes rows ≡ report_text other_job other_session other_notes other_rows
+        → rows ≡ other_rows }
+{}
+
+/// No two JSON reports with different rows have one text, whatever their jobs and descriptions are.
+pub fn one_json_has_one_result()
+    ensures told { (job other_job : CheckJob) (session other_session : List Media) (notes other_notes : List FileNote)
+        (rows other_rows : List Row)
+        → AreReported job session notes rows → AreReported other_job other_session other_notes other_rows
+        → All IsUtf8 job.captures → All IsUtf8 other_job.captures
+        → json_text job session notes rows ≡ json_text other_job other_session other_notes other_rows
+        → told_report job session notes rows ≡ told_report other_job other_session other_notes other_rows }
+    ensures rows { (job other_job : CheckJob) (session other_session : List Media) (notes other_notes : List FileNote)
+        (rows other_rows : List Row)
+        → AreReported job session notes rows → AreReported other_job other_session other_notes other_rows
+        → All IsUtf8 job.captures → All IsUtf8 other_job.captures
+        → All (λ row. leaves_out row.verdict ≡ false) rows → All (λ row. leaves_out row.verdict ≡ false) other_rows
+        → json_text job session notes rows ≡ json_text other_job other_session other_notes other_rows
         → rows ≡ other_rows }
 {}
 
@@ -159,4 +188,17 @@ pub fn other_texts_by_hand()
     ensures no_types { report_read (codes "ST 2110-21 timing report\nfile 1 end a.pcap\n"
         ++ (codes "flow 1.1 239.0.0.1:50000 judged: 20 per frame, 2 frames, 40 packets, "
         ++ codes "head 1, tail 0, class narrow, declared N\nstatus 0\n")) ≡ None }
+{}
+
+/// A JSON report of a capture without packets.
+#[tactic(auto, unfolding(crate::proofs::Readers::json_readers))]
+pub fn absent_json_by_hand()
+    ensures { json_read (codes "{\"files\":[{\"end\":\"end\",\"name\":\"e.pcap\"}],\"flows\":[{\"file\":1,"
+        ++ (codes "\"media\":1,\"target\":\"239.0.0.1:50000\",\"verdict\":\"absent\"}],"
+        ++ codes "\"status\":4}\n"))
+        ≡ Some (record {
+          files = record { note = note.End; name = codes "e.pcap" } ∷ [];
+          flows = flow_at 0 0 (not_judged unjudged.Absent) ∷ [];
+          status = 4;
+        }) }
 {}
