@@ -25,7 +25,7 @@ use Rattle.report_reader.specs.Pieces.{begins_with_digit}
 use Rattle.report_reader.specs.Reading.{destination, flow_lines, reason, run_lines, run_outcome, runs_lines, verdict_lines}
 use Rattle.report_reader.specs.Told.{ToldFlow, ToldOutcome, judged_run, ToldRun, ToldVerdict, in_one_run, not_judged}
 use Rattle.report_reader.specs.Told.{told_of, told_outcome, told_run, told_unjudged}
-use Rattle.report_reader.specs.Words.{FitsMedia, FitsReason, FitsRefusal, FitsRow}
+use Rattle.report_reader.specs.Reported.{FitsMedia, FitsReason, FitsRefusal, FitsRow}
 use Rattle.report_reader.proofs.Lines.{fault_back, judged_back, judged_is}
 use Rattle.report_reader.proofs.Numbers.{number_back}
 

@@ -1,16 +1,15 @@
 -- A JSON report is read back.
-use Rattle.std.proofs.Common.{◌≡◌, ◌∙◌, ℕ, zero, suc, ◌+◌, ◌-◌, ◌^◌, ◌<◌, ◌≤◌, Bool, true, false, List, [], ◌∷◌, ◌++◌, length, refl, ap, ap₂, sym, subst}
-use Rattle.std.proofs.Common.{arith, append_assoc, append-nil, option_and_then, option_map}
+use Rattle.std.proofs.Common.{◌≡◌, ◌∙◌, ℕ, suc, ◌+◌, ◌^◌, ◌<◌, ◌≤◌, Bool, true, false, List, [], ◌∷◌, ◌++◌, refl, ap, sym}
+use Rattle.std.proofs.Common.{arith, append-nil, option_and_then, option_map}
 use Rattle.std.specs.Prelude.{Option, Some, None, codes, ⊤, map, All, IsUtf8, unwrap_or}
-use Rattle.serde_json.specs.Data.{Data, Items, no_items, item, string}
-use Rattle.serde_json.specs.Find.{get, as_array, as_bool}
-use Rattle.serde_json.specs.Read.{read}
+use Rattle.serde_json.specs.Data.{Data, string}
+use Rattle.serde_json.specs.Find.{get, as_bool}
 use Rattle.serde_json.specs.View.{items_of}
 use Rattle.serde_json.specs.Written.{outline}
 use Rattle.json.specs.Tree.{depth}
 use Rattle.timing_base.specs.Jobs.{CheckJob}
 use Rattle.timing_base.specs.Keys.{media_of, no_media}
-use Rattle.timing_base.specs.Media.{Media, IsMedia}
+use Rattle.timing_base.specs.Media.{Media}
 use Rattle.timing_base.specs.Targets.{target_of, target_text}
 use Rattle.timing_base.specs.Verdicts.{Judged}
 use Rattle.timing_base.specs.declared.capture.FileNote.{FileNote}
@@ -32,22 +31,21 @@ use Rattle.timing_base.specs.declared.row.Unjudged.TheVariants as unjudged
 use Rattle.timing_base.specs.declared.row.Verdict.{Verdict}
 use Rattle.timing_base.specs.declared.row.Verdict.TheVariants as verdict
 use Rattle.timing_base.specs.declared.target.Target.{Target}
-use Rattle.timing_report.specs.Outcomes.{buffer_peak, first_passing, status_of, verdict_on}
-use Rattle.timing_report.specs.Status.{code_of}
+use Rattle.timing_report.specs.Outcomes.{buffer_peak, first_passing, verdict_on}
 use Rattle.timing_report.specs.Words.{class_name, declared_name, model_name, note_text, packet_fault_text}
 use Rattle.timing_report.specs.json_report.Json.{Member, count, expected_members, file_data, files_data, flow_data, interlaced_members, judged_numbers, json_text, key_members}
-use Rattle.timing_report.specs.json_report.Json.{list_of, object_of, proof_data, report_data, row_data, run_verdict_members, run_members, unjudged_members}
+use Rattle.timing_report.specs.json_report.Json.{object_of, proof_data, report_data, row_data, unjudged_members}
 use Rattle.timing_report.specs.json_report.Json.{run_data, type_data, type_members, types_data}
 use Rattle.timing_report.specs.json_report.Reading.{model_named, number_in, proof_of, text_in}
-use Rattle.timing_report.proofs.Keys.{IsKeyOf, keys_of_rows}
+use Rattle.timing_report.proofs.Keys.{keys_of_rows}
 use Rattle.timing_report.proofs.lemmas.json_report.Fitting.{Fits, Tellable, report_fits}
 use Rattle.timing_report.proofs.lemmas.json_report.Reread.{read_line}
 use Rattle.sender_params.specs.Limits.{c_max_of, vrx_full_of}
 use Rattle.report_reader.specs.JsonReading.{class_named, data_read, declared_named, each, fault_named, file_read, flow_read, json_read, judged_read, note_named, outcome_in, run_read, target_named}
 use Rattle.report_reader.specs.JsonReading.{type_read, verdict_read}
 use Rattle.report_reader.specs.Pieces.{at_end}
-use Rattle.report_reader.specs.Told.{ToldFile, ToldFlow, ToldJudged, ToldReport, ToldRun, ToldVerdict, in_one_run, in_runs, judged_run, not_judged, told_fault, told_files, told_flow, told_judged, told_of, told_report, told_run, told_type, told_unjudged}
-use Rattle.report_reader.specs.Words.{AreReported, FitsFault, FitsMedia, FitsReason, FitsNote, FitsRefusal, FitsRow}
+use Rattle.report_reader.specs.Told.{ToldVerdict, in_one_run, judged_run, not_judged, told_fault, told_files, told_flow, told_judged, told_of, told_report, told_run, told_type, told_unjudged}
+use Rattle.report_reader.specs.Reported.{AreReported, FitsFault, FitsMedia, FitsReason, FitsNote, FitsRefusal, FitsRow}
 use Rattle.report_reader.proofs.Flows.{key_is, target_back}
 use Rattle.report_reader.proofs.Lines.{fault_back}
 use Rattle.report_reader.proofs.Report.{ending_back}
@@ -69,8 +67,13 @@ outcome_back media judged kind Pass = refl
 outcome_back media judged kind (Fail proof) = ap (option_map Fail) (proof_back proof)
 
 type_at : (media : Media) (judged : Judged) (kind : Kind) (found : KindVerdict) → type_read (object_of (type_members media judged kind found))
-    ≡ Some record { verdict = found; bucket = judged.bucket_peak; bucket_limit = c_max_of media judged.n kind; buffer = buffer_peak judged kind;
-    buffer_limit = vrx_full_of media judged.n kind }
+    ≡ Some record {
+      verdict = found;
+      bucket = judged.bucket_peak;
+      bucket_limit = c_max_of media judged.n kind;
+      buffer = buffer_peak judged kind;
+      buffer_limit = vrx_full_of media judged.n kind;
+    }
 unfolding type_read
 type_at media judged kind Pass = rw (outcome_back media judged kind Pass) refl
 type_at media judged kind (Fail proof) = rw (outcome_back media judged kind (Fail proof)) refl
@@ -108,8 +111,22 @@ record HasJudged (media : Media) (judged : Judged) (d : Data) : Type 0 where
 judged_back : (media : Media) (judged : Judged) (d : Data) → HasJudged media judged d → judged_read d ≡ Some (told_judged media judged)
 unfolding judged_read
 judged_back media judged d has =
-    rw (has.n, has.frames, has.packets, has.head, has.tail, has.class, has.declared, has.types, has.interlaced, class_back (first_passing judged),
-    declared_back media.declared, type_back media judged N, type_back media judged NL, type_back media judged W) refl
+    rw (
+      has.n,
+      has.frames,
+      has.packets,
+      has.head,
+      has.tail,
+      has.class,
+      has.declared,
+      has.types,
+      has.interlaced,
+      class_back (first_passing judged),
+      declared_back media.declared,
+      type_back media judged N,
+      type_back media judged NL,
+      type_back media judged W,
+    ) refl
 
 -- the words of a judged run, whether its video is interlaced or not
 abbrev words : Media → Judged → Bool → List Member

@@ -25,7 +25,7 @@ use Rattle.report_reader.specs.Pieces.{after, begins_with_digit}
 use Rattle.report_reader.specs.Reading.{class_word, declared_word, group_word, groups_word, judged_lines, outcome, packet_fault, type_line, type_lines}
 use Rattle.report_reader.specs.Reading.{violation}
 use Rattle.report_reader.specs.Told.{ToldJudged, ToldType, told_fault, told_judged, told_type}
-use Rattle.report_reader.specs.Words.{FitsFault}
+use Rattle.report_reader.specs.Reported.{FitsFault}
 use Rattle.report_reader.proofs.Numbers.{number_back}
 
 violation_at : {B : Type 0} (next : FailProof → List ℕ → Option B) (broken : Broken) (from to count limit : ℕ) (rest : List ℕ)

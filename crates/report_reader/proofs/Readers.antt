@@ -1,7 +1,5 @@
--- What is opened to read texts that are worked by hand.
+-- What is opened to read texts and JSON values that are worked by hand.
 use Rattle.std.specs.Prelude.{⊤}
-use Rattle.json.specs.Lex.{lex}
-use Rattle.json.specs.Word.{word}
 use Rattle.report_reader.specs.JsonReading.{class_named, data_read, declared_named, fault_named, file_read, flow_read, judged_read, note_named, outcome_in, run_read, target_named}
 use Rattle.report_reader.specs.JsonReading.{type_read, verdict_read}
 use Rattle.report_reader.specs.Pieces.{line, number}
@@ -15,6 +13,6 @@ unfolding line number class_word declared_word destination ending file_line file
 readers = tt
 
 unfoldable pub json_readers : ⊤
-unfolding readers lex word class_named data_read declared_named fault_named file_read flow_read judged_read note_named outcome_in run_read target_named
+unfolding readers class_named data_read declared_named fault_named file_read flow_read judged_read note_named outcome_in run_read target_named
     type_read verdict_read
 json_readers = tt

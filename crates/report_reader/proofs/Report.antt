@@ -23,7 +23,7 @@ use Rattle.timing_report.proofs.lemmas.json_report.Limits.{code_small}
 use Rattle.report_reader.specs.Pieces.{line}
 use Rattle.report_reader.specs.Reading.{ending, file_line, files_lines, flows_lines, report_read, report_within}
 use Rattle.report_reader.specs.Told.{ToldFile, ToldFlow, told_files, told_flow, told_report}
-use Rattle.report_reader.specs.Words.{AreNames, AreReported, FitsMedia, FitsNote, FitsRow}
+use Rattle.report_reader.specs.Reported.{AreNames, AreReported, FitsMedia, FitsNote, FitsRow}
 use Rattle.report_reader.proofs.Flows.{flow_back, flow_is, flow_rest}
 use Rattle.report_reader.proofs.Numbers.{both_true, line_back, number_back}
 

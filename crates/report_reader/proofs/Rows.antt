@@ -29,7 +29,7 @@ use Rattle.report_reader.specs.Reading.{report_read}
 use Rattle.report_reader.proofs.Json.{json_back}
 use Rattle.report_reader.specs.Told.{ToldReport, judged_of, row_of, rows_of, run_of, run_verdict_of, told_flow, told_judged, told_of, told_outcome, told_report}
 use Rattle.report_reader.specs.Told.{is_for_number, is_number, leaves_out, told_fault, told_row, told_run, told_unjudged, told_verdict, verdict_of}
-use Rattle.report_reader.specs.Words.{AreReported, FitsRow}
+use Rattle.report_reader.specs.Reported.{AreReported, FitsRow}
 use Rattle.report_reader.proofs.Report.{report_back}
 
 three_are : (kinds : List KindVerdict) → length kinds ≡ 3

@@ -1,6 +1,6 @@
 -- The reader of a JSON report: what it contains of the captures and of the flows, as of the text of a report. Keys that
 -- are not named here are ignored.
-use Rattle.std.specs.Prelude.{ℕ, ◌-◌, ◌++◌, Bool, true, false, if◌then◌else◌, List, [], ◌∷◌, Option, Some, None, codes}
+use Rattle.std.specs.Prelude.{ℕ, ◌-◌, ◌++◌, false, if◌then◌else◌, List, [], ◌∷◌, Option, Some, None, codes}
 use Rattle.std.specs.Prelude.{option_and_then, option_map, unwrap_or}
 use Rattle.serde_json.specs.Data.{Data, Items, no_items, item}
 use Rattle.serde_json.specs.Find.{get, get_item, as_array, as_bool}
@@ -119,14 +119,23 @@ verdict_read d = by_verdict (
     (codes "judged", λ flow. option_map in_one_run (judged_read flow))
     ∷ (codes "runs", λ flow. option_map in_runs (list_in (codes "runs") run_read flow))
     ∷ (codes "absent", λ flow. Some (not_judged unjudged.Absent))
-    ∷ (codes "no whole frame", λ flow. given (number_in (codes "head") flow) (λ head.
-        Some (not_judged (unjudged.NoWholeFrame head))))
-    ∷ (codes "refused", λ flow. given (number_in (codes "record") flow) (λ rec.
-        given (given (text_in (codes "fault") flow) fault_named) (λ fault.
-        Some (not_judged (unjudged.Refused rec fault)))))
-    ∷ (codes "gap", λ flow. given (number_in (codes "record") flow) (λ rec.
-        given (number_in (codes "expected") flow) (λ expected. given (number_in (codes "got") flow) (λ got.
-        Some (not_judged (unjudged.Gap rec expected got)))))) ∷ []) d
+    ∷ (
+      codes "no whole frame",
+      λ flow. given (number_in (codes "head") flow) (λ head.
+          Some (not_judged (unjudged.NoWholeFrame head))),
+    )
+    ∷ (
+      codes "refused",
+      λ flow. given (number_in (codes "record") flow) (λ rec.
+          given (given (text_in (codes "fault") flow) fault_named) (λ fault.
+          Some (not_judged (unjudged.Refused rec fault)))),
+    )
+    ∷ (
+      codes "gap",
+      λ flow. given (number_in (codes "record") flow) (λ rec.
+          given (number_in (codes "expected") flow) (λ expected. given (number_in (codes "got") flow) (λ got.
+          Some (not_judged (unjudged.Gap rec expected got))))),
+    ) ∷ []) d
 
 -- the destination with this text
 unfoldable pub target_named : List ℕ → Option Target

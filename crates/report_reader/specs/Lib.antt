@@ -4,6 +4,6 @@ pub mod PassLines
 pub mod Pieces
 pub mod Reading
 pub mod Told
-pub mod Words
+pub mod Reported
 -- values of the examples that are worked by hand
 pub mod Worked

@@ -3,6 +3,7 @@
 
 ghost use Rattle.std.specs.Prelude.{◌≡◌, ◌++◌, ◌∷◌, [], List, All, IsUtf8, None, Some, codes, false, length, map, ℕ};
 ghost use Rattle.std.specs.List.{list_any};
+ghost use Rattle.serde_json.specs.Data.{boolean, string};
 ghost use Rattle.timing_base.specs.Jobs.{CheckJob};
 ghost use Rattle.timing_base.specs.Judged.{judged as judged_of_packets, refused};
 ghost use Rattle.timing_base.specs.Media.{Media};
@@ -20,14 +21,14 @@ ghost use Rattle.timing_base.specs.declared.row.Row.{Row};
 ghost use Rattle.timing_base.specs.declared.row.Run.{Run};
 ghost use Rattle.timing_base.specs.declared.row.Unjudged.TheVariants as unjudged;
 ghost use Rattle.timing_base.specs.declared.row.Verdict.{Verdict};
-ghost use Rattle.timing_report.specs.json_report.Json.{json_text};
+ghost use Rattle.timing_report.specs.json_report.Json.{count, json_text, list_of, object_of};
 ghost use Rattle.timing_report.specs.Text.{report_text};
 ghost use Rattle.timing_report.specs.Verdict.{lines_below, run_lines};
-ghost use Rattle.report_reader.specs.JsonReading.{json_read};
+ghost use Rattle.report_reader.specs.JsonReading.{data_read, json_read, type_read};
 ghost use Rattle.report_reader.specs.PassLines.{flow_passes, is_pass_line, run_passes};
 ghost use Rattle.report_reader.specs.Reading.{report_read};
 ghost use Rattle.report_reader.specs.Told.{headed, in_one_run, in_runs, is_number, judged_run, leaves_out, not_judged, rows_of, told_report, told_row};
-ghost use Rattle.report_reader.specs.Words.{AreReported, FitsRow};
+ghost use Rattle.report_reader.specs.Reported.{AreReported, FitsRow};
 ghost use Rattle.report_reader.specs.Worked.{alone, flow_at, one_of, violation};
 
 /// The text of a report is read back as all that it tells of the captures and of the results of the flows.
@@ -190,15 +191,39 @@ pub fn other_texts_by_hand()
         ++ codes "head 1, tail 0, class narrow, declared N\nstatus 0\n")) ≡ None }
 {}
 
-/// A JSON report of a capture without packets.
+/// The value of a JSON report: a capture without packets.
 #[tactic(auto, unfolding(crate::proofs::Readers::json_readers))]
 pub fn absent_json_by_hand()
-    ensures { json_read (codes "{\"files\":[{\"end\":\"end\",\"name\":\"e.pcap\"}],\"flows\":[{\"file\":1,"
-        ++ (codes "\"media\":1,\"target\":\"239.0.0.1:50000\",\"verdict\":\"absent\"}],"
-        ++ codes "\"status\":4}\n"))
+    ensures { data_read (object_of ((
+      codes "files",
+      list_of (object_of ((codes "end", string (codes "end"))
+          ∷ (codes "name", string (codes "e.pcap")) ∷ []) ∷ []),
+    )
+        ∷ (
+          codes "flows",
+          list_of (object_of ((codes "file", count 1) ∷ (codes "media", count 1)
+              ∷ (codes "target", string (codes "239.0.0.1:50000"))
+              ∷ (codes "verdict", string (codes "absent")) ∷ []) ∷ []),
+        )
+        ∷ (codes "status", count 4) ∷ []))
         ≡ Some (record {
           files = record { note = note.End; name = codes "e.pcap" } ∷ [];
           flows = flow_at 0 0 (not_judged unjudged.Absent) ∷ [];
           status = 4;
         }) }
+{}
+
+/// The value of a sender type that fails, as in the JSON: a packet that comes after its gapped read.
+#[tactic(auto, unfolding(crate::proofs::Readers::json_readers))]
+pub fn failing_type_json_by_hand()
+    ensures { type_read (object_of (
+        (codes "bucket_limit", count 4) ∷ (codes "bucket_peak", count 1) ∷ (codes "buffer_limit", count 8)
+        ∷ (codes "buffer_peak", count 1) ∷ (codes "pass", boolean false)
+        ∷ (
+          codes "proof",
+          object_of ((codes "count", count 1) ∷ (codes "from", count 1) ∷ (codes "limit", count 2)
+              ∷ (codes "model", string (codes "Empty")) ∷ (codes "to", count 1) ∷ []),
+        )
+        ∷ (codes "type", string (codes "N")) ∷ []))
+        ≡ Some (one_of (violation model.Empty 1 1 1 2) 4 8) }
 {}
