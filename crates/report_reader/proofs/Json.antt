@@ -33,7 +33,8 @@ use Rattle.timing_base.specs.declared.row.Verdict.TheVariants as verdict
 use Rattle.timing_base.specs.declared.target.Target.{Target}
 use Rattle.timing_report.specs.Outcomes.{buffer_peak, first_passing, verdict_on}
 use Rattle.timing_report.specs.Words.{class_name, declared_name, model_name, note_text, packet_fault_text}
-use Rattle.timing_report.specs.json_report.Json.{Member, count, expected_members, file_data, files_data, flow_data, interlaced_members, judged_numbers, json_text, key_members}
+use Rattle.timing_report.specs.json_report.Json.{Member, count, expected_members, file_data, files_data, flow_data, interlaced_members}
+use Rattle.timing_report.specs.json_report.Json.{judged_numbers, json_text, key_members}
 use Rattle.timing_report.specs.json_report.Json.{object_of, proof_data, report_data, row_data, unjudged_members}
 use Rattle.timing_report.specs.json_report.Json.{run_data, type_data, type_members, types_data}
 use Rattle.timing_report.specs.json_report.Reading.{model_named, number_in, proof_of, text_in}
@@ -41,10 +42,12 @@ use Rattle.timing_report.proofs.Keys.{keys_of_rows}
 use Rattle.timing_report.proofs.lemmas.json_report.Fitting.{Fits, Tellable, report_fits}
 use Rattle.timing_report.proofs.lemmas.json_report.Reread.{read_line}
 use Rattle.sender_params.specs.Limits.{c_max_of, vrx_full_of}
-use Rattle.report_reader.specs.JsonReading.{class_named, data_read, declared_named, each, fault_named, file_read, flow_read, json_read, judged_read, note_named, outcome_in, run_read, target_named}
+use Rattle.report_reader.specs.JsonReading.{class_named, data_read, declared_named, each, fault_named, file_read, flow_read, json_read}
+use Rattle.report_reader.specs.JsonReading.{judged_read, note_named, outcome_in, run_read, target_named}
 use Rattle.report_reader.specs.JsonReading.{type_read, verdict_read}
 use Rattle.report_reader.specs.Pieces.{at_end}
-use Rattle.report_reader.specs.Told.{ToldVerdict, in_one_run, judged_run, not_judged, told_fault, told_files, told_flow, told_judged, told_of, told_report, told_run, told_type, told_unjudged}
+use Rattle.report_reader.specs.Told.{ToldVerdict, in_one_run, judged_run, not_judged, told_fault, told_files, told_flow, told_judged, told_of}
+use Rattle.report_reader.specs.Told.{told_report, told_run, told_type, told_unjudged}
 use Rattle.report_reader.specs.Reported.{AreReported, FitsFault, FitsMedia, FitsReason, FitsNote, FitsRefusal, FitsRow}
 use Rattle.report_reader.proofs.Flows.{key_is, target_back}
 use Rattle.report_reader.proofs.Lines.{fault_back}
@@ -255,7 +258,8 @@ verdict_has media key (verdict.Judged judged) fits = judged_has media key judged
 verdict_has media key (verdict.Runs runs) fits =
     record { file = refl; place = refl; target = refl; verdict = rw (runs_back media runs) refl }
 
-flow_back : (session : List Media) (row : Row) → FitsMedia (media_of session row.key) → FitsRow row → flow_read (row_data session row) ≡ Some (told_flow session row)
+flow_back : (session : List Media) (row : Row) → FitsMedia (media_of session row.key) → FitsRow row
+    → flow_read (row_data session row) ≡ Some (told_flow session row)
 flow_back session row is fits =
     let m = media_of session row.key in
     flow_of_members m row.key (told_of m row.verdict) (row_data session row) is.address is.port (verdict_has m row.key row.verdict fits.refusal)
@@ -264,7 +268,8 @@ file_back : (name : List ℕ) (end : FileNote) → FitsNote end → file_read (f
 unfolding file_read
 file_back name end fits = rw (note_of_text end fits) refl
 
-files_back : (names : List (List ℕ)) (notes : List FileNote) → All FitsNote notes → each file_read (items_of (files_data names notes)) ≡ Some (told_files names notes)
+files_back : (names : List (List ℕ)) (notes : List FileNote) → All FitsNote notes
+    → each file_read (items_of (files_data names notes)) ≡ Some (told_files names notes)
 files_back [] notes fits = refl
 files_back (name ∷ names) [] fits = refl
 files_back (name ∷ names) (end ∷ notes) fits =

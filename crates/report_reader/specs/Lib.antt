@@ -3,7 +3,7 @@ pub mod JsonReading
 pub mod PassLines
 pub mod Pieces
 pub mod Reading
-pub mod Told
 pub mod Reported
+pub mod Told
 -- values of the examples that are worked by hand
 pub mod Worked

@@ -1,4 +1,4 @@
--- The reader of the text of a report: what its lines tell of the captures and of the flows. The title comes first,
+-- The reader of the text of a report: what its lines contain of the captures and of the flows. The title comes first,
 -- then the line of each capture, the lines of each flow, and the status. A report has at most as many captures and
 -- flows as its text has bytes. That a run or a capture has its place as its number isn't tested, nor that peaks and
 -- numbers of gaps that stand in several places agree.
@@ -73,7 +73,7 @@ type_lines space next text =
 unfoldable pub group_word : {B : Type 0} → (Bool → List ℕ → Option B) → List ℕ → Option B
 group_word next text = word ((codes " per frame, ", false) ∷ (codes " per field, ", true) ∷ []) next text
 
--- `frames` or `fields`, which the words before have told
+-- `frames` or `fields`, which the words before it show
 unfoldable pub groups_word : {B : Type 0} → (List ℕ → Option B) → List ℕ → Option B
 groups_word next text = either (codes " frames, ") next (after (codes " fields, ") next) text
 
@@ -202,13 +202,13 @@ files_lines zero next text = next [] text
 files_lines (suc most) next text =
     either (codes "file ") (file_line (λ file. files_lines most (λ files. next (file ∷ files)))) (next []) text
 
--- what the text of a report of at most so many captures and flows tells; none if it isn't in the form of a report
+-- the contents of a report with at most so many captures and flows; none if it isn't in the form of a report
 unfoldable pub report_within : ℕ → List ℕ → Option ToldReport
 report_within most text =
     after (codes "ST 2110-21 timing report\n") (files_lines most (λ files. flows_lines most (λ flows.
     after (codes "status ") (number (λ status. after (codes "\n")
     (at_end record { files = files; flows = flows; status = status })))))) text
 
--- what the text of a report tells
+-- the contents of a report
 abbrev pub report_read : List ℕ → Option ToldReport
 report_read text = report_within (length text) text

@@ -17,7 +17,7 @@ use Rattle.timing_base.specs.declared.row.Verdict.TheVariants as verdict
 use Rattle.timing_report.specs.Outcomes.{AreRowsOf}
 use Rattle.timing_report.specs.json_report.Fails.{IsWord, FitsVerdict}
 
--- the numbers of the fault of a packet that the text tells
+-- the numbers of a packet's fault that are printed
 abbrev pub FitsFault : PacketFault → Type 0
 FitsFault (packet.StampBack before got) = IsWord before × IsWord got
 FitsFault (packet.FrameSize want got) = IsWord want × IsWord got

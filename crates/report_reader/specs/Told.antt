@@ -1,7 +1,7 @@
--- What the text of a report tells of each capture and of each flow. Captures and media count from 0 here and from 1 in
--- the text, packet records from 1, and the packets of a judged run from 0. Counts and limits are packets.
--- Of a result the text leaves out two numbers alone, those of the fault `Number`. No flow is refused for this fault: it
--- is reported as a gap, with both numbers.
+-- What a report contains of each capture and of each flow, as text or as JSON. Captures and media count from 0 here and
+-- from 1 in the report, packet records from 1, and the packets of a judged run from 0. Counts and limits are packets.
+-- Two numbers of a result are left out, those of the fault `Number`. No flow is refused for this fault: it is reported
+-- as a gap, with both numbers.
 use Rattle.std.specs.Prelude.{ℕ, Bool, true, false, List, [], ◌∷◌, map, Option}
 use Rattle.timing_base.specs.Jobs.{CheckJob}
 use Rattle.timing_base.specs.Keys.{media_of}
@@ -54,7 +54,7 @@ pub record ToldJudged : Type 0 where
   pub linear : ToldType
   pub wide : ToldType
 
--- what is told of the verdict on a run between gaps
+-- the verdict on a run between gaps, as in the report
 pub data ToldOutcome : Type 0 where
   headed : (head : ℕ) → ToldOutcome
   judged_run : ToldJudged → ToldOutcome
@@ -66,7 +66,7 @@ pub record ToldRun : Type 0 where
   pub expected : Option ℕ
   pub outcome : ToldOutcome
 
--- what is told of the verdict on a flow
+-- the verdict on a flow, as in the report
 pub data ToldVerdict : Type 0 where
   not_judged : Unjudged → ToldVerdict
   in_one_run : ToldJudged → ToldVerdict
@@ -99,12 +99,12 @@ abbrev pub told_unjudged : Unjudged → Unjudged
 told_unjudged (unjudged.Refused rec fault) = unjudged.Refused rec (told_fault fault)
 told_unjudged other = other
 
--- the result of a flow as far as the text tells it
+-- the result of a flow without the numbers that the report leaves out
 abbrev pub told_verdict : Verdict → Verdict
 told_verdict (verdict.Unjudged unjudged) = verdict.Unjudged (told_unjudged unjudged)
 told_verdict other = other
 
--- a row as far as the text tells it
+-- a row without the numbers that the report leaves out
 abbrev pub told_row : Row → Row
 told_row row = record { key = row.key; verdict = told_verdict row.verdict }
 
@@ -118,12 +118,12 @@ abbrev pub is_for_number : Unjudged → Bool
 is_for_number (unjudged.Refused rec fault) = is_number fault
 is_for_number other = false
 
--- whether the text leaves out numbers of a result
+-- whether the report leaves out numbers of a result
 abbrev pub leaves_out : Verdict → Bool
 leaves_out (verdict.Unjudged reason) = is_for_number reason
 leaves_out other = false
 
--- what is told of a sender type
+-- the line of a sender type of a judged run
 abbrev pub told_type : Media → Judged → Kind → ToldType
 told_type media judged kind = record {
   verdict = verdict_on judged kind;
@@ -133,7 +133,7 @@ told_type media judged kind = record {
   buffer_limit = vrx_full_of media judged.n kind;
 }
 
--- what is told of a judged run
+-- the lines of a judged run of this media
 abbrev pub told_judged : Media → Judged → ToldJudged
 told_judged media judged = record {
   n = judged.n;
@@ -149,12 +149,12 @@ told_judged media judged = record {
   wide = told_type media judged W;
 }
 
--- what is told of the verdict on a run
+-- the verdict on a run of this media, as in the report
 abbrev pub told_outcome : Media → RunVerdict → ToldOutcome
 told_outcome media (run_verdict.NoWholeFrame head) = headed head
 told_outcome media (run_verdict.Judged judged) = judged_run (told_judged media judged)
 
--- what is told of a run
+-- the lines of a run of this media
 abbrev pub told_run : Media → Run → ToldRun
 told_run media run = record {
   rec = run.rec;
@@ -163,25 +163,25 @@ told_run media run = record {
   outcome = told_outcome media run.verdict;
 }
 
--- what is told of a verdict on a flow of this media
+-- the verdict on a flow of this media, as in the report
 abbrev pub told_of : Media → Verdict → ToldVerdict
 told_of media (verdict.Unjudged unjudged) = not_judged (told_unjudged unjudged)
 told_of media (verdict.Judged judged) = in_one_run (told_judged media judged)
 told_of media (verdict.Runs runs) = in_runs (map (told_run media) runs)
 
--- what is told of a row
+-- the lines of a row
 abbrev pub told_flow : List Media → Row → ToldFlow
 told_flow session row =
     let media = media_of session row.key in
     record { key = row.key; target = target_of media; verdict = told_of media row.verdict }
 
--- what is told of the captures, by their names and how each ends
+-- the lines of the captures, by their names and how each ends
 abbrev pub told_files : List (List ℕ) → List FileNote → List ToldFile
 told_files (name ∷ names) (note ∷ notes) = record { note = note; name = name } ∷ told_files names notes
 told_files [] notes = []
 told_files (name ∷ names) [] = []
 
--- what is told of a job and its results
+-- the report of a job and its results
 abbrev pub told_report : CheckJob → List Media → List FileNote → List Row → ToldReport
 told_report job session notes rows = record {
   files = told_files job.captures notes;

@@ -1,4 +1,4 @@
--- What the reports that are worked by hand tell: two frames of 20 packets to 239.0.0.1:50000, or runs of them.
+-- The contents of reports that are worked by hand: two frames of 20 packets to 239.0.0.1:50000, or runs of them.
 use Rattle.std.specs.Prelude.{ℕ, false, Some}
 use Rattle.timing_base.specs.declared.fail.Broken.{Broken}
 use Rattle.timing_base.specs.declared.media.Kind.TheVariants.{N}

@@ -27,18 +27,19 @@ ghost use Rattle.timing_report.specs.Verdict.{lines_below, run_lines};
 ghost use Rattle.report_reader.specs.JsonReading.{data_read, json_read, type_read};
 ghost use Rattle.report_reader.specs.PassLines.{flow_passes, is_pass_line, run_passes};
 ghost use Rattle.report_reader.specs.Reading.{report_read};
-ghost use Rattle.report_reader.specs.Told.{headed, in_one_run, in_runs, is_number, judged_run, leaves_out, not_judged, rows_of, told_report, told_row};
+ghost use Rattle.report_reader.specs.Told.{headed, in_one_run, in_runs, is_number, judged_run, leaves_out};
+ghost use Rattle.report_reader.specs.Told.{not_judged, rows_of, told_report, told_row};
 ghost use Rattle.report_reader.specs.Reported.{AreReported, FitsRow};
 ghost use Rattle.report_reader.specs.Worked.{alone, flow_at, one_of, violation};
 
-/// The text of a report is read back as all that it tells of the captures and of the results of the flows.
+/// The text of a report is read back: its captures, all lines of each flow, and the status.
 pub fn reports_are_read_back()
     ensures { (job : CheckJob) (session : List Media) (notes : List FileNote) (rows : List Row)
         → AreReported job session notes rows
         → report_read (report_text job session notes rows) ≡ Some (told_report job session notes rows) }
 {}
 
-/// A JSON report is read back as the same that its text contains, if the file names are UTF-8.
+/// A JSON report is read back as the same contents as its text, if the file names are UTF-8.
 pub fn json_reports_are_read_back()
     ensures json { (job : CheckJob) (session : List Media) (notes : List FileNote) (rows : List Row)
         → AreReported job session notes rows → All IsUtf8 job.captures
@@ -48,8 +49,8 @@ pub fn json_reports_are_read_back()
         → json_read (json_text job session notes rows) ≡ report_read (report_text job session notes rows) }
 {}
 
-/// The lines of a report give its rows: all of them that the text tells, and the whole rows if no flow is refused for
-/// the fault `Number`.
+/// The lines of a report give its rows, except for the numbers of a flow that is refused for the fault `Number`, and
+/// the whole rows if there is no such flow.
 pub fn lines_give_rows()
     ensures told { (job : CheckJob) (session : List Media) (notes : List FileNote) (rows : List Row)
         → All FitsRow rows → rows_of (told_report job session notes rows) ≡ map told_row rows }
