@@ -20,7 +20,10 @@ ghost use Rattle.timing_base.specs.declared.row.KindVerdict.TheVariants.{Pass};
 ghost use Rattle.timing_base.specs.declared.row.Row.{Row};
 ghost use Rattle.timing_base.specs.declared.row.Run.{Run};
 ghost use Rattle.timing_base.specs.declared.row.Unjudged.TheVariants as unjudged;
+ghost use Rattle.timing_base.specs.Examples.{plain_media as plain};
 ghost use Rattle.timing_base.specs.declared.row.Verdict.{Verdict};
+ghost use Rattle.timing_base.specs.declared.row.Verdict.TheVariants as verdict;
+ghost use Rattle.timing_report.specs.Worked.{check_of, first_flow, narrow};
 ghost use Rattle.timing_report.specs.json_report.Json.{count, json_text, list_of, object_of};
 ghost use Rattle.timing_report.specs.Text.{report_text};
 ghost use Rattle.timing_report.specs.Verdict.{lines_below, run_lines};
@@ -104,6 +107,12 @@ pub fn pass_lines_are_passes()
         → list_any (is_pass_line (codes "  ") kind) (lines_below media found) ≡ flow_passes found kind }
     ensures run { (media : Media) (index : ℕ) (run : Run) (kind : Kind)
         → list_any (is_pass_line (codes "    ") kind) (run_lines media index run) ≡ run_passes run.verdict kind }
+{}
+
+/// The conditions of these laws hold of the results for two frames of 20 packets.
+pub fn plain_narrow_is_reported()
+    ensures { AreReported (check_of (codes "a.pcap")) (plain ∷ []) (note.End ∷ [])
+        (first_flow (verdict.Judged narrow) ∷ []) }
 {}
 
 /// Two frames of 20 packets, each packet alone in the bucket and in the buffer.
