@@ -1,5 +1,5 @@
-//! The conditions of the laws on numbers: all values of the program's types meet them. Each function is a theorem: it does
-//! nothing, and its clauses are proved.
+//! The conditions of the laws on numbers: all values of the program's types meet them. Each function is a theorem: it
+//! does nothing, and its clauses are proved.
 
 ghost use Rattle.std.specs.Option.{ForSome};
 ghost use Rattle.timing_base.specs.Verdicts.{IsJudged};
