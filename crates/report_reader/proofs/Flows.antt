@@ -115,13 +115,13 @@ verdict_back next media (verdict.Runs runs) rest is fits more =
 octets : (a : ℕ) → a / 2 ^ 24 * 2 ^ 24 + a / 2 ^ 16 % 2 ^ 8 * 2 ^ 16 + a / 2 ^ 8 % 2 ^ 8 * 2 ^ 8 + a % 2 ^ 8 ≡ a
 octets a = omega arith
 
-pub target_back : {B : Type 0} (next : Target → List ℕ → Option B) (target : Target) (rest : List ℕ) → target.address < 2 ^ 32 → target.port < 2 ^ 16
+pub target_back : {B : Type 0} (next : Target → List ℕ → Option B) (target : Target) (rest : List ℕ) → target.address.bits < 2 ^ 32 → target.port < 2 ^ 16
     → begins_with_digit rest ≡ false → destination next (target_text target ++ rest) ≡ next target rest
 unfolding destination
 target_back next target rest a p e =
-    simp append_assoc (number_back _ (target.address / 2 ^ 24) _ (omega (arith, a)) refl ∙ number_back _ (target.address / 2 ^ 16 % 2 ^ 8) _ (omega arith) refl
-    ∙ number_back _ (target.address / 2 ^ 8 % 2 ^ 8) _ (omega arith) refl ∙ number_back _ (target.address % 2 ^ 8) _ (omega arith) refl
-    ∙ number_back _ target.port _ (omega (arith, p)) e ∙ ap (λ n. next record { address = n; port = target.port } rest) (octets target.address))
+    simp append_assoc (number_back _ (target.address.bits / 2 ^ 24) _ (omega (arith, a)) refl ∙ number_back _ (target.address.bits / 2 ^ 16 % 2 ^ 8) _ (omega arith) refl
+    ∙ number_back _ (target.address.bits / 2 ^ 8 % 2 ^ 8) _ (omega arith) refl ∙ number_back _ (target.address.bits % 2 ^ 8) _ (omega arith) refl
+    ∙ number_back _ target.port _ (omega (arith, p)) e ∙ ap (λ n. next record { address = record { bits = n }; port = target.port } rest) (octets target.address.bits))
 
 -- the key that a number from 1 tells
 pub key_is : (key : FlowKey) → record { file = key.file + 1 - 1; media = key.media + 1 - 1 } ≡ key

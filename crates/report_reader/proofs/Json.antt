@@ -201,7 +201,7 @@ each_back reads f g P one [] h = refl
 each_back reads f g P one (x ∷ xs) h =
     rw (one x (h 0 x (omega arith)), each_back reads f g P one xs (λ k d lt. h (suc k) d (omega arith))) refl
 
-target_of_text : (target : Target) → target.address < 2 ^ 32 → target.port < 2 ^ 16 → target_named (target_text target) ≡ Some target
+target_of_text : (target : Target) → target.address.bits < 2 ^ 32 → target.port < 2 ^ 16 → target_named (target_text target) ≡ Some target
 unfolding target_named
 target_of_text target a p = ap target_named (sym (append-nil (target_text target))) ∙ target_back at_end target [] a p refl
 
@@ -220,7 +220,7 @@ record HasFlow (media : Media) (key : FlowKey) (told : ToldVerdict) (d : Data) :
   target : text_in (codes "target") d ≡ Some (target_text (target_of media))
   verdict : verdict_read d ≡ Some told
 
-flow_of_members : (media : Media) (key : FlowKey) (told : ToldVerdict) (d : Data) → media.address < 2 ^ 32 → media.port < 2 ^ 16 → HasFlow media key told d
+flow_of_members : (media : Media) (key : FlowKey) (told : ToldVerdict) (d : Data) → media.address.bits < 2 ^ 32 → media.port < 2 ^ 16 → HasFlow media key told d
     → flow_read d ≡ Some record { key = key; target = target_of media; verdict = told }
 unfolding flow_read
 flow_of_members media key told d a p has =

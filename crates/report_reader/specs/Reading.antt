@@ -4,6 +4,7 @@
 -- numbers of gaps that stand in several places agree.
 use Rattle.std.specs.Prelude.{ℕ, zero, suc, ◌-◌, ◌*◌, ◌+◌, ◌^◌, Bool, true, false, List, [], ◌∷◌, ◌++◌, length}
 use Rattle.std.specs.Prelude.{Option, Some, None, codes}
+use Rattle.timing_base.specs.Addresses.{ipv4}
 use Rattle.timing_base.specs.declared.capture.FileNote.{FileNote}
 use Rattle.timing_base.specs.declared.capture.FileNote.TheVariants as note
 use Rattle.timing_base.specs.declared.capture.PcapFault.TheVariants as pcap
@@ -158,7 +159,7 @@ unfoldable pub destination : {B : Type 0} → (Target → List ℕ → Option B)
 destination next text =
     number (λ a. after (codes ".") (number (λ b. after (codes ".") (number (λ c. after (codes ".") (number (λ d.
     after (codes ":") (number (λ port.
-    next record { address = a * 2 ^ 24 + b * 2 ^ 16 + c * 2 ^ 8 + d; port = port }))))))))) text
+    next record { address = ipv4 a b c d; port = port }))))))))) text
 
 -- the lines of a flow, after the word `flow`
 unfoldable pub flow_lines : {B : Type 0} → (ToldFlow → List ℕ → Option B) → List ℕ → Option B

@@ -53,7 +53,7 @@ FitsNote (note.Refused fault) = FitsPcap fault
 -- a media of a session description: its address has 32 bits, and its port 16
 pub record FitsMedia (media : Media) : Type 0 where
   pub is : IsMedia media
-  pub address : media.address < 2 ^ 32
+  pub address : media.address.bits < 2 ^ 32
   pub port : media.port < 2 ^ 16
 
 -- file names

@@ -1,5 +1,6 @@
 -- The contents of reports that are worked by hand: two frames of 20 packets to 239.0.0.1:50000, or runs of them.
 use Rattle.std.specs.Prelude.{ℕ, false, Some}
+use Rattle.timing_base.specs.Addresses.{ipv4}
 use Rattle.timing_base.specs.declared.fail.Broken.{Broken}
 use Rattle.timing_base.specs.declared.media.Kind.TheVariants.{N}
 use Rattle.timing_base.specs.declared.row.KindVerdict.{KindVerdict}
@@ -40,7 +41,7 @@ violation model from to count limit =
 
 -- the destination 239.0.0.1:50000
 abbrev pub plain_target : Target
-plain_target = record { address = 0xef000001; port = 50000 }
+plain_target = record { address = ipv4 239 0 0 1; port = 50000 }
 
 -- the flow of this media of this capture, counted from 0
 abbrev pub flow_at : (file media : ℕ) → ToldVerdict → ToldFlow
