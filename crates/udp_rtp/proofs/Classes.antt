@@ -1,13 +1,18 @@
--- A frame with a target is of none of the classes that stand before the last.
+-- A frame with a datagram is of none of the classes that stand before the last.
 use Rattle.std.proofs.Common.{◌≡◌, ◌≤◌, ℕ, ◌+◌, ◌/◌, ◌%◌, ◌^◌, ◌==◌, ◌&&◌, Bool, true, false, nat_le, slice_index, if◌then◌else◌}
 use Rattle.std.proofs.Common.{List, length, Option, Some, None, ◌⊎◌, inl, inr, refl, sym, ap, subst, ◌∙◌, arith, eq-eqb, eqb-true, leb-true, le-leb, true≢false}
 use Rattle.std.proofs.lemmas.Bool.{and_from, and_left, and_parts, and_right, ne_eqb, or_from}
 use Rattle.udp_rtp.specs.Frames.{Datagram, datagram_at, datagram_from, datagram_of, ip_place, is_udp_at, udp_place}
 use Rattle.udp_rtp.specs.Numbers.{number16}
-use Rattle.capture_scan.proofs.Counting.{none_some, some_same}
-use Rattle.capture_scan.specs.Classes.{class_at, class_of, has_kind, has_tagged_kind, has_tags, is_of_kind}
-use Rattle.capture_scan.specs.declared.class.Class.{Class}
-use Rattle.capture_scan.specs.declared.class.Class.TheVariants.{Empty, Tags, Ipv6, Other, NotUdp, Fragment, Broken}
+use Rattle.udp_rtp.specs.Classes.{class_at, class_of, has_kind, has_tagged_kind, has_tags, is_of_kind}
+use Rattle.udp_rtp.specs.declared.class.FrameClass.{FrameClass}
+use Rattle.udp_rtp.specs.declared.class.FrameClass.TheVariants.{Empty, Tags, Ipv6, Other, NotUdp, Fragment, Broken}
+
+some_same : {X : Type 0} (a b : X) → Some a ≡ Some b → a ≡ b
+some_same a b e = cc
+
+none_some : {X A : Type 0} (a : X) → None ≡ Some a → A
+none_some a e = absurd (cc)
 
 -- the place of a header by three tests: of the type field, for IPv4 and for a tag, and of the one behind a tag
 abbrev place_by : (plain tag tagged : Bool) → Option ℕ
@@ -25,7 +30,7 @@ place_kinds a b e h = by (a == 0x0800) refl (a == 0x8100) refl (b == 0x0800) ref
     by false p true q false r is = none_some e is
     by false p false q z r is = none_some e is
 
--- the header of a frame with a target is that of a UDP datagram
+-- the header of a frame with a datagram is that of a UDP datagram
 behind : (frame : List ℕ) (place : Option ℕ) (d : Datagram) → datagram_from frame place ≡ Some d
     → (e : ℕ) × (place ≡ Some e) × (is_udp_at frame e ≡ true)
 behind frame None d h = none_some d h
@@ -58,7 +63,7 @@ udp-parts frame e h =
     record { protocol = three.1; whole = two.1; long = omega (arith, words, ports) }
 
 -- the class by its tests
-pick : (a b c d e : Bool) (x y : Class) → a ≡ false → b ≡ false → c ≡ false → (d ≡ true → x ≡ Broken) → (d ≡ false → (e ≡ true) × (y ≡ Broken))
+pick : (a b c d e : Bool) (x y : FrameClass) → a ≡ false → b ≡ false → c ≡ false → (d ≡ true → x ≡ Broken) → (d ≡ false → (e ≡ true) × (y ≡ Broken))
     → (if a then Empty else if b then Tags else if c then Ipv6 else if d then x else if e then y else Other) ≡ Broken
 pick true b c d e x y p q r s t = absurd (true≢false p)
 pick false true c d e x y p q r s t = absurd (true≢false q)
@@ -98,8 +103,8 @@ broken frame long tags ipv6 plain tagged =
     pick (length frame == 0) (has_tags frame) (is_of_kind frame 0x86dd) (has_kind frame 12 0x0800) (has_tagged_kind frame 0x0800)
     (class_at frame 14) (class_at frame 18) some tags ipv6 plain tagged
 
-pub target-broken : (frame : List ℕ) (d : Datagram) → datagram_of frame ≡ Some d → class_of frame ≡ Broken
-target-broken frame d h = by (place_kinds (number16 frame 12) (number16 frame 16) found.0 found.1)
+pub datagram-broken : (frame : List ℕ) (d : Datagram) → datagram_of frame ≡ Some d → class_of frame ≡ Broken
+datagram-broken frame d h = by (place_kinds (number16 frame 12) (number16 frame 16) found.0 found.1)
   where
     found : (e : ℕ) × (ip_place frame ≡ Some e) × (is_udp_at frame e ≡ true)
     found = behind frame (ip_place frame) d h

@@ -1,13 +1,13 @@
-//! Classes of the Ethernet frames that have no target: that go to no UDP port over IPv4.
+//! Classes of the Ethernet frames that have no datagram: that go to no UDP port over IPv4.
 
 ghost use Rattle.std.specs.Prelude.{◌≡◌, ◌+◌, ◌≤◌, length};
-ghost use Rattle.capture_scan.specs.Classes.{class_at, class_of, has_kind, has_tagged_kind, has_tags, is_of_kind};
+ghost use Rattle.udp_rtp.specs.Classes.{class_at, class_of, has_kind, has_tagged_kind, has_tags, is_of_kind};
 
 use byteorder::{BigEndian, ByteOrder};
 
-/// The reason for which an Ethernet frame has no target.
+/// The reason for which an Ethernet frame has no datagram.
 #[derive(Clone, Copy, Debug, PartialEq, Eq)]
-pub enum Class {
+pub enum FrameClass {
     /// No byte was captured, or the packet has another link type than Ethernet.
     Empty,
     /// The tag of a provider's bridge, or two VLAN tags.
@@ -30,8 +30,8 @@ pub(crate) const TAG: u16 = 0x8100;
 /// The type field of a tag of a provider's bridge (IEEE 802.1Q).
 const PROVIDER_TAG: u16 = 0x88a8;
 
-/// The type field of IPv4 (RFC 894).
-const IPV4: u16 = 0x0800;
+/// The type field of IPv4 (IEEE 802.3; RFC 894).
+pub(crate) const IPV4: u16 = 0x0800;
 
 /// The type field of IPv6 (RFC 2464, section 3).
 const IPV6: u16 = 0x86dd;
@@ -67,46 +67,48 @@ fn is_of_kind(frame: &[u8], kind: u16) -> bool
     has_kind(frame, 12, kind) || has_tagged_kind(frame, kind)
 }
 
-/// Returns the class of an IPv4 frame without a target, with its header at byte `ip`.
-fn class_at(frame: &[u8], ip: usize) -> Class
+/// Returns the class of an IPv4 frame without a datagram, with its header at byte `ip`.
+fn class_at(frame: &[u8], ip: usize) -> FrameClass
     requires { ip ≤ 18 }
     ensures { result ≡ class_at frame.now ip }
 {
     if frame.len() < ip + 20 || frame[ip] / 16 != 4 {
-        return Class::Broken;
+        return FrameClass::Broken;
     }
     if frame[ip + 9] != 17 {
-        return Class::NotUdp;
+        return FrameClass::NotUdp;
     }
     if BigEndian::read_u16(&frame[ip + 6..]) % 0x4000 != 0 {
-        return Class::Fragment;
+        return FrameClass::Fragment;
     }
-    Class::Broken
+    FrameClass::Broken
 }
 
-/// Returns the class of a frame that has no target, the first of these that applies. Byte offsets count from 0.
+/// Returns the class of a frame that has no datagram, the first of these that applies. Byte offsets
+/// count from 0.
 ///
 /// - `Empty`: it has no byte.
 /// - `Tags`: the type at byte 12 is 0x88a8, or it is 0x8100 and that at byte 16 is one of the two.
 /// - `Ipv6`: the type, at byte 12 or behind a tag 0x8100 at byte 16, is 0x86dd.
 /// - `Other`: the type isn't 0x0800, or the frame ends before it.
 /// - `NotUdp`: the 20 bytes of an IPv4 header of version 4 are there, and the protocol isn't 17.
-/// - `Fragment`: they are there, the protocol is 17, and the flag MF is set or the fragment offset isn't 0.
+/// - `Fragment`: they are there, the protocol is 17, and the flag MF is set or the fragment offset
+///   isn't 0.
 /// - `Broken`: anything else.
-pub fn class_of(frame: &[u8]) -> Class
+pub(crate) fn class_of(frame: &[u8]) -> FrameClass
     ensures { result ≡ class_of frame.now }
 {
     if frame.is_empty() {
-        Class::Empty
+        FrameClass::Empty
     } else if has_tags(frame) {
-        Class::Tags
+        FrameClass::Tags
     } else if is_of_kind(frame, IPV6) {
-        Class::Ipv6
+        FrameClass::Ipv6
     } else if has_kind(frame, 12, IPV4) {
         class_at(frame, 14)
     } else if has_tagged_kind(frame, IPV4) {
         class_at(frame, 18)
     } else {
-        Class::Other
+        FrameClass::Other
     }
 }

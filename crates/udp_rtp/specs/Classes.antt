@@ -3,12 +3,12 @@
 -- From the standards: the types and their places, IEEE 802.3, clause 3.2.6 (the type field), IEEE 802.1Q (the tags
 -- 0x8100, and 0x88a8 of a provider's bridge) and RFC 2464, section 3 (IPv6); the fields, RFC 791, section 3.1 (IPv4).
 -- This project's profile: which class counts if several apply, and that at most one tag, of type 0x8100, may stand
--- before the type. `datagram_of` of udp_rtp defines which frames have a target.
+-- before the type. `datagram_of` of `Frames` defines which frames have a datagram.
 use Rattle.std.specs.Prelude.{ℕ, ◌+◌, ◌/◌, ◌%◌, ◌^◌, ◌==◌, ◌&&◌, ◌||◌, nat_le, Bool, if◌then◌else◌, List, length}
 use Rattle.std.specs.Prelude.{slice_index}
 use Rattle.udp_rtp.specs.Numbers.{number16}
-use Rattle.capture_scan.specs.declared.class.Class.{Class}
-use Rattle.capture_scan.specs.declared.class.Class.TheVariants.{Empty, Tags, Ipv6, Other, NotUdp, Fragment, Broken}
+use Rattle.udp_rtp.specs.declared.class.FrameClass.{FrameClass}
+use Rattle.udp_rtp.specs.declared.class.FrameClass.TheVariants.{Empty, Tags, Ipv6, Other, NotUdp, Fragment, Broken}
 
 -- the type field at a place has this number
 abbrev pub has_kind : List ℕ → (place kind : ℕ) → Bool
@@ -28,7 +28,7 @@ is_of_kind frame kind = has_kind frame 12 kind || has_tagged_kind frame kind
 
 -- the class of an IPv4 frame with its header at a place. `Broken`: the header isn't 20 bytes of version 4. `NotUdp`:
 -- its protocol isn't 17. `Fragment`: the flag MF or one of the 13 bits of the fragment offset is set. Else `Broken`.
-abbrev pub class_at : List ℕ → ℕ → Class
+abbrev pub class_at : List ℕ → ℕ → FrameClass
 class_at frame e =
     if nat_le (e + 20) (length frame) && (slice_index frame e / 16 == 4) then
     (if slice_index frame (e + 9) == 17 then
@@ -36,8 +36,8 @@ class_at frame e =
     else NotUdp)
     else Broken
 
--- the class of a frame without a target: the first that applies
-abbrev pub class_of : List ℕ → Class
+-- the class of a frame without a datagram: the first that applies
+abbrev pub class_of : List ℕ → FrameClass
 class_of frame =
     if length frame == 0 then Empty
     else if has_tags frame then Tags
