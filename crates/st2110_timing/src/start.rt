@@ -55,13 +55,12 @@ fn print_line<K: Sink>(err: &mut K, status: Status)
 
 /// Runs the arguments of the process by [`run`], and then explains the status on standard error. Returns the code of
 /// the status. If there is no memory for the arguments, the status is [`Status::OutOfMemory`].
-pub(crate) fn start<R: Env + AllocGlobal + Threads + Wait + Sync, H: Shelf + Causes, K: Sink, G: Gate>(
-    rt: &R,
-    shelf: &mut H,
-    out: &mut K,
-    err: &mut K,
-    gate: &G,
-) -> ExitCode
+pub(crate) fn start<
+    R: Env + AllocGlobal + Threads + Wait + Sync,
+    H: Shelf + Causes,
+    K: Sink,
+    G: Gate,
+>(rt: &R, shelf: &mut H, out: &mut K, err: &mut K, gate: &G) -> ExitCode
     ensures started { IsStarted (seen_of H.Shelf shelf.old shelf.new)
         (output_of K.Sink out.old out.new)
         (output_of K.Sink err.old err.new)
