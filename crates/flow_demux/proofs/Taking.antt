@@ -40,6 +40,18 @@ goes-by m r p (Some d) is e = (d, is, same-target d.target (target_of m) (kept (
 pub packet-goes : (m : Media) (r : Record) (p : FlowPacket) → flow_packet m r ≡ Some p → GoesTo m r.bytes
 packet-goes m r p e = goes-by m r p (datagram_of r.bytes) refl e
 
+-- the packet of a record has its capture timestamp
+pub packet-stamp : (m : Media) (r : Record) (p : FlowPacket) → flow_packet m r ≡ Some p → p.at ≡ r.stamp
+packet-stamp m r p e = by (datagram_of r.bytes) e
+  where
+    of-if : (b : Bool) (x : FlowPacket) → x.at ≡ r.stamp → (if b then Some x else None) ≡ Some p → p.at ≡ r.stamp
+    of-if true x at is = let same : x ≡ p = cc in ap (λ (y : FlowPacket). y.at) (sym same) ∙ at
+    of-if false x at is = absurd (cc)
+
+    by : (o : Option Datagram) → datagram_packet m r.number r.stamp o ≡ Some p → p.at ≡ r.stamp
+    by None is = absurd (cc)
+    by (Some d) is = of-if (is_same_target d.target (target_of m)) (record { rec = r.number; at = r.stamp; rtp = reading d.payload }) refl is
+
 -- what follows from an answer
 pub if-ok : {T E : Type 0} {P Q : T → Type 0} (result : Result T E) → ((x : T) → P x → Q x) → IfOk result P → IfOk result Q
 if-ok (Ok x) next h = next x h
