@@ -11,8 +11,8 @@ use Rattle.timing_reach.proofs.Comparings.{cause-before, cause-passed, on-ok}
 use Rattle.timing_reach.proofs.Takings.{if-ok}
 use Rattle.timing_reach.proofs.skew.compare.compare.Goals as goal
 
-pub fetch_captures-requires-clause-few : goal.fetch_captures-requires-clause-few
-fetch_captures-requires-clause-few g c = omega (arith, ap length c.as_slice.ensures, c.job.invariant.few)
+pub fetch_captures-requires : goal.fetch_captures-requires
+fetch_captures-requires g c = record { few = omega (arith, ap length c.as_slice.ensures, c.job.invariant.few) }
 
 pub returns-in_err-sources-clause-told : goal.returns-in_err-sources-clause-told
 returns-in_err-sources-clause-told g c =
