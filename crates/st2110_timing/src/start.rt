@@ -61,6 +61,8 @@ pub(crate) fn start<
     K: Sink,
     G: Gate,
 >(rt: &R, shelf: &mut H, out: &mut K, err: &mut K, gate: &G) -> ExitCode
+where
+    H::Source: Send,
     ensures started { IsStarted (seen_of H.Shelf shelf.old shelf.new)
         (output_of K.Sink out.old out.new)
         (output_of K.Sink err.old err.new)
