@@ -16,7 +16,7 @@ use Rattle.timing_base.specs.declared.packet.FlowPacket.{FlowPacket}
 use Rattle.fail_interval.specs.Row.{verdict_of}
 use Rattle.flow_measure.specs.declared.numbers.MeasuredFlow.{MeasuredFlow}
 use Rattle.flow_measure.specs.declared.numbers.MeasuredRun.{MeasuredRun}
-use Rattle.flow_measure.proofs.Some.{some-measure}
+use Rattle.flow_measure.proofs.Some.{some-measure as some-numbers}
 use Rattle.pcap_reader.specs.Records.{Records}
 use Rattle.timing_steps.specs.Answers.{Answer}
 use Rattle.timing_steps.specs.Queries.{HasAnswer, only_file, only_note}
@@ -34,26 +34,26 @@ use Rattle.timing_measure.proofs.Held.{AreHeld, HaveStamps}
 use Rattle.timing_measure.proofs.Whole.{IsWhole, parts-whole}
 
 -- the packets of a judged run have stamps of a capture
-abbrev AreHeld : JudgedPart → Type 0
-AreHeld part = AreStamped part.packets
+abbrev HasStamps : JudgedPart → Type 0
+HasStamps part = AreStamped part.packets
 
 held-part : (m : Media) (packets : List FlowPacket) (number from to : ℕ) (o : RunOutcome) → AreStamped packets
-    → All AreHeld (part_by m number (packet packets from) (judged_packets packets from to) o)
-held-part m packets number from to (no_whole_frame head) h = All-nil AreHeld
+    → All HasStamps (part_by m number (packet packets from) (judged_packets packets from to) o)
+held-part m packets number from to (no_whole_frame head) h = All-nil HasStamps
 held-part m packets number from to (whole_frames run) h =
-    All-cons AreHeld _ [] (All-take (λ (p : FlowPacket). IsStamp p.at) _ _ (All-drop (λ (p : FlowPacket). IsStamp p.at) _ packets h)) (All-nil AreHeld)
+    All-cons HasStamps _ [] (All-take (λ (p : FlowPacket). IsStamp p.at) _ _ (All-drop (λ (p : FlowPacket). IsStamp p.at) _ packets h)) (All-nil HasStamps)
 
 held-between : (m : Media) (packets : List FlowPacket) (tai to number from : ℕ) (places : List ℕ) → AreStamped packets
-    → All AreHeld (parts_between m packets tai to number from places)
+    → All HasStamps (parts_between m packets tai to number from places)
 held-between m packets tai to number from [] h = held-part m packets number from to (run_outcome packets tai from to) h
 held-between m packets tai to number from (cut ∷ rest) h =
-    All-append AreHeld (part_between m packets tai number from cut) (parts_between m packets tai to (number + 1) cut rest)
+    All-append HasStamps (part_between m packets tai number from cut) (parts_between m packets tai to (number + 1) cut rest)
     (held-part m packets number from cut (run_outcome packets tai from cut) h) (held-between m packets tai to (number + 1) cut rest h)
 
-held-in : (m : Media) (packets : List FlowPacket) (tai : ℕ) (v : FlowVerdict) → AreStamped packets → All AreHeld (parts_in m packets tai v)
-held-in m packets tai absent h = All-nil AreHeld
-held-in m packets tai (refused rec fault) h = All-nil AreHeld
-held-in m packets tai (gap rec expected got) h = All-nil AreHeld
+held-in : (m : Media) (packets : List FlowPacket) (tai : ℕ) (v : FlowVerdict) → AreStamped packets → All HasStamps (parts_in m packets tai v)
+held-in m packets tai absent h = All-nil HasStamps
+held-in m packets tai (refused rec fault) h = All-nil HasStamps
+held-in m packets tai (gap rec expected got) h = All-nil HasStamps
 held-in m packets tai (in_one_run o) h = held-part m packets 1 0 (length packets) o h
 held-in m packets tai (in_runs runs) h = held-between m packets tai (length packets) 1 0 (cuts packets (length packets)) h
 
@@ -78,7 +78,7 @@ flow-stamped m (r ∷ items) h =
     (flow-stamped m items (All-tail (λ (r : Record). IsStamp r.stamp) r items h))
 
 -- a judged run has its numbers
-some-run : (m : Media) (tai : ℕ) (part : JudgedPart) → IsMedia m → tai ≤ 1000 → IsWhole tai part → AreHeld part
+some-run : (m : Media) (tai : ℕ) (part : JudgedPart) → IsMedia m → tai ≤ 1000 → IsWhole tai part → HasStamps part
     → (x : MeasuredRun) × IsMeasuredRun (HasNumbers m tai) part x
 some-run m tai part is few whole held =
     let stamps = stamps_of tai part.packets in
@@ -88,7 +88,7 @@ some-run m tai part is few whole held =
     let one : slice_index stamps i ≡ stamp_of tai (slice_index_or part.packets i no_packet) = stamp-at tai part.packets i (omega (arith, within, long)) in
     omega (arith, one, All-get_or (λ (p : FlowPacket). IsStamp p.at) part.packets i no_packet (omega (arith, within, long)) held, few) in
     let numbers =
-    some-measure m part.values.n part.values.frames stamps (records_of part.packets) (timestamps_of part.packets) (map named_by part.values.kinds) is whole.some
+    some-numbers m part.values.n part.values.frames stamps (records_of part.packets) (timestamps_of part.packets) (map named_by part.values.kinds) is whole.some
     whole.some_groups (long ∙ whole.whole) (omega (arith, long, whole.bounded)) low in (
       record {
         run = part.number;
@@ -100,12 +100,12 @@ some-run m tai part is few whole held =
       record { run_is = refl; record_is = refl; number = refl; judged_is = refl; numbers = numbers.1 },
     )
 
-some-runs : (m : Media) (tai : ℕ) (parts : List JudgedPart) → IsMedia m → tai ≤ 1000 → All (IsWhole tai) parts → All AreHeld parts
+some-runs : (m : Media) (tai : ℕ) (parts : List JudgedPart) → IsMedia m → tai ≤ 1000 → All (IsWhole tai) parts → All HasStamps parts
     → (xs : List MeasuredRun) × AreMeasured (HasNumbers m tai) parts xs
 some-runs m tai [] is few whole held = ([], tt)
 some-runs m tai (part ∷ parts) is few whole held =
-    let x = some-run m tai part is few (All-head (IsWhole tai) part parts whole) (All-head AreHeld part parts held) in
-    let xs = some-runs m tai parts is few (All-tail (IsWhole tai) part parts whole) (All-tail AreHeld part parts held) in
+    let x = some-run m tai part is few (All-head (IsWhole tai) part parts whole) (All-head HasStamps part parts held) in
+    let xs = some-runs m tai parts is few (All-tail (IsWhole tai) part parts whole) (All-tail HasStamps part parts held) in
     (x.0 ∷ xs.0, (x.1, xs.1))
 
 -- so has a flow

@@ -8,7 +8,7 @@ use Rattle.timing_report.specs.declared.status.Input.TheVariants as input
 use Rattle.timing_report.specs.declared.status.Status.{Status}
 use Rattle.timing_report.specs.declared.status.Status.TheVariants as status
 use Rattle.timing_steps.specs.Answers.{Answer}
-use Rattle.timing_steps.specs.Ends.{EndsWith, HasStatus, IsTextBeside, check_ends, is_failure, look_ends}
+use Rattle.timing_steps.specs.Ends.{EndsWith, HasStatus, IsTextBeside, is_failure}
 use Rattle.timing_steps.specs.Ran.{Appended, Broke, HasCause, IsAnswered, Leaves, Output}
 use Rattle.timing_steps.specs.declared.failure.Failure.{Failure}
 use Rattle.timing_steps.specs.declared.failure.Failure.TheVariants as failure
@@ -76,36 +76,3 @@ ends-by may o (Err failure.WriteFault) ends h has =
     subst (EndsWith may o) (sym h.0) (record { status_is = or_right (may status.WriteFault) true refl; silent = λ s. absurd (false≢true s) })
 ends-by may o (Err failure.OutOfMemory) ends h has =
     subst (EndsWith may o) (sym h.0) (record { status_is = or_right (may status.OutOfMemory) true refl; silent = λ s. kept-none o.old o.new h.1 })
-
--- the statuses of answers are none that a failure has
-look-status : (s : Status) → look_ends s ≡ true → IsAnswered s
-look-status status.Pass h = tt
-look-status status.Fail h = tt
-look-status status.Usage h = tt
-look-status (status.SdpRefused fault) h = tt
-look-status status.NotAllJudged h = tt
-look-status (status.ReadFault input) h = absurd (false≢true h)
-look-status status.WriteFault h = absurd (false≢true h)
-look-status status.OutOfMemory h = absurd (false≢true h)
-look-status status.ReportRefused h = tt
-
-check-status : (s : Status) → check_ends s ≡ true → IsAnswered s
-check-status status.Pass h = tt
-check-status status.Fail h = tt
-check-status status.Usage h = tt
-check-status (status.SdpRefused fault) h = tt
-check-status status.NotAllJudged h = tt
-check-status (status.ReadFault input) h = absurd (false≢true h)
-check-status status.WriteFault h = absurd (false≢true h)
-check-status status.OutOfMemory h = absurd (false≢true h)
-check-status status.ReportRefused h = tt
-
-pub look-answered : (answer : Answer) → HasStatus look_ends answer → IsAnswered answer.status
-look-answered answer h = look-status answer.status h.0
-
-pub check-answered : (answer : Answer) → HasStatus check_ends answer → IsAnswered answer.status
-check-answered answer h = check-status answer.status h.0
-
--- an answer that is known
-pub status-as : (may : Status → Bool) (a b : Answer) → a ≡ b → HasStatus may b → HasStatus may a
-status-as may a b is h = subst (HasStatus may) (sym is) h

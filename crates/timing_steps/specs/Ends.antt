@@ -1,4 +1,4 @@
--- The statuses with which a run of a command may end, and when nothing is printed, whatever the inputs contain.
+-- The status with which a run ends, and when nothing is printed, whatever the inputs contain.
 use Rattle.std.specs.Prelude.{◌≡◌, ℕ, Bool, true, false, ◌||◌, ⊤, List, []}
 use Rattle.timing_report.specs.declared.status.Status.{Status}
 use Rattle.timing_report.specs.declared.status.Status.TheVariants as status
@@ -20,23 +20,6 @@ is_failure (status.ReadFault input) = true
 is_failure status.WriteFault = true
 is_failure status.OutOfMemory = true
 is_failure ends = false
-
--- the statuses of the answers of `window`, `shape` and `skew`: 0, 3 or 4
-abbrev pub look_ends : Status → Bool
-look_ends status.Pass = true
-look_ends (status.SdpRefused fault) = true
-look_ends status.NotAllJudged = true
-look_ends ends = false
-
--- the statuses of the answers of `check` and `verify`: 0, 1, 3 or 4
-abbrev pub check_ends : Status → Bool
-check_ends status.Fail = true
-check_ends ends = look_ends ends
-
--- the statuses of the answers of `verify-report`: 0, 1, 3, 4 or 9
-abbrev pub report_ends : Status → Bool
-report_ends status.ReportRefused = true
-report_ends ends = check_ends ends
 
 -- with a silent status there is no text
 abbrev pub IsTextBeside : (silent : Bool) → List ℕ → Type 0

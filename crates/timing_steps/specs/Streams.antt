@@ -1,13 +1,12 @@
 -- The end of a run that prints while it reads. If it has no answer, or can't print the whole answer, a prefix of it may
 -- be on standard output.
-use Rattle.std.specs.Prelude.{◌≡◌, ◌≤◌, ◌⊎◌, ◌||◌, ℕ, ⊤, Bool, true, false, List, [], ◌++◌, Result, Ok, Err}
+use Rattle.std.specs.Prelude.{◌≡◌, ◌≤◌, ◌⊎◌, ℕ, ⊤, Bool, true, false, List, ◌++◌, Result, Ok, Err}
 use Rattle.timing_outside.specs.Causes.{Rose}
 use Rattle.timing_report.specs.declared.status.Input.{Input}
 use Rattle.timing_report.specs.declared.status.Input.TheVariants as input
 use Rattle.timing_report.specs.declared.status.Status.{Status}
 use Rattle.timing_report.specs.declared.status.Status.TheVariants as status
 use Rattle.timing_steps.specs.Answers.{Answer}
-use Rattle.timing_steps.specs.Ends.{is_failure, look_ends}
 use Rattle.timing_steps.specs.Ran.{Appended, Broke, IsAnswered, Output, TellsLine, status_of}
 use Rattle.timing_steps.specs.declared.failure.Failure.{Failure}
 use Rattle.timing_steps.specs.declared.failure.Failure.TheVariants as failure
@@ -51,12 +50,6 @@ is_silent_stream (status.SdpRefused fault) = true
 is_silent_stream (status.ReadFault input.Sdp) = true
 is_silent_stream ends = false
 
--- the run ends with 0, 3, 4 or a failure, and if its status is silent, nothing was printed (goes once `series` is a
--- `Command`: `EndsAs` says it)
-pub record StreamEnds (o : Output) (ends : Status) : Type 0 where
-  pub status_is : look_ends ends || is_failure ends ≡ true
-  pub silent : is_silent_stream ends ≡ true → Appended o []
-
 -- what was printed before, and then this text, is an answer for which `Answers` holds
 abbrev pub HasRest : Output → (Answers : Answer → Type 0) → (rest : Answer) → Type 0
 HasRest o Answers rest = (written : List ℕ) × Appended o written
@@ -72,9 +65,3 @@ abbrev pub Rests : Output → (Follows : Result Answer Failure → Type 0) → (
     → Result Answer Failure → Type 0
 Rests o Follows Begins (Ok rest) = HasRest o (λ answer. Follows (Ok answer)) rest
 Rests o Follows Begins (Err e) = ((e ≡ failure.WriteFault) ⊎ Follows (Err e)) × HasBegun o Begins
-
--- the rest of an answer has one of its statuses, and if that is silent, nothing was printed and the rest is empty (goes
--- once `series` is a `Command`: `BeforeEnd` says it)
-pub record HasRestStatus (o : Output) (rest : Answer) : Type 0 where
-  pub ends : look_ends rest.status ≡ true
-  pub silent : is_silent_stream rest.status ≡ true → Appended o [] × (rest.text ≡ [])

@@ -9,7 +9,7 @@ use Rattle.timing_words.specs.declared.request.Request.TheVariants as request
 use Rattle.timing_report.specs.declared.status.Status.{Status}
 use Rattle.timing_report.specs.declared.status.Status.TheVariants as status
 use Rattle.timing_steps.specs.Answers.{Answer, silent}
-use Rattle.timing_steps.specs.Ends.{EndsWith, is_failure, report_ends}
+use Rattle.timing_steps.specs.Ends.{EndsWith, is_failure}
 use Rattle.timing_steps.specs.Queries.{ends_of}
 use Rattle.timing_steps.specs.Ran.{Appended, Broke, HasCause, Leaves, Output, Ran}
 use Rattle.timing_steps.specs.Runs.{EndsAs}
@@ -19,6 +19,7 @@ use Rattle.timing_reach.specs.Scanned.{scan_ends}
 use Rattle.timing_top.specs.Asked.{FollowsHelp, FollowsSelfTest, is_command, query_of}
 use Rattle.timing_top.specs.Ends.{Ends, checks, may_end, reads_inputs, reads_sdp}
 use Rattle.timing_top.specs.Runs.{streams_of}
+use Rattle.timing_top.specs.verify.Verified.{report_ends}
 use Rattle.timing_steps.proofs.Endings.{kept-none}
 use Rattle.timing_steps.proofs.Onces.{ok-not-err, same-ok}
 use Rattle.timing_top.proofs.Headlines.{none-broke}

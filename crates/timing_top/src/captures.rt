@@ -15,8 +15,8 @@ use pcapng_reader::Classic;
 use std::alloc::Global;
 use timing_base::{FileNote, Media, Row};
 use timing_outside::{Shelf, Source};
-use timing_steps::{Failure, give_back, take_source};
 use timing_report::Input;
+use timing_steps::{Failure, give_back, take_source};
 
 /// The results of judging the captures of a job.
 #[derive(Drop)]

@@ -131,6 +131,8 @@ fn answer_many<R: Threads + Wait + Sync, H: Shelf, G: Gate>(
     shelf: &mut H,
     gate: &G,
 ) -> Result<Answer, Failure>
+where
+    H::Source: Send,
     requires targets { HaveOwnTargets session.now }
     ensures follows { FollowsCaptures (check_query job.now) session.now
         (seen_of H.Shelf shelf.old shelf.new) result }
@@ -154,6 +156,8 @@ fn answer_check<R: Threads + Wait + Sync, H: Shelf, G: Gate>(
     shelf: &mut H,
     gate: &G,
 ) -> Result<Answer, Failure>
+where
+    H::Source: Send,
     ensures stands { (o : Output) → Keeps o.old o.new → BeforeEnd false (check_query command.now.job)
         (seen_of H.Shelf shelf.old shelf.new) o result }
     ensures stays { StaysAs H.text H.lacks H.faults shelf.old shelf.new }
@@ -178,6 +182,8 @@ pub fn check_many<R: Threads + Wait + Sync, H: Shelf, K: Sink, G: Gate>(
     err: &mut K,
     gate: &G,
 ) -> Status
+where
+    H::Source: Send,
     ensures ran { RanAs false (check_query command.now.job) (seen_of H.Shelf shelf.old shelf.new)
         (output_of K.Sink out.old out.new)
         (output_of K.Sink err.old err.new)

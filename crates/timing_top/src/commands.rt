@@ -32,6 +32,8 @@ fn serve<R: Threads + Wait + Sync, H: Shelf, K: Sink, G: Gate>(
     err: &mut K,
     gate: &G,
 ) -> Status
+where
+    H::Source: Send,
     ensures ran { RanAs (Some request) (seen_of H.Shelf shelf.old shelf.new)
         (output_of K.Sink out.old out.new)
         (output_of K.Sink err.old err.new)
@@ -79,6 +81,8 @@ pub fn run<R: Wait + Threads + Sync, H: Shelf, K: Sink, G: Gate>(
     err: &mut K,
     gate: &G,
 ) -> Status
+where
+    H::Source: Send,
     // The answer that the contents of the inputs define was printed, with its status. Or it wasn't, and the status
     // gives the reason: a read of an input failed and the count of its faults rose, a write failed, or memory ran out.
     // Then nothing was printed, or a prefix of the answer if a write failed; `series` may also leave a prefix with the

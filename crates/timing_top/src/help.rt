@@ -5,8 +5,8 @@ ghost use Rattle.timing_top.specs.Asked.{FollowsHelp};
 
 use std::alloc::Global;
 use timing_outside::Sink;
-use timing_steps::{Answer, Failure, conclude};
 use timing_report::Status;
+use timing_steps::{Answer, Failure, conclude};
 use timing_words::{Command, help_text};
 
 /// Returns the answer of `help`, or of `help` with a command.

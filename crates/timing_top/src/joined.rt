@@ -17,8 +17,8 @@ use pcapng_reader::Classic;
 use std::alloc::Global;
 use timing_base::FileNote;
 use timing_outside::{Shelf, Source};
-use timing_steps::{Failure, give_back, give_back_all, take_source};
 use timing_report::Input;
+use timing_steps::{Failure, give_back, give_back_all, take_source};
 
 /// The captures that were taken as one so far.
 #[derive(Drop)]

@@ -17,8 +17,8 @@ use std::sync::Wait;
 use std::thread::Threads;
 use timing_base::{FileNote, Media, PcapFault};
 use timing_outside::{Gate, Shelf};
-use timing_steps::{Failure, give_back_all};
 use timing_report::Input;
+use timing_steps::{Failure, give_back_all};
 
 /// Returns the number of the first capture that couldn't be read, from 0. Returns `None` if there is none, or if memory
 /// ran out in a capture before it.
@@ -67,6 +67,8 @@ pub fn judge_many<R: Threads + Wait + Sync, H: Shelf, G: Gate>(
     workers: u32,
     gate: &G,
 ) -> Result<Found, Failure>
+where
+    H::Source: Send,
     requires ready { AreReady (faults_of H.Source.faults) sources.items media.now tai }
     requires some { 1 ≤ length sources.items }
     requires some_media { 1 ≤ length media.now }

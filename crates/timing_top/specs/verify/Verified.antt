@@ -69,3 +69,12 @@ checked_text checked =
 -- the answer of `verify-report`
 abbrev pub reported : List Checked → Answer
 reported checked = record { text = checked_text checked; status = status_of checked }
+
+-- the statuses of the answers of `verify-report`: 0, 1, 3, 4 or 9
+abbrev pub report_ends : Status → Bool
+report_ends status.Pass = true
+report_ends status.Fail = true
+report_ends (status.SdpRefused fault) = true
+report_ends status.NotAllJudged = true
+report_ends status.ReportRefused = true
+report_ends ends = false

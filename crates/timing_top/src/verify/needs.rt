@@ -16,9 +16,9 @@ use crate::verify::read::{FileRead, answer_of, read_file};
 use std::alloc::Global;
 use timing_base::{FlowKey, Media, ReportJob};
 use timing_outside::Shelf;
-use timing_steps::Failure;
 use timing_report::Input;
 use timing_report::json_report::ReportProof;
+use timing_steps::Failure;
 
 /// Returns the number of files that flows of a job can belong to. Joined captures are one file.
 fn file_count(job: &ReportJob) -> usize

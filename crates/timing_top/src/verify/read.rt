@@ -18,9 +18,9 @@ use interval_checker::{CheckFault, Reading, read_sources};
 use std::alloc::Global;
 use timing_base::{FileName, Media, ReportJob};
 use timing_outside::Shelf;
-use timing_steps::{Failure, fetch_captures, give_back_all};
 use timing_report::Input;
 use timing_report::json_report::ReportProof;
+use timing_steps::{Failure, fetch_captures, give_back_all};
 
 /// Returns the failure for a fault of reading captures. A capture that couldn't be read has its number among them.
 fn failure_of(fault: CheckFault) -> Failure

@@ -13,7 +13,7 @@ use Rattle.timing_top.proofs.Begun.{follows-failed, follows-report, judged-rose}
 use Rattle.timing_top.proofs.check.answer_alone.Goals as goal
 
 pub judge-requires-clause-ready : goal.judge-requires-clause-ready
-judge-requires-clause-ready g c κs within =
+judge-requires-clause-ready g c =
     let texts = classic_texts (g.H.Shelf.text c.args.shelf.now) in
     let long = fetched-length (name_of g.H.Source.Source.name) (left_of g.H.Source.Source.left) (faults_of g.H.Source.Source.faults) texts
     c.as_slice.result.now c.in_ok-sources.sources.items c.in_ok-sources.ensures.fetched in

@@ -8,7 +8,7 @@ use Rattle.timing_top.proofs.lemmas.verify.Confirming.{read-cause, tell-texts}
 use Rattle.timing_top.proofs.verify.read.read_captures.Goals as goal
 
 pub read_sources-sources-requires-clause-few : goal.read_sources-sources-requires-clause-few
-read_sources-sources-requires-clause-few g c κs within =
+read_sources-sources-requires-clause-few g c =
     omega (
       arith,
       c.requires.few,
