@@ -1,10 +1,8 @@
 -- What follows for `skew` from what its steps found, and that its captures have one answer.
 use Rattle.std.proofs.Common.{◌≡◌, ℕ, List, Option, Some, None, refl, ap, ◌∙◌, sym, subst}
 use Rattle.std.specs.Prelude.{slice_get}
-use Rattle.timing_base.specs.Captures.{Record}
 use Rattle.timing_base.specs.Jobs.{SkewJob}
 use Rattle.timing_base.specs.Media.{Media}
-use Rattle.timing_base.specs.declared.capture.FileNote.{FileNote}
 use Rattle.path_skew.specs.Pair.{skew}
 use Rattle.udp_rtp.specs.Flow.{flow}
 use Rattle.timing_steps.specs.Answers.{Answer}

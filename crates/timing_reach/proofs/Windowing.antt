@@ -9,7 +9,6 @@ use Rattle.timing_base.specs.declared.capture.FileNote.{FileNote}
 use Rattle.timing_base.specs.declared.packet.FlowPacket.{FlowPacket}
 use Rattle.udp_rtp.specs.Flow.{flow}
 use Rattle.timing_steps.specs.Answers.{Answer}
-use Rattle.timing_steps.specs.Flows.{OnMedia, no_media}
 use Rattle.timing_steps.specs.Queries.{HasAnswer, only_file, only_note}
 use Rattle.timing_steps.proofs.Onces.{DefinesOnce, DefinesSome}
 use Rattle.timing_reach.specs.Asked.{OnRun}

@@ -1,7 +1,7 @@
 use Rattle.flow_worker.proofs.crew.reading.read_one.Goals as goal
 
 pub intake-done-requires-clause-limits : goal.intake-done-requires-clause-limits
-intake-done-requires-clause-limits g c = record {
+intake-done-requires-clause-limits g c = λ κs outlives. record {
   file_is = c.requires.job.file;
   some_media = c.requires.run.some_media;
   few_media = c.requires.run.few_media;
