@@ -3,8 +3,8 @@ use Rattle.timing_top.proofs.Ending.{ends-command, ends-help, ends-report, ends-
 use Rattle.timing_top.proofs.Serving.{serves}
 use Rattle.timing_top.proofs.commands.serve.Goals as goal
 
-pub returns-then-job-eq0-clause-ran : goal.returns-then-job-eq0-clause-ran
-returns-then-job-eq0-clause-ran g c = serves _ _ _ _ _ _ c.in-Check.is c.run_command.ensures.ran
+pub returns-then-command-eq0-clause-ran : goal.returns-then-command-eq0-clause-ran
+returns-then-command-eq0-clause-ran g c = serves _ _ _ _ _ _ c.in-Check.is c.run_command.ensures.ran
 
 pub returns-in-Check-clause-ran : goal.returns-in-Check-clause-ran
 returns-in-Check-clause-ran g c = serves _ _ _ _ _ _ c.in-Check.is c.check_many.ensures.ran
@@ -36,8 +36,8 @@ returns-in-VerifyReport-clause-ran g c = serves _ _ _ _ _ _ c.in-VerifyReport.is
 pub returns-in-Scan-clause-ran : goal.returns-in-Scan-clause-ran
 returns-in-Scan-clause-ran g c = serves _ _ _ _ _ _ c.in-Scan.is c.scan_one.ensures.ran
 
-pub returns-then-job-eq0-clause-ends : goal.returns-then-job-eq0-clause-ends
-returns-then-job-eq0-clause-ends g c = ends-command _ _ _ _ c.in-Check.is refl c.run_command.ensures.ends
+pub returns-then-command-eq0-clause-ends : goal.returns-then-command-eq0-clause-ends
+returns-then-command-eq0-clause-ends g c = ends-command _ _ _ _ c.in-Check.is refl c.run_command.ensures.ends
 
 pub returns-in-Check-clause-ends : goal.returns-in-Check-clause-ends
 returns-in-Check-clause-ends g c = ends-command _ _ _ _ c.in-Check.is refl c.check_many.ensures.ends
