@@ -1,7 +1,9 @@
 -- The numbers of a stream with one packet more are its numbers before, and that packet.
 use Rattle.std.proofs.Common.{◌≡◌, ℕ, ◌+◌, min, max, Bool, true, false, cond, ◌&&◌, ◌||◌, List, [], ◌∷◌, ◌++◌, map, filter_map, length, Option, Some, None}
-use Rattle.std.proofs.Common.{option_to_list, refl, sym, ap, ◌∙◌, arith, sum_by, count_by, fold}
+use Rattle.std.proofs.Common.{eqb-true, option_to_list, refl, sym, ap, ◌∙◌, arith, sum_by, count_by, fold}
+use Rattle.std.specs.Prelude.{◌==◌, if◌then◌else◌, nat_lt}
 use Rattle.std.specs.List.{cons_option, last_or, list_all, list_any}
+use Rattle.std.proofs.lemmas.Bool.{and_right, ne_eqb}
 use Rattle.std.proofs.lemmas.List.{append-nil, length-map, length_push, map_push}
 use Rattle.std.proofs.lemmas.List.Elements.{filter_map-append}
 use Rattle.std.proofs.lemmas.List.Folds.{list_all-append, list_any-append}
@@ -9,11 +11,13 @@ use Rattle.std.proofs.lemmas.List.Sums.{fold_push, sum_by_push}
 use Rattle.timing_base.specs.declared.packet.Rtp.{Rtp}
 use Rattle.capture_scan.specs.Counting.{lines_with, mark_next, mark_of, order_next, pace_next, pace_with, range_next, stream_next}
 use Rattle.capture_scan.specs.Streams.{arrival, goes_back, has_other_type, is_same, last_from, lines_of, lost_in, marks_from, neighbours, order_of}
+use Rattle.capture_scan.specs.Streams.{extended, jump, sequence}
 use Rattle.capture_scan.specs.Streams.{pace_between, pairs_from, range_from, size, step, stream_from, wraps_alone}
 use Rattle.capture_scan.specs.declared.mark.Mark.{Mark}
 use Rattle.capture_scan.specs.declared.packet.Line.{Line}
 use Rattle.capture_scan.specs.declared.packet.Packet.{Packet}
 use Rattle.capture_scan.specs.declared.stream.Lines.{Lines}
+use Rattle.capture_scan.specs.declared.stream.Order.{Order}
 
 module _ {X : Type 0} where
   -- the last item
@@ -55,6 +59,29 @@ order_of-push ns a n h =
       same = (ap (count_by is_same) e ∙ sum_by_push (λ x. cond (is_same x) 1 0) (neighbours ns) (a, n)) i;
       wraps = (ap (count_by wraps_alone) e ∙ sum_by_push (λ x. cond (wraps_alone x) 1 0) (neighbours ns) (a, n)) i;
     }
+
+-- a packet with the next number changes nothing of the order
+pub order_next-next : (o : Order) (a n : ℕ) → n ≡ a + 1 → order_next o (a, n) ≡ o
+order_next-next o a n next =
+    let none : jump (a, n) ≡ 0 = omega (arith, next) in
+    let lost : lost_in (a, n) ≡ 0 = ap (λ j. if nat_lt j 32768 then j else 0) none in
+    let back : goes_back (a, n) ≡ false = ap (λ j. nat_lt 32767 j && nat_lt j 65535) none in
+    let same : is_same (a, n) ≡ false = ap (λ j. j == 65535) none in
+    λ i. record {
+      lost = (ap (λ l. o.lost + l) lost ∙ plus_none o.lost) i;
+      back = (ap (λ b. o.back + (if b then 1 else 0)) back ∙ plus_none o.back) i;
+      same = (ap (λ b. o.same + (if b then 1 else 0)) same ∙ plus_none o.same) i;
+      wraps = (ap (λ b. o.wraps + (if b then 1 else 0)) (alone (sequence a == 65535) refl) ∙ plus_none o.wraps) i;
+    }
+  where
+    plus_none : (x : ℕ) → x + 0 ≡ x
+    plus_none x = omega arith
+
+    alone : (b : Bool) → (sequence a == 65535) ≡ b → wraps_alone (a, n) ≡ false
+    alone false e = ap (λ t. t && ((sequence n == 0) && (extended a == extended n))) e
+    alone true e =
+        let last : sequence a ≡ 65535 = eqb-true (sequence a) 65535 e in
+        and_right (sequence a == 65535) _ (and_right (sequence n == 0) _ (ne_eqb (extended a) (extended n) (λ h. omega (arith, last, next, h))))
 
 -- one number more
 pub range_from-push : (x : ℕ) (xs : List ℕ) (y : ℕ) → range_from x (xs ++ y ∷ []) ≡ range_next (range_from x xs) y

@@ -14,7 +14,7 @@ use Rattle.capture_scan.specs.Scans.{count_of, count_passed, is_of_class, is_sam
 use Rattle.capture_scan.specs.Scans.{packet_seen, packets, packets_of, passed_over, stream_key, streams, unread, unread_of, unread_seen}
 use Rattle.capture_scan.specs.Scans.{unread_targets}
 use Rattle.capture_scan.specs.Streams.{stream_from, stream_of}
-use Rattle.capture_scan.specs.declared.class.Class.TheVariants.{Empty, Tags, Ipv6, Other, NotUdp, Fragment, Broken}
+use Rattle.udp_rtp.specs.declared.class.FrameClass.TheVariants.{Empty, Tags, Ipv6, Other, NotUdp, Fragment, Broken}
 use Rattle.capture_scan.specs.declared.packet.Packet.{Packet}
 use Rattle.capture_scan.specs.declared.packet.Seen.{Seen}
 use Rattle.capture_scan.specs.declared.packet.Seen.TheVariants.{PassedOver, Unread, Read}

@@ -11,8 +11,8 @@ use Rattle.capture_scan.specs.Counting.{passed_with, span_with}
 use Rattle.capture_scan.specs.Frames.{seen}
 use Rattle.capture_scan.specs.Scans.{count_of, is_of_class, packet_seen, packets, passed_over, span_of, unread, unread_seen}
 use Rattle.capture_scan.specs.Stands.{HaveMissed, HaveTaken, StandsFor}
-use Rattle.capture_scan.specs.declared.class.Class.{Class}
-use Rattle.capture_scan.specs.declared.class.Class.TheVariants.{Empty, Tags, Ipv6, Other, NotUdp, Fragment, Broken}
+use Rattle.udp_rtp.specs.declared.class.FrameClass.{FrameClass}
+use Rattle.udp_rtp.specs.declared.class.FrameClass.TheVariants.{Empty, Tags, Ipv6, Other, NotUdp, Fragment, Broken}
 use Rattle.capture_scan.specs.declared.found.PassedOver.{PassedOver as ClassCounts}
 use Rattle.capture_scan.specs.declared.found.Span.{Span}
 use Rattle.capture_scan.specs.declared.packet.Packet.{Packet}
@@ -83,7 +83,7 @@ counted-seen n (Read packet) =
 passed-push : (rs : List Record) (r : Record) → passed_over (rs ++ r ∷ []) ≡ passed_seen (passed_over rs) (seen r)
 passed-push rs r = all ∙ counted-seen (passed_over rs) (seen r)
   where
-    one : (c : Class) → count_of c (rs ++ r ∷ []) ≡ count_of c rs + cond (is_of_class c (seen r)) 1 0
+    one : (c : FrameClass) → count_of c (rs ++ r ∷ []) ≡ count_of c rs + cond (is_of_class c (seen r)) 1 0
     one c = sum_by_push (λ x. cond (is_of_class c (seen x)) 1 0) rs r
 
     all : passed_over (rs ++ r ∷ []) ≡ counted (passed_over rs) (seen r)

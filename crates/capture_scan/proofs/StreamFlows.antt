@@ -10,7 +10,7 @@ use Rattle.timing_base.specs.declared.packet.FlowPacket.{FlowPacket}
 use Rattle.timing_base.specs.declared.packet.PacketFault.{PacketFault}
 use Rattle.timing_base.specs.declared.packet.Rtp.{Rtp}
 use Rattle.udp_rtp.specs.Flow.{datagram_packet, flow, is_same_target}
-use Rattle.udp_rtp.specs.Frames.{Datagram, datagram_of}
+use Rattle.udp_rtp.specs.Frames.{Datagram, datagram_of, datagram_or_class}
 use Rattle.udp_rtp.specs.Reading.{reading}
 use Rattle.capture_scan.specs.Frames.{packet_in, read_in, seen_in}
 use Rattle.capture_scan.specs.Scans.{as_flow_packet, is_from, is_read_from, packet_seen, packets, packets_of, stream_to}
@@ -44,7 +44,7 @@ module _ (media : Media) (ssrc : ℕ) where
   -- one record more
   record_more : (r : Record) (o : Option Datagram) (ps : List Packet) (fs : List FlowPacket)
       → own_of media ssrc ps ≡ filter (is_from ssrc) fs
-      → own_of media ssrc (cons_option (packet_seen (seen_in r o)) ps)
+      → own_of media ssrc (cons_option (packet_seen (seen_in r (datagram_or_class r.bytes o))) ps)
       ≡ filter (is_from ssrc) (cons_option (datagram_packet media r.number r.stamp o) fs)
   record_more r None ps fs rest = rest
   record_more r (Some d) ps fs rest = by (reading d.payload) refl
@@ -57,7 +57,7 @@ module _ (media : Media) (ssrc : ℕ) where
           ∙ (rest ∙ skip (is_same_target d.target (target_of media)) (flow_of r d) fs (ap (is_read_from ssrc) e))
       by (Ok rtp) e =
           ap (λ (res : Result Rtp PacketFault). own_of media ssrc (cons_option (packet_seen (read_in r d res)) ps)) e
-          ∙ (step (is_same_target (target_of media) d.target) (ssrc == rtp.ssrc) (packet_in r d rtp) (flow_of r d)
+          ∙ (step (is_same_target (target_of media) d.target) (ssrc == rtp.ssrc) (packet_in r.number r.stamp d rtp) (flow_of r d)
           (packets_of ps (stream_to (target_of media) ssrc)) fs
           (λ i. record { rec = r.number; at = r.stamp; rtp = sym e i })
           (ap (is_read_from ssrc) e ∙ nat_eq_equiv.symm rtp.ssrc ssrc)

@@ -4,8 +4,8 @@ use Rattle.std.specs.Prelude.{ℕ, ◌+◌, min, max, if◌then◌else◌, ◌&&
 use Rattle.timing_base.specs.declared.packet.Rtp.{Rtp}
 use Rattle.capture_scan.specs.Streams.{arrival, goes_back, has_other_type, is_same, lost_in, range_from, size, step}
 use Rattle.capture_scan.specs.Streams.{wraps_alone}
-use Rattle.capture_scan.specs.declared.class.Class.{Class}
-use Rattle.capture_scan.specs.declared.class.Class.TheVariants.{Empty, Tags, Ipv6, Other, NotUdp, Fragment, Broken}
+use Rattle.udp_rtp.specs.declared.class.FrameClass.{FrameClass}
+use Rattle.udp_rtp.specs.declared.class.FrameClass.TheVariants.{Empty, Tags, Ipv6, Other, NotUdp, Fragment, Broken}
 use Rattle.capture_scan.specs.declared.found.PassedOver.{PassedOver}
 use Rattle.capture_scan.specs.declared.found.Span.{Span}
 use Rattle.capture_scan.specs.declared.mark.Mark.{Mark}
@@ -92,7 +92,7 @@ span_with None at = record { first = at; last = at }
 span_with (Some span) at = record { first = span.first; last = at }
 
 -- the counts of the frames without a target, after one more frame of this class
-abbrev pub passed_with : PassedOver → Class → PassedOver
+abbrev pub passed_with : PassedOver → FrameClass → PassedOver
 passed_with n Empty = record n { empty = n.empty + 1 }
 passed_with n Tags = record n { tags = n.tags + 1 }
 passed_with n Ipv6 = record n { ipv6 = n.ipv6 + 1 }

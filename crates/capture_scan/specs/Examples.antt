@@ -1,46 +1,13 @@
 -- Ethernet frames, packets and lists of numbers for the examples that are worked by hand.
 use Rattle.std.specs.Prelude.{ℕ, ◌+◌, ◌*◌, Bool, true, false, List, replicate, [], ◌∷◌, ◌++◌, None}
-use Rattle.timing_base.specs.Addresses.{ipv4}
 use Rattle.timing_base.specs.Captures.{Record}
 use Rattle.timing_base.specs.declared.packet.Rtp.{Rtp}
-use Rattle.timing_base.specs.declared.target.Target.{Target}
-use Rattle.udp_rtp.specs.Examples.{extended, frame_of, group, ip, ip_type, macs, plain_ip, rtp, tag, udp}
+use Rattle.udp_rtp.specs.Examples.{arp_type, broken_frame, extended, fragment_frame, frame_of, group, ip_type}
+use Rattle.udp_rtp.specs.Examples.{ipv6_type, macs, plain_ip, rtp, sender, tag, tcp_frame, ten, udp}
 use Rattle.capture_scan.specs.declared.packet.Line.{Line}
 use Rattle.capture_scan.specs.declared.packet.Packet.{Packet}
 use Rattle.capture_scan.specs.declared.stream.Order.{Order}
 use Rattle.capture_scan.specs.declared.stream.Pace.{Pace}
-
--- the type field of IPv6
-abbrev pub ipv6_type : List ℕ
-ipv6_type = 0x86 ∷ 0xdd ∷ []
-
--- the type field of ARP
-abbrev pub arp_type : List ℕ
-arp_type = 0x08 ∷ 0x06 ∷ []
-
--- a tag of a provider's bridge, with VLAN 5
-abbrev pub provider_tag : List ℕ
-provider_tag = 0x88 ∷ 0xa8 ∷ 0x00 ∷ 0x05 ∷ []
-
--- ten bytes that may follow a type field
-abbrev pub ten : List ℕ
-ten = 0 ∷ 0 ∷ 0 ∷ 0 ∷ 0 ∷ 0 ∷ 0 ∷ 0 ∷ 0 ∷ 0 ∷ []
-
--- an Ethernet frame with TCP
-abbrev pub tcp_frame : List ℕ
-tcp_frame = frame_of (ip 0x45 0x40 0 6)
-
--- the first fragment of a datagram
-abbrev pub fragment_frame : List ℕ
-fragment_frame = frame_of (ip 0x45 0x20 0 17)
-
--- an IPv4 header with version 6
-abbrev pub broken_frame : List ℕ
-broken_frame = frame_of (ip 0x65 0x40 0 17)
-
--- 192.0.2.1, port 50000
-abbrev pub sender : Target
-sender = record { address = ipv4 192 0 2 1; port = 50000 }
 
 -- the packet of `frame_of plain_ip` in a packet record with this number and capture timestamp
 abbrev pub plain_at : ℕ → ℕ → Packet

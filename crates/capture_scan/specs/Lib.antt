@@ -1,5 +1,4 @@
 -- the definitions that the public clauses cite
-pub mod Classes
 pub mod Frames
 pub mod Streams
 pub mod Groups

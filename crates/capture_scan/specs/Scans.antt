@@ -13,8 +13,8 @@ use Rattle.timing_base.specs.declared.target.Target.{Target}
 use Rattle.capture_scan.specs.Frames.{seen}
 use Rattle.capture_scan.specs.Groups.{count_more, items_of, told}
 use Rattle.capture_scan.specs.Streams.{last_from, stream_of}
-use Rattle.capture_scan.specs.declared.class.Class.{Class}
-use Rattle.capture_scan.specs.declared.class.Class.TheVariants.{Empty, Tags, Ipv6, Other, NotUdp, Fragment, Broken}
+use Rattle.udp_rtp.specs.declared.class.FrameClass.{FrameClass}
+use Rattle.udp_rtp.specs.declared.class.FrameClass.TheVariants.{Empty, Tags, Ipv6, Other, NotUdp, Fragment, Broken}
 use Rattle.capture_scan.specs.declared.found.Found.{Found}
 use Rattle.capture_scan.specs.declared.found.PassedOver.{PassedOver as ClassCounts}
 use Rattle.capture_scan.specs.declared.found.Span.{Span}
@@ -85,7 +85,7 @@ abbrev pub more_unread : List Target → ℕ
 more_unread ts = count_more is_same_target (λ t. t) most_told ts
 
 -- whether two classes are equal
-abbrev pub is_same_class : Class → Class → Bool
+abbrev pub is_same_class : FrameClass → FrameClass → Bool
 is_same_class Empty Empty = true
 is_same_class Tags Tags = true
 is_same_class Ipv6 Ipv6 = true
@@ -96,13 +96,13 @@ is_same_class Broken Broken = true
 is_same_class a b = false
 
 -- whether a record has a frame of this class
-abbrev pub is_of_class : Class → Seen → Bool
+abbrev pub is_of_class : FrameClass → Seen → Bool
 is_of_class c (PassedOver class) = is_same_class c class
 is_of_class c (Unread target) = false
 is_of_class c (Read packet) = false
 
 -- the number of records with a frame of this class
-abbrev pub count_of : Class → List Record → ℕ
+abbrev pub count_of : FrameClass → List Record → ℕ
 count_of c records = count_by (λ r. is_of_class c (seen r)) records
 
 -- the number of records with a frame of each class

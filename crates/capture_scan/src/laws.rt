@@ -9,60 +9,19 @@ ghost use Rattle.timing_base.specs.Captures.{Record};
 ghost use Rattle.timing_base.specs.Media.{Media};
 ghost use Rattle.timing_base.specs.Targets.{target_of};
 ghost use Rattle.udp_rtp.specs.Examples.{extension, frame_of, frame_with, group, ip, ip_type, macs, packet, plain_ip};
-ghost use Rattle.udp_rtp.specs.Examples.{rtp, source, tag, udp};
+ghost use Rattle.udp_rtp.specs.Examples.{rtp, sender, source, tag, tcp_frame, udp};
 ghost use Rattle.udp_rtp.specs.Flow.{flow};
-ghost use Rattle.udp_rtp.specs.Frames.{Datagram, datagram_of};
-ghost use Rattle.capture_scan.specs.Classes.{class_of};
-ghost use Rattle.capture_scan.specs.Examples.{arp_type, broken_frame, came, fragment_frame, frame_of_reads, frame_on};
-ghost use Rattle.capture_scan.specs.Examples.{further_header, ipv6_type, last_header, line_header, line_with, one_of_each};
-ghost use Rattle.capture_scan.specs.Examples.{order_with, pace_with, plain_at, provider_tag, read_with, records_from};
-ghost use Rattle.capture_scan.specs.Examples.{samples, second_header, sender, short_header, tcp_frame, ten};
+ghost use Rattle.udp_rtp.specs.declared.class.FrameClass.TheVariants.{NotUdp};
+ghost use Rattle.capture_scan.specs.Examples.{came, frame_of_reads, frame_on, further_header, last_header, line_header};
+ghost use Rattle.capture_scan.specs.Examples.{line_with, one_of_each, order_with, pace_with, plain_at, read_with};
+ghost use Rattle.capture_scan.specs.Examples.{records_from, samples, second_header, short_header};
 ghost use Rattle.capture_scan.specs.Frames.{first_line, seen};
 ghost use Rattle.capture_scan.specs.Groups.{count_more, told};
 ghost use Rattle.capture_scan.specs.Scans.{as_flow_packet, count_passed, is_from, more_packets, more_unread, packets};
 ghost use Rattle.capture_scan.specs.Scans.{packets_of, passed_over, span_of, stream_to, streams, unread};
 ghost use Rattle.capture_scan.specs.Scans.{unread_targets};
 ghost use Rattle.capture_scan.specs.Streams.{lines_of, order_of, pace_of, stream_of};
-ghost use Rattle.capture_scan.specs.declared.class.Class.TheVariants.{Broken, Empty, Fragment, Ipv6, NotUdp, Other};
-ghost use Rattle.capture_scan.specs.declared.class.Class.TheVariants.{Tags};
 ghost use Rattle.capture_scan.specs.declared.packet.Seen.TheVariants as seen_as;
-
-/// Frames without a target: each class, on both sides of its limits.
-pub fn classes_by_hand()
-    ensures empty { class_of [] ≡ Empty }
-
-    // Two tags, and the tag of a provider's bridge, alone and behind another tag.
-    ensures two_tags { class_of (macs ++ tag ++ tag ++ ip_type ++ plain_ip) ≡ Tags }
-    ensures provider { class_of (macs ++ provider_tag ++ ip_type ++ plain_ip) ≡ Tags }
-    ensures behind { class_of (macs ++ tag ++ provider_tag ++ ipv6_type) ≡ Tags }
-
-    // IPv6, also behind a tag, and with nothing behind its type.
-    ensures ipv6 { class_of (macs ++ ipv6_type ++ ten) ≡ Ipv6 }
-    ensures tagged_ipv6 { class_of (macs ++ tag ++ ipv6_type ++ ten) ≡ Ipv6 }
-    ensures type_alone { class_of (macs ++ ipv6_type) ≡ Ipv6 }
-
-    // Another type, also behind a tag; a frame that ends within its type, or within the type behind a tag.
-    ensures arp { class_of (macs ++ arp_type ++ ten) ≡ Other }
-    ensures tagged_arp { class_of (macs ++ tag ++ arp_type ++ ten) ≡ Other }
-    ensures short { class_of (take 13 (frame_of plain_ip)) ≡ Other }
-    ensures tagged_short { class_of (take 17 (macs ++ tag ++ ip_type)) ≡ Other }
-
-    // TCP; of a header with 19 captured bytes the protocol isn't read.
-    ensures tcp { class_of tcp_frame ≡ NotUdp }
-    ensures tagged_tcp { class_of (macs ++ tag ++ ip_type ++ ip 0x45 0x40 0 6) ≡ NotUdp }
-    ensures tcp_header { class_of (take 34 tcp_frame) ≡ NotUdp }
-    ensures tcp_cut { class_of (take 33 tcp_frame) ≡ Broken }
-
-    // The first fragment of several and a later one; a fragment of TCP counts as not UDP.
-    ensures first { class_of fragment_frame ≡ Fragment }
-    ensures later { class_of (frame_of (ip 0x45 0x00 1 17)) ≡ Fragment }
-    ensures tcp_fragment { class_of (frame_of (ip 0x45 0x20 0 6)) ≡ NotUdp }
-
-    // Version 6 in an IPv4 header, a header of four words, and a frame that ends before its ports.
-    ensures version { class_of broken_frame ≡ Broken }
-    ensures words { class_of (frame_of (ip 0x44 0x40 0 17)) ≡ Broken }
-    ensures cut { class_of (take 37 (frame_of plain_ip)) ≡ Broken }
-{}
 
 /// The result of reading a packet record: an RTP packet, one with a payload that is too short, and a frame without a
 /// target.
@@ -242,11 +201,6 @@ pub fn streams_by_hand()
     // Unread packets to two targets.
     ensures unread { unread_targets (group ∷ sender ∷ group ∷ [])
         ≡ record { target = group; packets = 2 } ∷ record { target = sender; packets = 1 } ∷ [] }
-{}
-
-/// A frame with a target is of class `Broken`, the last one. A class before it applies only to frames without a target.
-pub fn targets_are_no_class()
-    ensures { (frame : List ℕ) (d : Datagram) → datagram_of frame ≡ Some d → class_of frame ≡ Broken }
 {}
 
 /// The packets of a stream are those packets of the flow of a media with its target that are read as RTP with its SSRC.

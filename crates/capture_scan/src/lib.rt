@@ -10,7 +10,6 @@
 //! - `report`: the result as JSON and as lines of text, and a draft of an SDP.
 #![tactic(auto)]
 
-mod class;
 mod counter;
 mod found;
 mod key;
@@ -23,7 +22,6 @@ mod stream;
 mod streams;
 mod unread;
 
-pub use class::Class;
 pub use found::{Found, PassedOver, Span, UnreadTarget};
 pub use packet::{Line, Packet, Seen, look_at};
 pub use scan::Scan;

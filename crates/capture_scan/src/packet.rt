@@ -1,16 +1,12 @@
 //! Reads a packet record: a frame without a target, a packet that isn't RTP, or an RTP packet.
 
-ghost use Rattle.std.specs.Prelude.{◌≡◌, ◌+◌, ◌≤◌, ◌<◌, length, Ok, Some, IfSome, IsOk, IsSome};
-ghost use Rattle.udp_rtp.specs.Frames.{Datagram as Carried, datagram_of, udp_place};
-ghost use Rattle.udp_rtp.specs.Numbers.{number16};
+ghost use Rattle.std.specs.Prelude.{◌≡◌, ◌+◌, ◌≤◌, length, Ok, IsOk};
 ghost use Rattle.udp_rtp.specs.Reading.{payload_place, reading};
-ghost use Rattle.timing_base.specs.declared.packet.Rtp.{Rtp as Fields};
-ghost use Rattle.capture_scan.specs.Frames.{first_line, header_place, line_at, packet_in, seen, source_at, stated_bytes};
+ghost use Rattle.capture_scan.specs.Frames.{first_line, line_at, packet_in, seen};
 
-use crate::class::{Class, TAG, class_of};
 use byteorder::{BigEndian, ByteOrder};
-use timing_base::{Address, Rtp, Target};
-use udp_rtp::{Datagram, datagram, read_rtp};
+use timing_base::{Rtp, Target};
+use udp_rtp::{Datagram, FrameClass, read_frame, read_rtp};
 
 /// The first line header of a packet (RFC 4175, section 4.3).
 #[derive(Clone, Copy, Debug, PartialEq, Eq)]
@@ -47,95 +43,11 @@ pub struct Packet {
 #[derive(Clone, Copy, Debug, PartialEq, Eq)]
 pub enum Seen {
     /// A frame without a target.
-    PassedOver(Class),
+    PassedOver(FrameClass),
     /// A packet to this target that isn't read as RTP.
     Unread(Target),
     /// An RTP packet.
     Read(Packet),
-}
-
-/// Returns the byte offset of the IPv4 header in a frame with a target.
-#[inline(always)]
-fn header_place(frame: &[u8]) -> usize
-    requires { 14 ≤ length frame.now }
-    ensures place { result ≡ header_place frame.now }
-    ensures high { result ≤ 18 }
-{
-    if BigEndian::read_u16(&frame[12..]) == TAG {
-        18
-    } else {
-        14
-    }
-}
-
-/// The values in the headers of a frame with a target, besides the target.
-#[derive(Clone, Copy)]
-struct Sent {
-    /// The source address and port.
-    source: Target,
-    /// The total length of IPv4, in bytes.
-    length: u16,
-    /// The bytes of data by the UDP length, whether or not they were captured; 0 if the UDP length wasn't.
-    stated: usize,
-}
-
-/// Returns the source address and port of a frame with a target and its IPv4 header at byte `ip`.
-#[inline(always)]
-fn source_at(frame: &[u8], ip: usize) -> Target
-    requires high { ip ≤ 18 }
-    requires header { ip + 20 ≤ length frame.now }
-    requires ports { udp_place frame.now ip + 4 ≤ length frame.now }
-    ensures { result ≡ source_at frame.now ip }
-{
-    let udp = ip + 4 * usize::from(frame[ip] % 16);
-    Target {
-        address: Address {
-            bits: BigEndian::read_u32(&frame[ip + 12..]),
-        },
-        port: BigEndian::read_u16(&frame[udp..]),
-    }
-}
-
-/// Returns the bytes of data by the UDP length; 0 if that wasn't captured.
-#[inline(always)]
-fn stated_bytes(frame: &[u8], ip: usize) -> usize
-    requires high { ip ≤ 18 }
-    requires header { ip + 20 ≤ length frame.now }
-    ensures { result ≡ stated_bytes frame.now ip }
-{
-    let udp = ip + 4 * usize::from(frame[ip] % 16);
-    if frame.len() < udp + 6 {
-        return 0;
-    }
-    usize::from(BigEndian::read_u16(&frame[udp + 4..])).saturating_sub(8)
-}
-
-/// Returns the values in the headers of a frame with its IPv4 header at byte `ip`.
-#[inline(always)]
-fn sent_at(frame: &[u8], ip: usize) -> Sent
-    requires high { ip ≤ 18 }
-    requires header { ip + 20 ≤ length frame.now }
-    requires ports { udp_place frame.now ip + 4 ≤ length frame.now }
-    ensures source { result.source ≡ source_at frame.now ip }
-    ensures length { result.length ≡ number16 frame.now (ip + 2) }
-    ensures stated { result.stated ≡ stated_bytes frame.now ip }
-{
-    Sent {
-        source: source_at(frame, ip),
-        length: BigEndian::read_u16(&frame[ip + 2..]),
-        stated: stated_bytes(frame, ip),
-    }
-}
-
-/// Returns the values in the headers of a frame with this datagram.
-#[inline(always)]
-fn sent_in(frame: &[u8], datagram: &Datagram) -> Sent
-    requires { datagram_of frame.now ≡ Some datagram.now }
-    ensures source { result.source ≡ source_at frame.now (header_place frame.now) }
-    ensures length { result.length ≡ number16 frame.now (header_place frame.now + 2) }
-    ensures stated { result.stated ≡ stated_bytes frame.now (header_place frame.now) }
-{
-    sent_at(frame, header_place(frame))
 }
 
 /// Returns the byte offset of the extended sequence number in an RTP packet.
@@ -197,23 +109,20 @@ fn line_in(stated: usize, payload: &[u8]) -> Option<Line>
     first_line(stated, payload)
 }
 
-/// Returns the packet of a frame, from its datagram and the fields of its RTP header.
+/// Returns the packet of a record with this datagram, from the fields of its RTP header.
 #[inline(always)]
-fn packet_in(rec: u64, at: u64, frame: &[u8], datagram: &Datagram, rtp: Rtp) -> Packet
-    requires carried { datagram_of frame.now ≡ Some datagram.now }
-    requires read { reading datagram.now.payload ≡ Ok rtp }
-    ensures { result ≡ packet_in (record { number = rec; stamp = at; bytes = frame.now })
-        datagram.now rtp }
+fn packet_in(rec: u64, at: u64, datagram: &Datagram, rtp: Rtp) -> Packet
+    requires { reading datagram.now.payload ≡ Ok rtp }
+    ensures { result ≡ packet_in rec at datagram.now rtp }
 {
-    let sent = sent_in(frame, datagram);
     Packet {
         rec,
         at,
-        source: sent.source,
+        source: datagram.source,
         target: datagram.target,
-        length: sent.length,
+        length: datagram.length,
         rtp,
-        line: line_in(sent.stated, datagram.payload),
+        line: line_in(usize::from(datagram.stated), datagram.payload),
     }
 }
 
@@ -226,11 +135,11 @@ fn packet_in(rec: u64, at: u64, frame: &[u8], datagram: &Datagram, rtp: Rtp) -> 
 pub fn look_at(rec: u64, at: u64, frame: &[u8]) -> Seen
     ensures { result ≡ seen (record { number = rec; stamp = at; bytes = frame.now }) }
 {
-    let Some(datagram) = datagram(frame) else {
-        return Seen::PassedOver(class_of(frame));
-    };
-    match read_rtp(datagram.payload) {
-        Ok(rtp) => Seen::Read(packet_in(rec, at, frame, &datagram, rtp)),
-        Err(_) => Seen::Unread(datagram.target),
+    match read_frame(frame) {
+        Ok(datagram) => match read_rtp(datagram.payload) {
+            Ok(rtp) => Seen::Read(packet_in(rec, at, &datagram, rtp)),
+            Err(_) => Seen::Unread(datagram.target),
+        },
+        Err(class) => Seen::PassedOver(class),
     }
 }

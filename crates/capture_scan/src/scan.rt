@@ -4,13 +4,13 @@ ghost use Rattle.std.specs.Prelude.{◌≡◌, ◌≤◌, ◌<◌, ◌+◌, ◌^
 ghost use Rattle.capture_scan.specs.Few.{IsFewPassed};
 ghost use Rattle.timing_base.specs.Captures.{IsStamp, Record};
 
-use crate::class::Class;
 use crate::found::{Found, PassedOver, Span};
 use crate::packet::{Seen, look_at};
 use crate::streams::Streams;
 use crate::unread::Unread;
 use pcap_reader::Taker;
 use std::alloc::{AllocError as OutOfMemory, Global};
+use udp_rtp::FrameClass;
 
 impl Span {
     ghost use Rattle.capture_scan.specs.Counting.{span_with};
@@ -53,18 +53,18 @@ impl PassedOver {
     }
 
     /// Counts one more frame of this class.
-    fn count(&mut self, class: Class)
+    fn count(&mut self, class: FrameClass)
         requires { IsFewPassed (2 ^ 41) self.old }
         ensures { self.new ≡ passed_with self.old class }
     {
         match class {
-            Class::Empty => self.empty += 1,
-            Class::Tags => self.tags += 1,
-            Class::Ipv6 => self.ipv6 += 1,
-            Class::Other => self.other += 1,
-            Class::NotUdp => self.not_udp += 1,
-            Class::Fragment => self.fragment += 1,
-            Class::Broken => self.broken += 1,
+            FrameClass::Empty => self.empty += 1,
+            FrameClass::Tags => self.tags += 1,
+            FrameClass::Ipv6 => self.ipv6 += 1,
+            FrameClass::Other => self.other += 1,
+            FrameClass::NotUdp => self.not_udp += 1,
+            FrameClass::Fragment => self.fragment += 1,
+            FrameClass::Broken => self.broken += 1,
         }
     }
 }

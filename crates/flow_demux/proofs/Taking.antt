@@ -40,6 +40,18 @@ goes-by m r p (Some d) is e = (d, is, same-target d.target (target_of m) (kept (
 pub packet-goes : (m : Media) (r : Record) (p : FlowPacket) → flow_packet m r ≡ Some p → GoesTo m r.bytes
 packet-goes m r p e = goes-by m r p (datagram_of r.bytes) refl e
 
+-- a packet of the flow has the timestamp of its record
+packet-of : (b : Bool) (x y : FlowPacket) → (if b then Some x else None) ≡ Some y → x ≡ y
+packet-of true x y e = cc
+packet-of false x y e = cc
+
+stamp-by : (m : Media) (r : Record) (p : FlowPacket) (o : Option Datagram) → datagram_packet m r.number r.stamp o ≡ Some p → r.stamp ≡ p.at
+stamp-by m r p None e = cc
+stamp-by m r p (Some d) e = ap (λ (q : FlowPacket). q.at) (packet-of (is_same_target d.target (target_of m)) _ p e)
+
+pub packet-stamp : (m : Media) (r : Record) (p : FlowPacket) → flow_packet m r ≡ Some p → r.stamp ≡ p.at
+packet-stamp m r p e = stamp-by m r p (datagram_of r.bytes) e
+
 -- what follows from an answer
 pub if-ok : {T E : Type 0} {P Q : T → Type 0} (result : Result T E) → ((x : T) → P x → Q x) → IfOk result P → IfOk result Q
 if-ok (Ok x) next h = next x h

@@ -63,14 +63,14 @@ note_line note =
 -- the legend of the pictures
 unfoldable pub legend : List ℕ
 legend =
-    codes "<p class=\"legend\">In the curves each mark spans the least and the greatest number of its packets o"
-    ++ (codes "r frames <svg class=\"key\" viewBox=\"0 0 28 12\" aria-hidden=\"true\"><path class=\"band\" d=\"M2 3"
-    ++ (codes "H26V9H2Z\"/></svg>, so no peak is hidden. Limits are lines with their names at the right: those of N"
-    ++ (codes " and NL are dashed <svg class=\"key\" viewBox=\"0 0 28 12\" aria-hidden=\"true\"><path class=\"lim\""
-    ++ (codes " d=\"M0 6H28\"/></svg>, those of W dotted <svg class=\"key\" viewBox=\"0 0 28 12\" aria-hidden=\"tru"
-    ++ (codes "e\"><path class=\"lim w\" d=\"M0 6H28\"/></svg>; faint uprights are the ends of frames. In the bars "
-    ++ (codes "what is beyond a limit stands behind the limit's line, or before 0, and is named so. Packets and fra"
-    ++ codes "mes count from 0, records from 1.</p>\n"))))))
+    codes "<p class=\"legend\">In the curves each mark spans the least and the greatest number of its packets"
+    ++ (codes ", frames or fields <svg class=\"key\" viewBox=\"0 0 28 12\" aria-hidden=\"true\"><path class=\"ban"
+    ++ (codes "d\" d=\"M2 3H26V9H2Z\"/></svg>, so no peak is hidden. Limits are lines with their names at the rig"
+    ++ (codes "ht: those of N and NL are dashed <svg class=\"key\" viewBox=\"0 0 28 12\" aria-hidden=\"true\"><pa"
+    ++ (codes "th class=\"lim\" d=\"M0 6H28\"/></svg>, those of W dotted <svg class=\"key\" viewBox=\"0 0 28 12\""
+    ++ (codes " aria-hidden=\"true\"><path class=\"lim w\" d=\"M0 6H28\"/></svg>; faint uprights are the ends of "
+    ++ (codes "frames or fields. In the bars what is beyond a limit stands behind the limit's line, or before 0, "
+    ++ codes "and is named so. Packets, frames and fields count from 0, records from 1.</p>\n"))))))
 
 -- the end of the page
 abbrev pub page_end : List ℕ

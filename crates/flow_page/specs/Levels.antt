@@ -4,10 +4,11 @@ use Rattle.std.specs.Prelude.{ℕ, pos, ◌/◌, ◌^◌, min, nat_le, Bool, tru
 use Rattle.std.specs.Prelude.{Option, Some, None}
 use Rattle.std.specs.Fmt.{decimal, signed_decimal}
 use Rattle.std.specs.List.{flat_map}
+use Rattle.timing_base.specs.Media.{Media}
 use Rattle.timing_base.specs.Verdicts.{Judged}
 use Rattle.timing_base.specs.declared.media.Kind.{Kind}
 use Rattle.timing_base.specs.declared.media.Kind.TheVariants.{N, NL, W}
-use Rattle.timing_report.specs.Words.{kind_name}
+use Rattle.timing_report.specs.Words.{group_name, kind_name}
 use Rattle.flow_measure.specs.Columns.{strip_of, width_of}
 use Rattle.flow_measure.specs.declared.columns.Extremes.{Extremes}
 use Rattle.flow_measure.specs.declared.numbers.RunNumbers.{RunNumbers}
@@ -15,11 +16,13 @@ use Rattle.flow_measure.specs.declared.summary.Summary.{Summary}
 use Rattle.flow_page.specs.chart.Charts.{curve_figure}
 use Rattle.flow_page.specs.declared.chart.chart.Scene.{Scene}
 use Rattle.flow_page.specs.declared.chart.grid.Unit.TheVariants.{Packets}
-use Rattle.flow_page.specs.declared.chart.grid.UnitAcross.TheVariants.{Packet, Place}
+use Rattle.flow_page.specs.declared.chart.grid.UnitAcross.{UnitAcross}
+use Rattle.flow_page.specs.declared.chart.grid.UnitAcross.TheVariants.{Packet, Place, FieldPlace}
 use Rattle.flow_page.specs.declared.chart.lines.Limit.{Limit}
 use Rattle.flow_page.specs.declared.chart.lines.LineName.{LineName}
 use Rattle.flow_page.specs.declared.chart.lines.LineName.TheVariants.{Empty, Narrow, NarrowLinear, Wide}
 use Rattle.flow_page.specs.declared.chart.plot.Across.{Across}
+use Rattle.flow_page.specs.Peaks.{peak_text}
 use Rattle.flow_page.specs.Words.{counted}
 use Rattle.flow_page.specs.declared.levels.Level.{Level}
 use Rattle.flow_page.specs.declared.levels.Level.TheVariants.{Bucket, Gapped, Linear}
@@ -36,16 +39,25 @@ run_title Bucket = codes "Bucket over the capture"
 run_title Gapped = codes "Receiver buffer over the capture, gapped reads (N)"
 run_title Linear = codes "Receiver buffer over the capture, linear reads (NL, W)"
 
+-- the level that a picture shows of all frames or fields overlaid
+abbrev pub eye_name : Level → List ℕ
+eye_name Bucket = codes "bucket"
+eye_name Gapped = codes "buffer, gapped reads (N)"
+eye_name Linear = codes "buffer, linear reads (NL, W)"
+
 -- the title of the picture with all frames or fields overlaid
-abbrev pub eye_title : Level → List ℕ
-eye_title Bucket = codes "One frame, all over each other: bucket"
-eye_title Gapped = codes "One frame, all over each other: buffer, gapped reads (N)"
-eye_title Linear = codes "One frame, all over each other: buffer, linear reads (NL, W)"
+abbrev pub eye_title : (group : List ℕ) → Level → List ℕ
+eye_title group level = codes "One " ++ (group ++ (codes ", all over each other: " ++ eye_name level))
 
 -- the title of a picture
-abbrev pub level_title : View → Level → List ℕ
-level_title WholeRun level = run_title level
-level_title Eye level = eye_title level
+abbrev pub level_title : Media → View → Level → List ℕ
+level_title m WholeRun level = run_title level
+level_title m Eye level = eye_title (group_name m.interlaced) level
+
+-- what a place of a picture is called
+abbrev pub place_noun : View → List ℕ
+place_noun WholeRun = codes "packet"
+place_noun Eye = codes "place"
 
 -- the summary of a level
 abbrev pub level_summary : RunNumbers → Level → Summary
@@ -149,15 +161,24 @@ limit_told kind (Some on) =
 abbrev pub limit_words : Level → TypeShown → List ℕ
 limit_words level t = limit_told t.kind (limit_on level t)
 
--- the least and the greatest level, and the packets or places per column
-abbrev pub level_words : Summary → (each : ℕ) → List ℕ
-level_words s each =
+-- the least and the greatest level, with the place of the greatest
+abbrev pub level_extremes : (noun : List ℕ) → Summary → Across → List Extremes → List ℕ
+level_extremes noun s a columns =
     codes "least " ++ (signed_decimal s.least ++ (codes ", most " ++ (counted s.greatest (codes "packet")
-    ++ (codes "; " ++ (decimal each ++ codes " to a mark")))))
+    ++ peak_text noun a s.greatest columns)))
+
+-- the packets or places per column
+abbrev pub each_words : (each : ℕ) → List ℕ
+each_words each = codes "; " ++ (decimal each ++ codes " to a mark")
+
+-- both
+abbrev pub level_words : (noun : List ℕ) → Summary → Across → List Extremes → List ℕ
+level_words noun s a columns = level_extremes noun s a columns ++ each_words a.each
 
 -- the text beside a picture
-abbrev pub level_detail : Level → Summary → (each : ℕ) → List TypeShown → List ℕ
-level_detail level s each types = level_words s each ++ flat_map (limit_words level) types
+abbrev pub level_detail : View → Level → Summary → Across → List Extremes → List TypeShown → List ℕ
+level_detail view level s a columns types =
+    level_words (place_noun view) s a columns ++ flat_map (limit_words level) types
 
 -- `count` packets, frames or fields side by side, in the columns of a curve
 abbrev pub across_of : (count : ℕ) → Across
@@ -178,30 +199,36 @@ run_scene judged = record {
   shade = None;
 }
 
+-- the unit of the places of a frame or field
+abbrev pub place_across : (interlaced : Bool) → UnitAcross
+place_across false = Place
+place_across true = FieldPlace
+
 -- the scene of all frames or fields overlaid: the places of one
-abbrev pub eye_scene : Judged → Scene
-eye_scene judged = record {
+abbrev pub eye_scene : Media → Judged → Scene
+eye_scene m judged = record {
   wide = false;
   unit = Packets;
-  along = Place;
+  along = place_across m.interlaced;
   across = across_group judged.n;
   every = 0;
   shade = None;
 }
 
 -- the scene of a picture
-abbrev pub level_scene : Judged → View → Scene
-level_scene judged WholeRun = run_scene judged
-level_scene judged Eye = eye_scene judged
+abbrev pub level_scene : Media → Judged → View → Scene
+level_scene m judged WholeRun = run_scene judged
+level_scene m judged Eye = eye_scene m judged
 
 -- the picture of a level
-abbrev pub level_figure : ShownRun → List TypeShown → View → Level → List ℕ
-level_figure s types view level =
-    curve_figure (level_title view level)
-    (level_detail level (level_summary s.run.numbers level) (level_scene s.run.judged view).across.each types)
-    (level_scene s.run.judged view) (level_lines level types) (level_columns s.curves view level)
+abbrev pub level_figure : Media → ShownRun → List TypeShown → View → Level → List ℕ
+level_figure m s types view level =
+    curve_figure (level_title m view level)
+    (level_detail view level (level_summary s.run.numbers level) (level_scene m s.run.judged view).across
+    (level_columns s.curves view level) types)
+    (level_scene m s.run.judged view) (level_lines level types) (level_columns s.curves view level)
 
 -- the pictures of all levels
-abbrev pub level_figures : ShownRun → List TypeShown → View → List ℕ
-level_figures s types view =
-    level_figure s types view Bucket ++ (level_figure s types view Gapped ++ level_figure s types view Linear)
+abbrev pub level_figures : Media → ShownRun → List TypeShown → View → List ℕ
+level_figures m s types view =
+    level_figure m s types view Bucket ++ (level_figure m s types view Gapped ++ level_figure m s types view Linear)

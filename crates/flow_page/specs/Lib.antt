@@ -1,4 +1,6 @@
 -- the definitions that public clauses use
+pub mod Times
+pub mod Peaks
 pub mod Words
 pub mod Shown
 pub mod Media

@@ -1,7 +1,7 @@
 -- The table of the media of a session. The row of a media has its verdict, the packets per frame or field, the class
 -- and the declared type, and for each sender type pass or fail and the peaks with their limits. Media count from 1
 -- there. This project's own format.
-use Rattle.std.specs.Prelude.{ℕ, ◌+◌, ◌<◌, List, ◌++◌, codes, All, length, Option, Some, None}
+use Rattle.std.specs.Prelude.{ℕ, pos, ◌+◌, ◌<◌, List, ◌++◌, codes, All, length, Option, Some, None}
 use Rattle.std.specs.Fmt.{decimal}
 use Rattle.std.specs.List.{flat_map}
 use Rattle.timing_base.specs.Keys.{key_of, media_of}
@@ -16,7 +16,7 @@ use Rattle.timing_report.specs.Verdict.{verdict_text}
 use Rattle.timing_report.specs.Words.{class_name, declared_name, group_name}
 use Rattle.flow_page.specs.chart.Figures.{told}
 use Rattle.flow_page.specs.Shown.{types_shown}
-use Rattle.flow_page.specs.Words.{sign_text}
+use Rattle.flow_page.specs.Words.{counted, sign_text}
 use Rattle.flow_page.specs.declared.shown.FlowPage.{FlowPage}
 use Rattle.flow_page.specs.declared.shown.ShownRun.{ShownRun}
 use Rattle.flow_page.specs.declared.shown.TypeShown.{TypeShown}
@@ -24,7 +24,7 @@ use Rattle.flow_page.specs.declared.shown.TypeShown.{TypeShown}
 -- the start of the table, in a box of its own
 unfoldable pub media_open : List ℕ
 media_open =
-    codes "<div class=\"scroll\"><table><thead><tr><th>Flow</th><th>Verdict</th><th>Packets</th><th>Frames</th>"
+    codes "<div class=\"scroll\"><table><thead><tr><th>Flow</th><th>Verdict</th><th>Packets</th><th>Judged</th>"
     ++ (codes "<th>Class</th><th>Declared</th><th>N</th><th>bucket</th><th>buffer</th><th>NL</th><th>bucket</th>"
     ++ codes "<th>buffer</th><th>W</th><th>bucket</th><th>buffer</th></tr></thead><tbody>\n")
 
@@ -39,11 +39,11 @@ type_cells t =
     ++ (decimal t.c_max ++ (codes "</td><td>" ++ (decimal t.buffer_peak ++ (codes " of " ++ (decimal t.vrx_full
     ++ codes "</td>")))))))))
 
--- the packets per frame or field, the count of frames or fields, the class, and the declared type
+-- the packets per frame or field, the count of judged frames or fields, the class, and the declared type
 abbrev pub run_cells : Media → Judged → List ℕ
 run_cells media judged =
     codes "</td><td>" ++ (decimal judged.n ++ (codes " per " ++ (group_name media.interlaced ++ (codes "</td><td>"
-    ++ (decimal judged.frames ++ (codes "</td><td>" ++ (class_name (first_passing judged) ++ (codes "</td><td>"
+    ++ (counted (pos judged.frames) (group_name media.interlaced) ++ (codes "</td><td>" ++ (class_name (first_passing judged) ++ (codes "</td><td>"
     ++ (declared_name media.declared ++ codes "</td>")))))))))
 
 -- the cells of the run that is shown, if there is one

@@ -3,9 +3,10 @@
 use Rattle.std.specs.Prelude.{ℕ, ℤ, List, [], ◌++◌, codes, Option, Some, None}
 use Rattle.std.specs.Fmt.{decimal, signed_decimal}
 use Rattle.std.specs.List.{flat_map}
+use Rattle.timing_base.specs.Media.{Media}
 use Rattle.timing_base.specs.Verdicts.{Judged}
 use Rattle.timing_report.specs.Outcomes.{first_passing}
-use Rattle.timing_report.specs.Words.{class_name, kind_name}
+use Rattle.timing_report.specs.Words.{class_name, group_name, kind_name}
 use Rattle.flow_measure.specs.declared.numbers.Gaps.{Gaps}
 use Rattle.flow_measure.specs.declared.numbers.MeasuredRun.{MeasuredRun}
 use Rattle.flow_measure.specs.declared.numbers.RunNumbers.{RunNumbers}
@@ -62,29 +63,42 @@ level_rows n =
     ++ (level_row (codes "packets in the buffer, gapped reads") n.gapped.occupancy
     ++ level_row (codes "packets in the buffer, linear reads") n.linear.occupancy)
 
--- the rows of the times of packets and of the RTP timestamps
-abbrev pub time_rows : RunNumbers → List ℕ
-time_rows n =
-    summary_row (codes "first packet after the frame begins, ns") n.first
-    ++ (summary_row (codes "last packet after the frame begins, ns") n.last
-    ++ (gap_row n.gap ++ (step_row n.step ++ (summary_row (codes "RTP timestamp after the frame begins, ticks") n.offset
-    ++ summary_row (codes "from RTP timestamp to first packet, ticks") n.latency))))
+-- a row of a whole summary that is counted from the instant at which each frame or field begins
+unfoldable pub after_row : (what group unit : List ℕ) → Summary → List ℕ
+after_row what group unit s =
+    codes "<tr><th>" ++ (what ++ (codes " after the " ++ (group ++ (codes " begins, " ++ (unit ++ (codes "</th>"
+    ++ (pair_cells s.least s.greatest ++ (pair_cells s.first s.last ++ (codes "<td>" ++ (signed_decimal s.sum
+    ++ codes "</td></tr>\n"))))))))))
+
+-- the row of TR_OFFSET, at which the first packet of a frame or field is due
+abbrev pub target_row : (target : ℕ) → List ℕ
+target_row target =
+    codes "<tr><th>target of the first packet (TR_OFFSET), ns</th><td colspan=\"5\">"
+    ++ (decimal target ++ codes "</td></tr>\n")
+
+-- the rows of the times of packets and of the RTP timestamps; `group` is "frame" or "field"
+abbrev pub time_rows : (group : List ℕ) → RunNumbers → List ℕ
+time_rows group n =
+    after_row (codes "first packet") group (codes "ns") n.first
+    ++ (target_row n.target ++ (after_row (codes "last packet") group (codes "ns") n.last
+    ++ (gap_row n.gap ++ (step_row n.step ++ (after_row (codes "RTP timestamp") group (codes "ticks") n.offset
+    ++ summary_row (codes "from RTP timestamp to first packet, ticks") n.latency)))))
 
 -- all rows of the table of summaries
-unfoldable pub number_rows : RunNumbers → List ℕ
-number_rows n = level_rows n ++ time_rows n
+unfoldable pub number_rows : (group : List ℕ) → RunNumbers → List ℕ
+number_rows group n = level_rows n ++ time_rows group n
 
 -- the table of summaries
-abbrev pub numbers_table : RunNumbers → List ℕ
-numbers_table n = numbers_open ++ (number_rows n ++ table_close)
+abbrev pub numbers_table : Media → RunNumbers → List ℕ
+numbers_table m n = numbers_open ++ (number_rows (group_name m.interlaced) n ++ table_close)
 
 -- the start of the table of types
-unfoldable pub types_open : List ℕ
-types_open =
-    codes "<div class=\"scroll\"><table><thead><tr><th>of the type</th><th>outcome</th><th>frames that break it</th>"
-    ++ (codes "<th>bucket at most</th><th>peak</th><th>packets above</th><th>first</th><th>buffer at most</th>"
-    ++ (codes "<th>peak</th><th>packets above</th><th>first</th><th>below 0</th><th>packets late</th><th>first</th>"
-    ++ codes "<th>slack, ns</th></tr></thead><tbody>\n"))
+unfoldable pub types_open : (group : List ℕ) → List ℕ
+types_open group =
+    codes "<div class=\"scroll\"><table><thead><tr><th>of the type</th><th>outcome</th><th>" ++ (group
+    ++ (codes "s that break it</th><th>bucket at most</th><th>peak</th><th>packets above</th><th>first</th>"
+    ++ (codes "<th>buffer at most</th><th>peak</th><th>packets above</th><th>first</th><th>below 0</th>"
+    ++ codes "<th>packets late</th><th>first</th><th>slack, ns</th></tr></thead><tbody>\n")))
 
 -- the cells of a type for the bucket
 abbrev pub bucket_cells : TypeShown → List ℕ
@@ -113,15 +127,16 @@ type_row t =
     ++ codes "</tr>\n")))))))))
 
 -- the table of types
-abbrev pub types_table : List TypeShown → List ℕ
-types_table types = types_open ++ (flat_map type_row types ++ table_close)
+abbrev pub types_table : Media → List TypeShown → List ℕ
+types_table m types = types_open (group_name m.interlaced) ++ (flat_map type_row types ++ table_close)
 
 -- the start of the table of runs
-unfoldable pub runs_open : List ℕ
-runs_open =
+unfoldable pub runs_open : (group : List ℕ) → List ℕ
+runs_open group =
     codes "<div class=\"scroll\"><table><thead><tr><th>judged run</th><th>record</th><th>number</th><th>packets</th>"
-    ++ (codes "<th>in a frame</th><th>frames</th><th>head</th><th>tail</th><th>class</th><th>bucket</th>"
-    ++ codes "<th>buffer, gapped</th><th>buffer, linear</th></tr></thead><tbody>\n")
+    ++ (codes "<th>in a " ++ (group ++ (codes "</th><th>" ++ (group
+    ++ (codes "s</th><th>head</th><th>tail</th><th>class</th><th>bucket</th>"
+    ++ codes "<th>buffer, gapped</th><th>buffer, linear</th></tr></thead><tbody>\n")))))
 
 -- the start of a run's row: its number, its first packet record, and the 32-bit sequence number of that packet
 abbrev pub run_open : (run place number : ℕ) → List ℕ
@@ -146,5 +161,5 @@ abbrev pub run_row : MeasuredRun → List ℕ
 run_row r = run_open r.run r.«record» r.number ++ (run_packets r.judged ++ run_peaks r.judged)
 
 -- the table of runs
-abbrev pub runs_table : List MeasuredRun → List ℕ
-runs_table runs = runs_open ++ (flat_map run_row runs ++ table_close)
+abbrev pub runs_table : Media → List MeasuredRun → List ℕ
+runs_table m runs = runs_open (group_name m.interlaced) ++ (flat_map run_row runs ++ table_close)

@@ -1,14 +1,16 @@
 -- Histograms as pictures: of the packets in bucket and buffer for each type, and of the times between packets. This
 -- project's own format.
-use Rattle.std.specs.Prelude.{ℕ, pos, ◌+◌, ◌*◌, ◌^◌, ◌==◌, nat_lt, if◌then◌else◌, Bool, true, false}
+use Rattle.std.specs.Prelude.{ℕ, ℤ, pos, ◌+◌, ◌*◌, ◌^◌, ◌==◌, nat_lt, if◌then◌else◌, Bool, true, false}
 use Rattle.std.specs.Prelude.{List, [], ◌∷◌, ◌++◌, codes, Option, Some, None}
 use Rattle.std.specs.Fmt.{decimal, signed_decimal}
 use Rattle.timing_base.specs.declared.media.Kind.{Kind}
+use Rattle.timing_base.specs.declared.media.Kind.TheVariants.{N, NL, W}
 use Rattle.timing_report.specs.Words.{kind_name}
 use Rattle.flow_measure.specs.Told.{bin_counts, class_counts}
 use Rattle.flow_measure.specs.declared.bins.Bins.{Bins}
 use Rattle.flow_measure.specs.declared.numbers.Gaps.{Gaps}
 use Rattle.flow_measure.specs.declared.numbers.KindNumbers.{KindNumbers}
+use Rattle.flow_measure.specs.declared.numbers.RunNumbers.{RunNumbers}
 use Rattle.flow_measure.specs.declared.summary.Summary.{Summary}
 use Rattle.flow_page.specs.chart.Charts.{bars_figure}
 use Rattle.flow_page.specs.declared.chart.bars.Bar.{Bar}
@@ -54,27 +56,45 @@ unfoldable pub above_of : (above seen : ℕ) → List ℕ
 above_of above seen =
     decimal above ++ (codes " of " ++ (counted (pos seen) (codes "packet") ++ codes " above"))
 
--- the text beside a histogram
-abbrev pub often_detail : Bins → List ℕ
-often_detail b =
-    codes "limit " ++ (decimal b.limit ++ (codes "; " ++ (above_of b.above b.seen ++ (codes ", "
-    ++ (decimal b.below ++ codes " below 0")))))
+-- the text on the first packet above the limit, if there is one
+abbrev pub first_above : Option ℕ → List ℕ
+first_above None = []
+first_above (Some first) = codes ", first after packet " ++ decimal first
+
+-- the text on how many numbers are below 0, if there can be any
+abbrev pub below_text : (signed : Bool) → (below : ℕ) → List ℕ
+below_text true below = codes ", " ++ (decimal below ++ codes " below 0")
+below_text false below = []
+
+-- the text beside a histogram: the greatest number, the limit, and the packets beyond it
+abbrev pub often_detail : Summary → (first : Option ℕ) → (signed : Bool) → Bins → List ℕ
+often_detail s first signed b =
+    codes "most " ++ (signed_decimal s.greatest ++ (codes ", limit " ++ (decimal b.limit ++ (codes "; "
+    ++ (above_of b.above b.seen ++ (first_above first ++ below_text signed b.below))))))
 
 -- the histogram of a type's bucket or buffer
-abbrev pub often_figure : (what : List ℕ) → Kind → UnitAcross → (signed : Bool) → Bins → List ℕ
-often_figure what kind along signed b =
-    bars_figure (often_title what kind) (often_detail b) along b.seen (bins_bars b signed)
+abbrev pub often_figure : (what : List ℕ) → Kind → UnitAcross → (signed : Bool) → Summary → (first : Option ℕ)
+    → Bins → List ℕ
+often_figure what kind along signed s first b =
+    bars_figure (often_title what kind) (often_detail s first signed b) along b.seen (bins_bars b signed)
+
+-- the occupancy of the buffer by the reads of a type: those of N are gapped, those of NL and W linear
+abbrev pub held_in : RunNumbers → Kind → Summary
+held_in numbers N = numbers.gapped.occupancy
+held_in numbers NL = numbers.linear.occupancy
+held_in numbers W = numbers.linear.occupancy
 
 -- the two histograms of a type
-unfoldable pub often_kind : Kind → KindNumbers → List ℕ
-often_kind kind k =
-    often_figure (codes "bucket") kind across.Bucket false k.bucket
-    ++ often_figure (codes "buffer") kind across.Buffer true k.buffer
+unfoldable pub often_kind : RunNumbers → Kind → KindNumbers → List ℕ
+often_kind numbers kind k =
+    often_figure (codes "bucket") kind across.Bucket false numbers.bucket k.first_bucket k.bucket
+    ++ often_figure (codes "buffer") kind across.Buffer true (held_in numbers kind) k.first_over k.buffer
 
 -- the histograms of the types from a place on
-abbrev pub often_from : (place : ℕ) → List KindNumbers → List ℕ
-often_from place [] = []
-often_from place (k ∷ ks) = often_kind (kind_at place) k ++ often_from (place + 1) ks
+abbrev pub often_from : RunNumbers → (place : ℕ) → List KindNumbers → List ℕ
+often_from numbers place [] = []
+often_from numbers place (k ∷ ks) =
+    often_kind numbers (kind_at place) k ++ often_from numbers (place + 1) ks
 
 -- the text beside the histogram of the times between packets
 abbrev pub gap_detail : Summary → List ℕ

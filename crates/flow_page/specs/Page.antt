@@ -20,7 +20,8 @@ use Rattle.flow_page.specs.Numbers.{numbers_table, runs_table, types_table}
 use Rattle.flow_page.specs.Often.{gap_figure, often_from}
 use Rattle.flow_page.specs.Shown.{types_shown}
 use Rattle.flow_page.specs.Timings.{period_of, steps_line, timing_figures}
-use Rattle.flow_page.specs.Words.{clock_text, type_words, utc}
+use Rattle.flow_page.specs.Times.{epoch_text, file_time}
+use Rattle.flow_page.specs.Words.{type_words}
 use Rattle.flow_page.specs.declared.levels.View.TheVariants.{Eye, WholeRun}
 use Rattle.flow_page.specs.declared.shown.FlowPage.{FlowPage}
 use Rattle.flow_page.specs.declared.shown.ShownRun.{ShownRun}
@@ -31,11 +32,12 @@ abbrev pub flow_heading : (number : ℕ) → Target → List ℕ
 flow_heading number target =
     codes "<h2>Flow " ++ (decimal number ++ (codes ", " ++ (target_text target ++ codes "</h2>\n")))
 
--- the line that names a run, with the times of its first and last judged packet
+-- the line that names a run, with the capture timestamps of its first and last judged packet as the file has them
 abbrev pub run_heading : (run place first last : ℕ) → List ℕ
 run_heading run place first last =
-    codes "<p>Run " ++ (decimal run ++ (codes ", from record " ++ (decimal place ++ (codes "; judged packets from "
-    ++ (clock_text first ++ (codes " to " ++ (clock_text last ++ codes " UTC.</p>\n")))))))
+    codes "<p>Run " ++ (decimal run ++ (codes ", from record " ++ (decimal place
+    ++ (codes "; capture timestamps of judged packets " ++ (epoch_text first ++ (codes " to " ++ (epoch_text last
+    ++ codes " s.</p>\n")))))))
 
 -- the list of the results of all types, in words
 abbrev pub words_list : List TypeShown → (group : List ℕ) → (tai : ℕ) → List ℕ
@@ -45,21 +47,23 @@ words_list types group tai =
 -- the pictures of a run, in a grid
 unfoldable pub run_grid : Media → ShownRun → List TypeShown → List ℕ
 run_grid media s types =
-    codes "<div class=\"grid\">\n" ++ (level_figures s types WholeRun ++ (level_figures s types Eye
-    ++ (timing_figures (period_of media) s ++ (often_from 0 s.run.numbers.kinds ++ (gap_figure s.run.numbers.gap
-    ++ (around_figures types s.regions ++ codes "</div>\n"))))))
+    codes "<div class=\"grid\">\n" ++ (level_figures media s types WholeRun ++ (level_figures media s types Eye
+    ++ (timing_figures media (period_of media) s ++ (often_from s.run.numbers 0 s.run.numbers.kinds
+    ++ (gap_figure s.run.numbers.gap ++ (around_figures types s.regions ++ codes "</div>\n"))))))
 
 -- the tables of a run: its measurements, its types, and all judged runs of its flow
-unfoldable pub run_tables : ShownRun → List TypeShown → List MeasuredRun → List ℕ
-run_tables s types runs = numbers_table s.run.numbers ++ (types_table types ++ runs_table runs)
+unfoldable pub run_tables : Media → ShownRun → List TypeShown → List MeasuredRun → List ℕ
+run_tables media s types runs =
+    numbers_table media s.run.numbers ++ (types_table media types ++ runs_table media runs)
 
 -- the part of a run
 unfoldable pub run_part : (tai : ℕ) → Media → MeasuredFlow → ShownRun → List TypeShown → List ℕ
 run_part tai media flow s types =
     flow_heading (flow.media + 1) (target_of media)
-    ++ (run_heading s.run.run s.run.«record» (utc tai s.first_at) (utc tai s.last_at)
-    ++ (words_list types (group_name media.interlaced) tai ++ (steps_line media s.run.numbers.step
-    ++ (run_grid media s types ++ run_tables s types flow.runs))))
+    ++ (run_heading s.run.run s.run.«record» (file_time tai s.first_at) (file_time tai s.last_at)
+    ++ (words_list types (group_name media.interlaced) tai
+    ++ (steps_line media s.run.judged.frames s.run.numbers.step
+    ++ (run_grid media s types ++ run_tables media s types flow.runs))))
 
 -- the part of a flow, if a run is shown
 abbrev pub part_if : (tai : ℕ) → Media → MeasuredFlow → Option ShownRun → List ℕ

@@ -1,6 +1,6 @@
--- The result of each sender type in words. Packets count from 0 and packet records from 1. A time of day is UTC, in
--- hours, minutes, seconds and nanoseconds. Pass and fail have a sign and a word. This project's own format.
-use Rattle.std.specs.Prelude.{ℕ, ℤ, pos, ◌-◌, ◌*◌, ◌/◌, ◌%◌, unsigned_abs, if◌then◌else◌, List, [], ◌++◌, codes}
+-- The result of each sender type in words. Packets count from 0 and packet records from 1. Pass and fail have a sign and
+-- a word. This project's own format.
+use Rattle.std.specs.Prelude.{ℕ, ℤ, pos, unsigned_abs, if◌then◌else◌, List, [], ◌++◌, codes}
 use Rattle.std.specs.Prelude.{Option, Some, None}
 use Rattle.std.specs.Fmt.{decimal, signed_decimal}
 use Rattle.std.specs.Ordering.{int_eq}
@@ -9,26 +9,8 @@ use Rattle.timing_base.specs.declared.row.KindVerdict.{KindVerdict}
 use Rattle.timing_base.specs.declared.row.KindVerdict.TheVariants.{Pass, Fail}
 use Rattle.timing_report.specs.Words.{kind_name}
 use Rattle.flow_measure.specs.declared.numbers.Place.{Place}
+use Rattle.flow_page.specs.Times.{epoch_text, file_time, minus_of, span_text}
 use Rattle.flow_page.specs.declared.shown.TypeShown.{TypeShown}
-
--- the last two digits of a number
-abbrev pub two : ℕ → List ℕ
-two n = decimal (n / 10 % 10) ++ decimal (n % 10)
-
--- the last three digits of a number
-abbrev pub three : ℕ → List ℕ
-three n = decimal (n / 100 % 10) ++ (decimal (n / 10 % 10) ++ decimal (n % 10))
-
--- a time of day; `ns` is nanoseconds since any midnight
-abbrev pub clock_text : ℕ → List ℕ
-clock_text ns =
-    two (ns / 3600000000000 % 24) ++ (codes ":" ++ (two (ns / 60000000000 % 60) ++ (codes ":"
-    ++ (two (ns / 1000000000 % 60) ++ (codes "." ++ (three (ns / 1000000 % 1000) ++ (three (ns / 1000 % 1000)
-    ++ three (ns % 1000))))))))
-
--- a capture timestamp less the seconds that were added, in nanoseconds of UTC
-abbrev pub utc : (tai stamp : ℕ) → ℕ
-utc tai stamp = stamp - tai * 1000000000
 
 -- pass or fail
 abbrev pub sign_text : KindVerdict → List ℕ
@@ -52,7 +34,7 @@ above_text what count (Some first) =
 
 -- the text on the greatest lateness of a packet
 unfoldable pub worst_text : (slack : ℤ) → List ℕ
-worst_text slack = codes ", at worst " ++ (decimal (unsigned_abs slack) ++ codes " ns late")
+worst_text slack = codes ", at worst " ++ (span_text (unsigned_abs slack) ++ codes " late")
 
 -- the text on how many packets are late and which is the first, if there is one
 abbrev pub late_text : (late : ℕ) → (slack : ℤ) → (first : Option ℕ) → List ℕ
@@ -61,12 +43,13 @@ late_text late slack (Some first) =
     codes "; " ++ (counted (pos late) (codes "packet") ++ (codes " too late for the reads, first packet "
     ++ (decimal first ++ worst_text slack)))
 
--- the text on the place in the capture of the last packet of the violation
+-- the text on the place in the capture of the last packet of the violation: its packet record and its capture timestamp
+-- as the file has it
 abbrev pub named_text : (to tai : ℕ) → Option Place → List ℕ
 named_text to tai None = []
 named_text to tai (Some place) =
     codes ". Packet " ++ (decimal to ++ (codes ", with which the verdict's fail ends, is record "
-    ++ (decimal place.«record» ++ (codes " at " ++ (clock_text (utc tai place.stamp) ++ codes " UTC")))))
+    ++ (decimal place.«record» ++ (codes ", capture timestamp " ++ epoch_text (file_time tai place.stamp)))))
 
 -- the text on how many frames or fields break the type
 unfoldable pub broken_text : TypeShown → (group : List ℕ) → List ℕ
@@ -84,10 +67,14 @@ breaks_text t group tai proof =
     broken_text t group ++ (over_text t ++ (late_text t.late t.slack t.first_empty
     ++ named_text proof.to tai t.named))
 
+-- the text on the slack of a type that passes
+unfoldable pub later_text : (slack : ℤ) → List ℕ
+later_text slack =
+    codes "; each packet may come " ++ (minus_of slack ++ (span_text (unsigned_abs slack) ++ codes " later"))
+
 -- the slack of a type that passes, or how it fails
 abbrev pub outcome_words : TypeShown → (group : List ℕ) → (tai : ℕ) → KindVerdict → List ℕ
-outcome_words t group tai Pass =
-    codes "; each packet may come " ++ (signed_decimal t.slack ++ codes " ns later")
+outcome_words t group tai Pass = later_text t.slack
 outcome_words t group tai (Fail proof) = breaks_text t group tai proof
 
 -- the peaks and the limits of a type

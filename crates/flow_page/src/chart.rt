@@ -16,9 +16,9 @@ mod plot;
 mod shade;
 
 pub(crate) use bars::{Bar, BarName};
-pub(crate) use chart::{Scene, add_bars_figure, add_curve_figure};
+pub(crate) use chart::{Scene, add_bars_figure, add_curve_figure, curve_axis};
 pub(crate) use figure::add_told;
-pub(crate) use grid::{Unit, UnitAcross};
+pub(crate) use grid::{Unit, UnitAcross, ns_name, scale_of_ns};
 pub(crate) use lines::{Limit, LineName};
 pub(crate) use plot::{Across, Tenths};
 pub(crate) use shade::Shade;

@@ -29,7 +29,7 @@ fn styles() -> &'static str
 fn legend() -> &'static str
     ensures { result.now ≡ legend }
 {
-    "<p class=\"legend\">In the curves each mark spans the least and the greatest number of its packets or frames <svg class=\"key\" viewBox=\"0 0 28 12\" aria-hidden=\"true\"><path class=\"band\" d=\"M2 3H26V9H2Z\"/></svg>, so no peak is hidden. Limits are lines with their names at the right: those of N and NL are dashed <svg class=\"key\" viewBox=\"0 0 28 12\" aria-hidden=\"true\"><path class=\"lim\" d=\"M0 6H28\"/></svg>, those of W dotted <svg class=\"key\" viewBox=\"0 0 28 12\" aria-hidden=\"true\"><path class=\"lim w\" d=\"M0 6H28\"/></svg>; faint uprights are the ends of frames. In the bars what is beyond a limit stands behind the limit's line, or before 0, and is named so. Packets and frames count from 0, records from 1.</p>\n"
+    "<p class=\"legend\">In the curves each mark spans the least and the greatest number of its packets, frames or fields <svg class=\"key\" viewBox=\"0 0 28 12\" aria-hidden=\"true\"><path class=\"band\" d=\"M2 3H26V9H2Z\"/></svg>, so no peak is hidden. Limits are lines with their names at the right: those of N and NL are dashed <svg class=\"key\" viewBox=\"0 0 28 12\" aria-hidden=\"true\"><path class=\"lim\" d=\"M0 6H28\"/></svg>, those of W dotted <svg class=\"key\" viewBox=\"0 0 28 12\" aria-hidden=\"true\"><path class=\"lim w\" d=\"M0 6H28\"/></svg>; faint uprights are the ends of frames or fields. In the bars what is beyond a limit stands behind the limit's line, or before 0, and is named so. Packets, frames and fields count from 0, records from 1.</p>\n"
 }
 
 /// Adds the start of the page of a capture with this name: the head with all styles, and the heading.

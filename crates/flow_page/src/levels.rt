@@ -3,19 +3,21 @@
 ghost use Rattle.std.specs.Prelude.{◌≡◌, ◌≤◌, ◌^◌, ◌++◌, ◌∷◌, [], IfOk, string_bytes};
 ghost use Rattle.std.specs.List.{flat_map};
 ghost use Rattle.flow_page.specs.Levels.{across_group, across_of, base_lines, bucket_limit, buffer_limit, eye_columns};
-ghost use Rattle.flow_page.specs.Levels.{eye_scene, eye_title, is_near, level_columns, level_detail, level_figure};
-ghost use Rattle.flow_page.specs.Levels.{level_figures, level_lines, level_scene, level_summary, level_title};
+ghost use Rattle.flow_page.specs.Levels.{eye_scene, eye_title, is_near, level_columns, level_detail};
+ghost use Rattle.flow_page.specs.Levels.{level_figure, level_figures, level_lines, level_scene, level_summary};
+ghost use Rattle.flow_page.specs.Levels.{each_words, level_extremes, level_title, place_across, place_noun};
 ghost use Rattle.flow_page.specs.Levels.{level_words, limit_on, limit_words, line_name, run_columns, run_scene};
 ghost use Rattle.flow_page.specs.Levels.{run_title, type_line};
 
 use crate::chart::{Across, Limit, LineName, Scene, Unit, UnitAcross, add_curve_figure};
+use crate::peaks::peak_of;
 use crate::shown::{Curves, ShownRun, TypeShown};
 use crate::words::Counted;
 use flow_measure::{Extremes, RunNumbers, Summary, width_of};
 use std::alloc::{AllocError as OutOfMemory, Global};
 use std::fmt;
-use timing_base::{Judged, Kind};
-use timing_report::kind_name;
+use timing_base::{Judged, Kind, Media};
+use timing_report::{group_name, kind_name};
 
 /// The level that a picture shows.
 #[derive(Clone, Copy)]
@@ -55,24 +57,57 @@ fn run_title(level: Level) -> &'static str
     }
 }
 
-/// Returns the title of the picture of all frames or fields overlaid.
-fn eye_title(level: Level) -> &'static str
-    ensures { result.now ≡ eye_title level }
-{
-    match level {
-        Level::Bucket => "One frame, all over each other: bucket",
-        Level::Gapped => "One frame, all over each other: buffer, gapped reads (N)",
-        Level::Linear => "One frame, all over each other: buffer, linear reads (NL, W)",
+/// The level that a picture of all frames or fields overlaid shows.
+#[derive(Clone, Copy)]
+struct EyeName {
+    level: Level,
+}
+
+impl fmt::Display for EyeName {
+    ghost use Rattle.std.specs.Prelude.{Some};
+    ghost use Rattle.flow_page.specs.Levels.{eye_name};
+
+    ghost output = { λ name. Some (eye_name name.level) };
+
+    fn fmt<W: fmt::Write>(&self, f: &mut fmt::Formatter<W>) -> fmt::Result {
+        match self.level {
+            Level::Bucket => f.write_str("bucket"),
+            Level::Gapped => f.write_str("buffer, gapped reads (N)"),
+            Level::Linear => f.write_str("buffer, linear reads (NL, W)"),
+        }
     }
 }
 
+/// Returns the title of the picture of all frames or fields overlaid. `group` is "frame" or "field".
+fn eye_title(alloc: Global, group: &'static str, level: Level) -> Result<String, OutOfMemory>
+    ensures { IfOk result (λ s. string_bytes s ≡ eye_title group.now level) }
+{
+    let name = EyeName { level };
+    format!(in alloc; "One {group}, all over each other: {name}")
+}
+
 /// Returns the title of a picture.
-fn level_title(view: View, level: Level) -> &'static str
-    ensures { result.now ≡ level_title view level }
+fn level_title(
+    alloc: Global,
+    media: &Media,
+    view: View,
+    level: Level,
+) -> Result<String, OutOfMemory>
+    ensures { IfOk result (λ s. string_bytes s ≡ level_title media.now view level) }
 {
     match view {
-        View::WholeRun => run_title(level),
-        View::Eye => eye_title(level),
+        View::WholeRun => String::from_str(alloc, run_title(level)),
+        View::Eye => eye_title(alloc, group_name(media.interlaced), level),
+    }
+}
+
+/// Returns what a place of a picture is called.
+fn place_noun(view: View) -> &'static str
+    ensures { result.now ≡ place_noun view }
+{
+    match view {
+        View::WholeRun => "packet",
+        View::Eye => "place",
     }
 }
 
@@ -284,28 +319,60 @@ fn add_all_limits(text: &mut String, level: Level, types: &[TypeShown]) -> Resul
     Ok(())
 }
 
-/// Returns the least and the greatest level in words, with the packets or places per column.
-fn level_words(alloc: Global, summary: Summary, each: u64) -> Result<String, OutOfMemory>
-    ensures { IfOk result (λ s. string_bytes s ≡ level_words summary each) }
+/// Returns the least and the greatest level in words, with the place of the greatest. `noun` is what one place is called.
+fn level_extremes(
+    alloc: Global,
+    noun: &'static str,
+    summary: Summary,
+    across: Across,
+    columns: &[Extremes],
+) -> Result<String, OutOfMemory>
+    ensures { IfOk result (λ s. string_bytes s ≡ level_extremes noun.now summary across columns.now) }
 {
     let most = Counted {
         count: summary.greatest,
         noun: "packet",
     };
-    format!(in alloc; "least {}, most {most}; {each} to a mark", summary.least)
+    let peak = peak_of(noun, across, summary.greatest, columns);
+    format!(in alloc; "least {}, most {most}{peak}", summary.least)
+}
+
+/// Adds the packets or places per column.
+fn add_each_words(text: &mut String, each: u64) -> Result<(), OutOfMemory>
+    ensures { IfOk result (λ _. string_bytes text.new ≡ string_bytes text.old ++ each_words each) }
+{
+    write!(text, "; {each} to a mark")
+}
+
+/// Returns the least and the greatest level in words, with the place of the greatest, and the packets or places per
+/// column.
+fn level_words(
+    alloc: Global,
+    noun: &'static str,
+    summary: Summary,
+    across: Across,
+    columns: &[Extremes],
+) -> Result<String, OutOfMemory>
+    ensures { IfOk result (λ s. string_bytes s ≡ level_words noun.now summary across columns.now) }
+{
+    let mut text = level_extremes(alloc, noun, summary, across, columns)?;
+    add_each_words(&mut text, across.each)?;
+    Ok(text)
 }
 
 /// Returns the text beside a picture.
 fn level_detail(
     alloc: Global,
+    view: View,
     level: Level,
     summary: Summary,
-    each: u64,
+    across: Across,
+    columns: &[Extremes],
     types: &[TypeShown],
 ) -> Result<String, OutOfMemory>
-    ensures { IfOk result (λ s. string_bytes s ≡ level_detail level summary each types.now) }
+    ensures { IfOk result (λ s. string_bytes s ≡ level_detail view level summary across columns.now types.now) }
 {
-    let mut text = level_words(alloc, summary, each)?;
+    let mut text = level_words(alloc, place_noun(view), summary, across, columns)?;
     add_all_limits(&mut text, level, types)?;
     Ok(text)
 }
@@ -350,15 +417,26 @@ fn run_scene(judged: &Judged) -> Scene
     }
 }
 
+/// Returns the unit of the places of a frame or field.
+fn place_across(interlaced: bool) -> UnitAcross
+    ensures { result ≡ place_across interlaced }
+{
+    if interlaced {
+        UnitAcross::FieldPlace
+    } else {
+        UnitAcross::Place
+    }
+}
+
 /// Returns the scene of all frames or fields overlaid.
-fn eye_scene(judged: &Judged) -> Scene
-    ensures value { result ≡ eye_scene judged.now }
+fn eye_scene(media: &Media, judged: &Judged) -> Scene
+    ensures value { result ≡ eye_scene media.now judged.now }
     ensures few { result.across.count ≤ 2 ^ 60 }
 {
     Scene {
         wide: false,
         unit: Unit::Packets,
-        along: UnitAcross::Place,
+        along: place_across(media.interlaced),
         across: across_group(judged.n),
         every: 0,
         shade: None,
@@ -366,13 +444,13 @@ fn eye_scene(judged: &Judged) -> Scene
 }
 
 /// Returns the scene of a picture.
-fn level_scene(judged: &Judged, view: View) -> Scene
-    ensures value { result ≡ level_scene judged.now view }
+fn level_scene(media: &Media, judged: &Judged, view: View) -> Scene
+    ensures value { result ≡ level_scene media.now judged.now view }
     ensures few { result.across.count ≤ 2 ^ 60 }
 {
     match view {
         View::WholeRun => run_scene(judged),
-        View::Eye => eye_scene(judged),
+        View::Eye => eye_scene(media, judged),
     }
 }
 
@@ -380,23 +458,25 @@ fn level_scene(judged: &Judged, view: View) -> Scene
 fn add_level_figure(
     text: &mut String,
     alloc: Global,
+    media: &Media,
     shown: &ShownRun,
     types: &[TypeShown],
     view: View,
     level: Level,
 ) -> Result<(), OutOfMemory>
     ensures { IfOk result (λ _. string_bytes text.new
-        ≡ string_bytes text.old ++ level_figure shown.now types.now view level) }
+        ≡ string_bytes text.old ++ level_figure media.now shown.now types.now view level) }
 {
-    let scene = level_scene(&shown.run.judged, view);
+    let scene = level_scene(media, &shown.run.judged, view);
     let summary = level_summary(&shown.run.numbers, level);
-    let detail = level_detail(alloc, level, summary, scene.across.each, types)?;
-    let lines = level_lines(alloc, level, types)?;
     let columns = level_columns(&shown.curves, view, level);
+    let title = level_title(alloc, media, view, level)?;
+    let detail = level_detail(alloc, view, level, summary, scene.across, columns, types)?;
+    let lines = level_lines(alloc, level, types)?;
     add_curve_figure(
         text,
         alloc,
-        level_title(view, level),
+        title.as_str(),
         detail.as_str(),
         scene,
         lines.as_slice(),
@@ -408,14 +488,15 @@ fn add_level_figure(
 pub(crate) fn add_level_figures(
     text: &mut String,
     alloc: Global,
+    media: &Media,
     shown: &ShownRun,
     types: &[TypeShown],
     view: View,
 ) -> Result<(), OutOfMemory>
     ensures { IfOk result (λ _. string_bytes text.new
-        ≡ string_bytes text.old ++ level_figures shown.now types.now view) }
+        ≡ string_bytes text.old ++ level_figures media.now shown.now types.now view) }
 {
-    add_level_figure(text, alloc, shown, types, view, Level::Bucket)?;
-    add_level_figure(text, alloc, shown, types, view, Level::Gapped)?;
-    add_level_figure(text, alloc, shown, types, view, Level::Linear)
+    add_level_figure(text, alloc, media, shown, types, view, Level::Bucket)?;
+    add_level_figure(text, alloc, media, shown, types, view, Level::Gapped)?;
+    add_level_figure(text, alloc, media, shown, types, view, Level::Linear)
 }

@@ -11,6 +11,7 @@
 mod around;
 pub mod chart;
 pub mod drawing;
+mod drift;
 mod head;
 pub mod laws;
 mod levels;
@@ -18,7 +19,9 @@ mod media;
 mod numbers;
 mod often;
 mod page;
+mod peaks;
 mod shown;
+mod times;
 mod timings;
 mod words;
 

@@ -9,7 +9,7 @@ ghost use Rattle.flow_page.specs.Media.{run_cells, shown_cells, table_close, typ
 
 use crate::chart::add_told;
 use crate::shown::{FlowPage, ShownRun, TypeShown, types_shown};
-use crate::words::Sign;
+use crate::words::{Counted, Sign};
 use std::alloc::{AllocError as OutOfMemory, Global};
 use std::fmt;
 use timing_base::{FlowKey, Judged, Media, Session, Target, Verdict};
@@ -20,7 +20,7 @@ use timing_report::{class_name, declared_name, first_passing, group_name, media_
 fn media_open() -> &'static str
     ensures { result.now ≡ media_open }
 {
-    "<div class=\"scroll\"><table><thead><tr><th>Flow</th><th>Verdict</th><th>Packets</th><th>Frames</th><th>Class</th><th>Declared</th><th>N</th><th>bucket</th><th>buffer</th><th>NL</th><th>bucket</th><th>buffer</th><th>W</th><th>bucket</th><th>buffer</th></tr></thead><tbody>\n"
+    "<div class=\"scroll\"><table><thead><tr><th>Flow</th><th>Verdict</th><th>Packets</th><th>Judged</th><th>Class</th><th>Declared</th><th>N</th><th>bucket</th><th>buffer</th><th>NL</th><th>bucket</th><th>buffer</th><th>W</th><th>bucket</th><th>buffer</th></tr></thead><tbody>\n"
 }
 
 /// Adds the end of a table.
@@ -71,12 +71,16 @@ fn add_run_cells(text: &mut String, media: &Media, judged: &Judged) -> Result<()
     ensures { IfOk result (λ _. string_bytes text.new ≡ string_bytes text.old ++ run_cells media.now judged.now) }
 {
     let group = group_name(media.interlaced);
+    let frames = Counted {
+        count: i128::from(judged.frames),
+        noun: group,
+    };
     let class = class_name(first_passing(judged));
     let declared = declared_name(media.declared);
     write!(
         text,
-        "</td><td>{} per {group}</td><td>{}</td><td>{class}</td><td>{declared}</td>",
-        judged.n, judged.frames
+        "</td><td>{} per {group}</td><td>{frames}</td><td>{class}</td><td>{declared}</td>",
+        judged.n
     )
 }
 

@@ -2,6 +2,7 @@
 
 ghost use Rattle.std.specs.Prelude.{◌≡◌, ◌++◌, IfOk, string_bytes};
 ghost use Rattle.std.specs.List.{flat_map};
+ghost use Rattle.timing_report.specs.Words.{group_name};
 ghost use Rattle.flow_page.specs.Numbers.{level_rows, number_rows, numbers_open, numbers_table, run_open, run_packets};
 ghost use Rattle.flow_page.specs.Numbers.{run_peaks, run_row, runs_open, runs_table, time_rows, type_row, types_open};
 ghost use Rattle.flow_page.specs.Numbers.{types_table};
@@ -12,8 +13,8 @@ use crate::words::Sign;
 use flow_measure::{Gaps, MeasuredRun, RunNumbers, Summary};
 use std::alloc::AllocError as OutOfMemory;
 use std::fmt;
-use timing_base::Judged;
-use timing_report::{class_name, first_passing, kind_name};
+use timing_base::{Judged, Media};
+use timing_report::{class_name, first_passing, group_name, kind_name};
 
 /// A cell with a number, or an empty cell.
 #[derive(Clone, Copy)]
@@ -121,6 +122,56 @@ impl fmt::Display for SummaryRow {
     }
 }
 
+/// A row of a whole summary that is counted from the instant at which each frame or field begins.
+#[derive(Clone, Copy)]
+struct AfterRow {
+    what: &'static str,
+    /// "frame" or "field".
+    group: &'static str,
+    unit: &'static str,
+    summary: Summary,
+}
+
+impl fmt::Display for AfterRow {
+    ghost use Rattle.std.specs.Prelude.{Some};
+    ghost use Rattle.flow_page.specs.Numbers.{after_row};
+
+    ghost output = { λ row. Some (after_row row.what.now row.group.now row.unit.now row.summary) };
+
+    #[tactic(auto, unfolding(crate::specs::Numbers::after_row))]
+    fn fmt<W: fmt::Write>(&self, f: &mut fmt::Formatter<W>) -> fmt::Result {
+        let summary = self.summary;
+        let extremes = ExtremeCells { summary };
+        let ends = EndCells { summary };
+        writeln!(
+            f,
+            "<tr><th>{} after the {} begins, {}</th>{extremes}{ends}<td>{}</td></tr>",
+            self.what, self.group, self.unit, summary.sum
+        )
+    }
+}
+
+/// The row of TR_OFFSET.
+#[derive(Clone, Copy)]
+struct TargetRow {
+    target: u64,
+}
+
+impl fmt::Display for TargetRow {
+    ghost use Rattle.std.specs.Prelude.{Some};
+    ghost use Rattle.flow_page.specs.Numbers.{target_row};
+
+    ghost output = { λ row. Some (target_row row.target) };
+
+    fn fmt<W: fmt::Write>(&self, f: &mut fmt::Formatter<W>) -> fmt::Result {
+        writeln!(
+            f,
+            "<tr><th>target of the first packet (TR_OFFSET), ns</th><td colspan=\"5\">{}</td></tr>",
+            self.target
+        )
+    }
+}
+
 /// The row of the steps of the RTP timestamp; empty if there is only one frame or field.
 #[derive(Clone, Copy)]
 struct StepRow {
@@ -198,55 +249,103 @@ fn add_level_rows(text: &mut String, numbers: &RunNumbers) -> Result<(), OutOfMe
     write!(text, "{bucket}{gapped}{linear}")
 }
 
-/// Adds the rows of the times of packets and of the RTP timestamps.
-fn add_time_rows(text: &mut String, numbers: &RunNumbers) -> Result<(), OutOfMemory>
-    ensures { IfOk result (λ _. string_bytes text.new ≡ string_bytes text.old ++ time_rows numbers.now) }
+/// Adds the rows of the times of packets and of the RTP timestamps. `group` is "frame" or "field".
+fn add_time_rows(
+    text: &mut String,
+    group: &'static str,
+    numbers: &RunNumbers,
+) -> Result<(), OutOfMemory>
+    ensures { IfOk result (λ _. string_bytes text.new ≡ string_bytes text.old ++ time_rows group.now numbers.now) }
 {
-    let first = SummaryRow {
-        name: "first packet after the frame begins, ns",
+    let first = AfterRow {
+        what: "first packet",
+        group,
+        unit: "ns",
         summary: numbers.first,
     };
-    let last = SummaryRow {
-        name: "last packet after the frame begins, ns",
+    let target = TargetRow {
+        target: numbers.target,
+    };
+    let last = AfterRow {
+        what: "last packet",
+        group,
+        unit: "ns",
         summary: numbers.last,
     };
     let gap = GapRow { gap: numbers.gap };
     let step = StepRow { step: numbers.step };
-    let offset = SummaryRow {
-        name: "RTP timestamp after the frame begins, ticks",
+    let offset = AfterRow {
+        what: "RTP timestamp",
+        group,
+        unit: "ticks",
         summary: numbers.offset,
     };
     let latency = SummaryRow {
         name: "from RTP timestamp to first packet, ticks",
         summary: numbers.latency,
     };
-    write!(text, "{first}{last}{gap}{step}{offset}{latency}")
+    write!(text, "{first}{target}{last}{gap}{step}{offset}{latency}")
 }
 
 /// Adds the rows of summaries.
 #[tactic(auto, unfolding(crate::specs::Numbers::number_rows))]
-fn add_number_rows(text: &mut String, numbers: &RunNumbers) -> Result<(), OutOfMemory>
-    ensures { IfOk result (λ _. string_bytes text.new ≡ string_bytes text.old ++ number_rows numbers.now) }
+fn add_number_rows(
+    text: &mut String,
+    group: &'static str,
+    numbers: &RunNumbers,
+) -> Result<(), OutOfMemory>
+    ensures { IfOk result (λ _. string_bytes text.new
+        ≡ string_bytes text.old ++ number_rows group.now numbers.now) }
 {
     add_level_rows(text, numbers)?;
-    add_time_rows(text, numbers)
+    add_time_rows(text, group, numbers)
 }
 
-/// Adds the table of summaries.
-pub(crate) fn add_numbers_table(text: &mut String, numbers: &RunNumbers) -> Result<(), OutOfMemory>
-    ensures { IfOk result (λ _. string_bytes text.new ≡ string_bytes text.old ++ numbers_table numbers.now) }
+/// Adds the rows of summaries of a run of this media.
+fn add_number_rows_of(
+    text: &mut String,
+    media: &Media,
+    numbers: &RunNumbers,
+) -> Result<(), OutOfMemory>
+    ensures { IfOk result (λ _. string_bytes text.new
+        ≡ string_bytes text.old ++ number_rows (group_name media.now.interlaced) numbers.now) }
+{
+    let group = group_name(media.interlaced);
+    add_number_rows(text, group, numbers)
+}
+
+/// Adds the table of summaries of a run of this media.
+pub(crate) fn add_numbers_table(
+    text: &mut String,
+    media: &Media,
+    numbers: &RunNumbers,
+) -> Result<(), OutOfMemory>
+    ensures { IfOk result (λ _. string_bytes text.new
+        ≡ string_bytes text.old ++ numbers_table media.now numbers.now) }
 {
     text.push_str(numbers_open())?;
-    add_number_rows(text, numbers)?;
+    add_number_rows_of(text, media, numbers)?;
     add_table_close(text)
 }
 
-/// Returns the start of the table of types.
+/// Adds the start of the table of types. `group` is "frame" or "field".
 #[tactic(auto, unfolding(crate::specs::Numbers::types_open))]
-fn types_open() -> &'static str
-    ensures { result.now ≡ types_open }
+fn write_types_open(text: &mut String, group: &'static str) -> Result<(), OutOfMemory>
+    ensures { IfOk result (λ _. string_bytes text.new ≡ string_bytes text.old ++ types_open group.now) }
 {
-    "<div class=\"scroll\"><table><thead><tr><th>of the type</th><th>outcome</th><th>frames that break it</th><th>bucket at most</th><th>peak</th><th>packets above</th><th>first</th><th>buffer at most</th><th>peak</th><th>packets above</th><th>first</th><th>below 0</th><th>packets late</th><th>first</th><th>slack, ns</th></tr></thead><tbody>\n"
+    writeln!(
+        text,
+        "<div class=\"scroll\"><table><thead><tr><th>of the type</th><th>outcome</th><th>{group}s that break it</th><th>bucket at most</th><th>peak</th><th>packets above</th><th>first</th><th>buffer at most</th><th>peak</th><th>packets above</th><th>first</th><th>below 0</th><th>packets late</th><th>first</th><th>slack, ns</th></tr></thead><tbody>"
+    )
+}
+
+/// Adds the start of the table of types of a run of this media.
+fn add_types_open(text: &mut String, media: &Media) -> Result<(), OutOfMemory>
+    ensures { IfOk result (λ _. string_bytes text.new
+        ≡ string_bytes text.old ++ types_open (group_name media.now.interlaced)) }
+{
+    let group = group_name(media.interlaced);
+    write_types_open(text, group)
 }
 
 /// The cells of a type for the bucket.
@@ -349,21 +448,38 @@ fn add_type_rows(text: &mut String, types: &[TypeShown]) -> Result<(), OutOfMemo
     Ok(())
 }
 
-/// Adds the table of types.
-pub(crate) fn add_types_table(text: &mut String, types: &[TypeShown]) -> Result<(), OutOfMemory>
-    ensures { IfOk result (λ _. string_bytes text.new ≡ string_bytes text.old ++ types_table types.now) }
+/// Adds the table of types of a run of this media.
+pub(crate) fn add_types_table(
+    text: &mut String,
+    media: &Media,
+    types: &[TypeShown],
+) -> Result<(), OutOfMemory>
+    ensures { IfOk result (λ _. string_bytes text.new
+        ≡ string_bytes text.old ++ types_table media.now types.now) }
 {
-    text.push_str(types_open())?;
+    add_types_open(text, media)?;
     add_type_rows(text, types)?;
     add_table_close(text)
 }
 
-/// Returns the start of the table of runs.
+/// Adds the start of the table of runs. `group` is "frame" or "field".
 #[tactic(auto, unfolding(crate::specs::Numbers::runs_open))]
-fn runs_open() -> &'static str
-    ensures { result.now ≡ runs_open }
+fn write_runs_open(text: &mut String, group: &'static str) -> Result<(), OutOfMemory>
+    ensures { IfOk result (λ _. string_bytes text.new ≡ string_bytes text.old ++ runs_open group.now) }
 {
-    "<div class=\"scroll\"><table><thead><tr><th>judged run</th><th>record</th><th>number</th><th>packets</th><th>in a frame</th><th>frames</th><th>head</th><th>tail</th><th>class</th><th>bucket</th><th>buffer, gapped</th><th>buffer, linear</th></tr></thead><tbody>\n"
+    writeln!(
+        text,
+        "<div class=\"scroll\"><table><thead><tr><th>judged run</th><th>record</th><th>number</th><th>packets</th><th>in a {group}</th><th>{group}s</th><th>head</th><th>tail</th><th>class</th><th>bucket</th><th>buffer, gapped</th><th>buffer, linear</th></tr></thead><tbody>"
+    )
+}
+
+/// Adds the start of the table of runs of this media.
+fn add_runs_open(text: &mut String, media: &Media) -> Result<(), OutOfMemory>
+    ensures { IfOk result (λ _. string_bytes text.new
+        ≡ string_bytes text.old ++ runs_open (group_name media.now.interlaced)) }
+{
+    let group = group_name(media.interlaced);
+    write_runs_open(text, group)
 }
 
 /// Adds the start of a run's row: its number, its first packet record, and the 32-bit sequence number of that packet.
@@ -415,11 +531,16 @@ fn add_run_rows(text: &mut String, runs: &[MeasuredRun]) -> Result<(), OutOfMemo
     Ok(())
 }
 
-/// Adds the table of runs.
-pub(crate) fn add_runs_table(text: &mut String, runs: &[MeasuredRun]) -> Result<(), OutOfMemory>
-    ensures { IfOk result (λ _. string_bytes text.new ≡ string_bytes text.old ++ runs_table runs.now) }
+/// Adds the table of runs of this media.
+pub(crate) fn add_runs_table(
+    text: &mut String,
+    media: &Media,
+    runs: &[MeasuredRun],
+) -> Result<(), OutOfMemory>
+    ensures { IfOk result (λ _. string_bytes text.new
+        ≡ string_bytes text.old ++ runs_table media.now runs.now) }
 {
-    text.push_str(runs_open())?;
+    add_runs_open(text, media)?;
     add_run_rows(text, runs)?;
     add_table_close(text)
 }

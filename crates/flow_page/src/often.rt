@@ -3,7 +3,7 @@
 ghost use Rattle.std.specs.Prelude.{◌≡◌, ◌++◌, IfOk, string_bytes};
 ghost use Rattle.flow_page.specs.Shown.{kind_at};
 ghost use Rattle.flow_page.specs.Often.{below_bars, bins_bars, class_bars, gap_detail, gap_figure, gaps_figure};
-ghost use Rattle.flow_page.specs.Often.{next_class, often_detail, often_figure, often_from, often_kind, often_title};
+ghost use Rattle.flow_page.specs.Often.{held_in, next_class, often_detail, often_figure, often_from, often_kind, often_title};
 ghost use Rattle.flow_page.specs.Often.{width_bars};
 
 use crate::chart::{Bar, BarName, UnitAcross, add_bars_figure};
@@ -117,18 +117,75 @@ impl fmt::Display for AboveOf {
     }
 }
 
-/// Returns the text beside a histogram.
-fn often_detail(alloc: Global, bins: &Bins) -> Result<String, OutOfMemory>
-    ensures { IfOk result (λ s. string_bytes s ≡ often_detail bins.now) }
+/// The text on the first packet above a limit; empty if there is none.
+#[derive(Clone, Copy)]
+struct FirstAbove {
+    first: Option<u64>,
+}
+
+impl fmt::Display for FirstAbove {
+    ghost use Rattle.std.specs.Prelude.{Some};
+    ghost use Rattle.flow_page.specs.Often.{first_above};
+
+    ghost output = { λ above. Some (first_above above.first) };
+
+    fn fmt<W: fmt::Write>(&self, f: &mut fmt::Formatter<W>) -> fmt::Result {
+        match self.first {
+            None => Ok(()),
+            Some(first) => write!(f, ", first after packet {first}"),
+        }
+    }
+}
+
+/// The text on how many numbers are below 0; empty if there can't be any.
+#[derive(Clone, Copy)]
+struct BelowText {
+    signed: bool,
+    below: u64,
+}
+
+impl fmt::Display for BelowText {
+    ghost use Rattle.std.specs.Prelude.{Some};
+    ghost use Rattle.flow_page.specs.Often.{below_text};
+
+    ghost output = { λ b. Some (below_text b.signed b.below) };
+
+    fn fmt<W: fmt::Write>(&self, f: &mut fmt::Formatter<W>) -> fmt::Result {
+        if self.signed {
+            write!(f, ", {} below 0", self.below)
+        } else {
+            Ok(())
+        }
+    }
+}
+
+/// Returns the text beside a histogram: the greatest number, the limit, and the packets beyond it.
+fn often_detail(
+    alloc: Global,
+    summary: Summary,
+    first: Option<u64>,
+    signed: bool,
+    bins: &Bins,
+) -> Result<String, OutOfMemory>
+    ensures { IfOk result (λ s. string_bytes s ≡ often_detail summary first signed bins.now) }
 {
     let above = AboveOf {
         above: bins.above,
         seen: bins.seen,
     };
-    format!(in alloc; "limit {}; {above}, {} below 0", bins.limit, bins.below)
+    let first = FirstAbove { first };
+    let below = BelowText {
+        signed,
+        below: bins.below,
+    };
+    format!(in alloc;
+        "most {}, limit {}; {above}{first}{below}",
+        summary.greatest, bins.limit
+    )
 }
 
-/// Adds the histogram of a type's bucket or buffer. `signed` is whether numbers below 0 are possible.
+/// Adds the histogram of a type's bucket or buffer. `signed` is whether numbers below 0 are possible, `summary`
+/// that of the numbers, and `first` the first packet above the limit.
 fn add_often_figure(
     text: &mut String,
     alloc: Global,
@@ -136,13 +193,15 @@ fn add_often_figure(
     kind: Kind,
     along: UnitAcross,
     signed: bool,
+    summary: Summary,
+    first: Option<u64>,
     bins: &Bins,
 ) -> Result<(), OutOfMemory>
     ensures { IfOk result (λ _. string_bytes text.new
-        ≡ string_bytes text.old ++ often_figure what.now kind along signed bins.now) }
+        ≡ string_bytes text.old ++ often_figure what.now kind along signed summary first bins.now) }
 {
     let title = often_title(alloc, what, kind)?;
-    let detail = often_detail(alloc, bins)?;
+    let detail = often_detail(alloc, summary, first, signed, bins)?;
     let bars = bins_bars(alloc, bins, signed)?;
     add_bars_figure(
         text,
@@ -155,16 +214,30 @@ fn add_often_figure(
     )
 }
 
+/// Returns the occupancy of the buffer by the reads of a type.
+fn held_in(numbers: &RunNumbers, kind: Kind) -> Summary
+    ensures { result ≡ held_in numbers.now kind }
+{
+    match kind {
+        Kind::N => numbers.gapped.occupancy,
+        Kind::NL => numbers.linear.occupancy,
+        Kind::W => numbers.linear.occupancy,
+    }
+}
+
 /// Adds the two histograms of a type.
 #[tactic(auto, unfolding(crate::specs::Often::often_kind))]
 fn add_often_kind(
     text: &mut String,
     alloc: Global,
+    numbers: &RunNumbers,
     kind: Kind,
     k: &KindNumbers,
 ) -> Result<(), OutOfMemory>
-    ensures { IfOk result (λ _. string_bytes text.new ≡ string_bytes text.old ++ often_kind kind k.now) }
+    ensures { IfOk result (λ _. string_bytes text.new
+        ≡ string_bytes text.old ++ often_kind numbers.now kind k.now) }
 {
+    let held = held_in(numbers, kind);
     add_often_figure(
         text,
         alloc,
@@ -172,6 +245,8 @@ fn add_often_kind(
         kind,
         UnitAcross::Bucket,
         false,
+        numbers.bucket,
+        k.first_bucket,
         &k.bucket,
     )?;
     add_often_figure(
@@ -181,6 +256,8 @@ fn add_often_kind(
         kind,
         UnitAcross::Buffer,
         true,
+        held,
+        k.first_over,
         &k.buffer,
     )
 }
@@ -189,20 +266,28 @@ fn add_often_kind(
 fn add_often_at(
     text: &mut String,
     alloc: Global,
+    numbers: &RunNumbers,
     place: usize,
     k: &KindNumbers,
 ) -> Result<(), OutOfMemory>
-    ensures { IfOk result (λ _. string_bytes text.new ≡ string_bytes text.old ++ often_kind (kind_at place) k.now) }
+    ensures { IfOk result (λ _. string_bytes text.new
+        ≡ string_bytes text.old ++ often_kind numbers.now (kind_at place) k.now) }
 {
-    add_often_kind(text, alloc, kind_at(place), k)
+    add_often_kind(text, alloc, numbers, kind_at(place), k)
 }
 
 /// Adds the histograms of types.
-fn add_often(text: &mut String, alloc: Global, kinds: &[KindNumbers]) -> Result<(), OutOfMemory>
-    ensures { IfOk result (λ _. string_bytes text.new ≡ string_bytes text.old ++ often_from 0 kinds.now) }
+fn add_often(
+    text: &mut String,
+    alloc: Global,
+    numbers: &RunNumbers,
+    kinds: &[KindNumbers],
+) -> Result<(), OutOfMemory>
+    ensures { IfOk result (λ _. string_bytes text.new
+        ≡ string_bytes text.old ++ often_from numbers.now 0 kinds.now) }
 {
     for (place, k) in kinds.iter().enumerate() {
-        add_often_at(text, alloc, place, k)?;
+        add_often_at(text, alloc, numbers, place, k)?;
     }
     Ok(())
 }
@@ -213,9 +298,10 @@ pub(crate) fn add_often_of(
     alloc: Global,
     numbers: &RunNumbers,
 ) -> Result<(), OutOfMemory>
-    ensures { IfOk result (λ _. string_bytes text.new ≡ string_bytes text.old ++ often_from 0 numbers.now.kinds) }
+    ensures { IfOk result (λ _. string_bytes text.new
+        ≡ string_bytes text.old ++ often_from numbers.now 0 numbers.now.kinds) }
 {
-    add_often(text, alloc, numbers.kinds.as_slice())
+    add_often(text, alloc, numbers, numbers.kinds.as_slice())
 }
 
 /// Returns the text beside the histogram of the times between packets.

@@ -7,7 +7,8 @@ ghost use Rattle.timing_report.specs.Words.{group_name};
 ghost use Rattle.flow_page.specs.Media.{AreOfMedia};
 ghost use Rattle.flow_page.specs.Page.{contents_part, contents_told, flow_heading, flow_part, flow_parts, page_of};
 ghost use Rattle.flow_page.specs.Page.{part_if, run_grid, run_heading, run_tables, words_list};
-ghost use Rattle.flow_page.specs.Words.{utc};
+ghost use Rattle.flow_page.specs.Timings.{steps_line};
+ghost use Rattle.flow_page.specs.Times.{file_time};
 
 use crate::around::add_around_figures;
 use crate::chart::add_told;
@@ -17,8 +18,9 @@ use crate::media::{add_media_table, flow_media};
 use crate::numbers::{add_numbers_table, add_runs_table, add_types_table};
 use crate::often::{add_gap_figure, add_often_of};
 use crate::shown::{FlowPage, ShownRun, TypeShown, types_shown};
+use crate::times::{Epoch, file_time};
 use crate::timings::{add_steps_line, add_timing_figures, period_of};
-use crate::words::{Clock, add_words, utc};
+use crate::words::add_words;
 use flow_measure::{MeasuredFlow, MeasuredRun};
 use std::alloc::{AllocError as OutOfMemory, Global};
 use timing_base::{FileNote, Media, Session, Target};
@@ -38,7 +40,8 @@ fn add_flow_heading(text: &mut String, number: u64, target: Target) -> Result<()
     writeln!(text, "<h2>Flow {number}, {target}</h2>")
 }
 
-/// Adds the line that names a run, with the times of its first and last judged packet, in nanoseconds of UTC.
+/// Adds the line that names a run, with the capture timestamps of its first and last judged packet as the file has
+/// them, in nanoseconds.
 fn add_run_heading(
     text: &mut String,
     run: u64,
@@ -48,10 +51,10 @@ fn add_run_heading(
 ) -> Result<(), OutOfMemory>
     ensures { IfOk result (λ _. string_bytes text.new ≡ string_bytes text.old ++ run_heading run from first last) }
 {
-    let (first, last) = (Clock { ns: first }, Clock { ns: last });
+    let (first, last) = (Epoch { ns: first }, Epoch { ns: last });
     writeln!(
         text,
-        "<p>Run {run}, from record {from}; judged packets from {first} to {last} UTC.</p>"
+        "<p>Run {run}, from record {from}; capture timestamps of judged packets {first} to {last} s.</p>"
     )
 }
 
@@ -83,9 +86,9 @@ fn add_run_grid(
 {
     let period = period_of(media, &shown.run.judged);
     add_markup(text, "<div class=\"grid\">\n")?;
-    add_level_figures(text, alloc, shown, types, View::WholeRun)?;
-    add_level_figures(text, alloc, shown, types, View::Eye)?;
-    add_timing_figures(text, alloc, period, shown)?;
+    add_level_figures(text, alloc, media, shown, types, View::WholeRun)?;
+    add_level_figures(text, alloc, media, shown, types, View::Eye)?;
+    add_timing_figures(text, alloc, media, period, shown)?;
     add_often_of(text, alloc, &shown.run.numbers)?;
     add_gap_figure(text, alloc, &shown.run.numbers.gap)?;
     add_around_figures(text, alloc, types, shown.regions.as_slice())?;
@@ -95,16 +98,17 @@ fn add_run_grid(
 /// Adds the tables of a run: its measurements, its types, and all judged runs of its flow.
 fn add_run_tables(
     text: &mut String,
+    media: &Media,
     shown: &ShownRun,
     types: &[TypeShown],
     runs: &[MeasuredRun],
 ) -> Result<(), OutOfMemory>
     ensures { IfOk result (λ _. string_bytes text.new
-        ≡ string_bytes text.old ++ run_tables shown.now types.now runs.now) }
+        ≡ string_bytes text.old ++ run_tables media.now shown.now types.now runs.now) }
 {
-    add_numbers_table(text, &shown.run.numbers)?;
-    add_types_table(text, types)?;
-    add_runs_table(text, runs)
+    add_numbers_table(text, media, &shown.run.numbers)?;
+    add_types_table(text, media, types)?;
+    add_runs_table(text, media, runs)
 }
 
 /// Adds the heading of a flow of this media.
@@ -120,10 +124,10 @@ fn add_flow_title(text: &mut String, media: &Media, flow: &MeasuredFlow) -> Resu
 fn add_run_title(text: &mut String, tai: u32, shown: &ShownRun) -> Result<(), OutOfMemory>
     ensures { IfOk result (λ _. string_bytes text.new ≡ string_bytes text.old
         ++ run_heading shown.now.run.run shown.now.run.«record»
-        (utc tai shown.now.first_at) (utc tai shown.now.last_at)) }
+        (file_time tai shown.now.first_at) (file_time tai shown.now.last_at)) }
 {
-    let first = utc(tai, shown.first_at);
-    let last = utc(tai, shown.last_at);
+    let first = file_time(tai, shown.first_at);
+    let last = file_time(tai, shown.last_at);
     add_run_heading(text, shown.run.run, shown.run.record, first, last)
 }
 
@@ -139,6 +143,14 @@ fn add_types_told(
 {
     let group = group_name(media.interlaced);
     add_words_list(text, types, group, tai)
+}
+
+/// Adds the line on RTP timestamps of a run whose steps differ from those that the SDP's rate gives.
+fn add_steps(text: &mut String, media: &Media, shown: &ShownRun) -> Result<(), OutOfMemory>
+    ensures { IfOk result (λ _. string_bytes text.new ≡ string_bytes text.old
+        ++ steps_line media.now shown.now.run.judged.frames shown.now.run.numbers.step) }
+{
+    add_steps_line(text, media, shown.run.judged.frames, shown.run.numbers.step)
 }
 
 /// Adds the run of a flow of this media that is shown.
@@ -158,9 +170,9 @@ fn add_shown(
     add_flow_title(text, media, flow)?;
     add_run_title(text, tai, shown)?;
     add_types_told(text, media, types, tai)?;
-    add_steps_line(text, media, shown.run.numbers.step)?;
+    add_steps(text, media, shown)?;
     add_run_grid(text, alloc, media, shown, types)?;
-    add_run_tables(text, shown, types, flow.runs.as_slice())
+    add_run_tables(text, media, shown, types, flow.runs.as_slice())
 }
 
 /// Adds the part of a flow of this media, if a run is shown.

@@ -26,6 +26,8 @@ pub struct Curves {
     pub linear_eye: Items<Extremes>,
     /// Nanoseconds from the instant at which each frame or field begins to its first packet.
     pub first: Items<Extremes>,
+    /// The same numbers as in `first`, in at most eight columns.
+    pub drift: Items<Extremes>,
     /// Nanoseconds from the instant at which each frame or field begins to its last packet.
     pub last: Items<Extremes>,
     /// Ticks of 90 kHz by which each RTP timestamp exceeds the media clock at the instant at which its frame or field

@@ -2,96 +2,15 @@
 
 ghost use Rattle.std.specs.Prelude.{◌≡◌, ◌++◌, IfOk, string_bytes, unsigned_abs};
 ghost use Rattle.std.specs.List.{flat_map};
-ghost use Rattle.flow_page.specs.Words.{noun_end, type_words, utc};
+ghost use Rattle.flow_page.specs.Words.{noun_end, type_words};
 
 use crate::shown::TypeShown;
+use crate::times::{Epoch, Minus, SpanText, file_time};
 use flow_measure::Place;
 use std::alloc::AllocError as OutOfMemory;
 use std::fmt;
 use timing_base::{FailProof, KindVerdict};
 use timing_report::kind_name;
-
-/// The last two digits of a number.
-#[derive(Clone, Copy)]
-struct Two {
-    number: u64,
-}
-
-impl fmt::Display for Two {
-    ghost use Rattle.std.specs.Prelude.{Some};
-    ghost use Rattle.flow_page.specs.Words.{two};
-
-    ghost output = { λ digits. Some (two digits.number) };
-
-    fn fmt<W: fmt::Write>(&self, f: &mut fmt::Formatter<W>) -> fmt::Result {
-        write!(f, "{}{}", self.number / 10 % 10, self.number % 10)
-    }
-}
-
-/// The last three digits of a number.
-#[derive(Clone, Copy)]
-struct Three {
-    number: u64,
-}
-
-impl fmt::Display for Three {
-    ghost use Rattle.std.specs.Prelude.{Some};
-    ghost use Rattle.flow_page.specs.Words.{three};
-
-    ghost output = { λ digits. Some (three digits.number) };
-
-    fn fmt<W: fmt::Write>(&self, f: &mut fmt::Formatter<W>) -> fmt::Result {
-        let number = self.number;
-        write!(
-            f,
-            "{}{}{}",
-            number / 100 % 10,
-            number / 10 % 10,
-            number % 10
-        )
-    }
-}
-
-/// A time of day with nine decimals of the second. `ns` is nanoseconds since any midnight.
-#[derive(Clone, Copy)]
-pub(crate) struct Clock {
-    pub(crate) ns: u64,
-}
-
-impl fmt::Display for Clock {
-    ghost use Rattle.std.specs.Prelude.{Some};
-    ghost use Rattle.flow_page.specs.Words.{clock_text};
-
-    ghost output = { λ clock. Some (clock_text clock.ns) };
-
-    fn fmt<W: fmt::Write>(&self, f: &mut fmt::Formatter<W>) -> fmt::Result {
-        let ns = self.ns;
-        let hours = Two {
-            number: ns / 3_600_000_000_000 % 24,
-        };
-        let minutes = Two {
-            number: ns / 60_000_000_000 % 60,
-        };
-        let seconds = Two {
-            number: ns / 1_000_000_000 % 60,
-        };
-        let milli = Three {
-            number: ns / 1_000_000 % 1000,
-        };
-        let micro = Three {
-            number: ns / 1000 % 1000,
-        };
-        let nano = Three { number: ns % 1000 };
-        write!(f, "{hours}:{minutes}:{seconds}.{milli}{micro}{nano}")
-    }
-}
-
-/// Returns a capture timestamp in nanoseconds of UTC, which is `stamp` less `tai` seconds, or 0 if it is below that.
-pub(crate) fn utc(tai: u32, stamp: u64) -> u64
-    ensures { result ≡ utc tai stamp }
-{
-    stamp.saturating_sub(u64::from(tai) * 1_000_000_000)
-}
 
 /// Pass or fail, as a sign and a word.
 #[derive(Clone, Copy)]
@@ -187,11 +106,14 @@ impl fmt::Display for Worst {
 
     #[tactic(auto, unfolding(crate::specs::Words::worst_text))]
     fn fmt<W: fmt::Write>(&self, f: &mut fmt::Formatter<W>) -> fmt::Result {
-        write!(f, ", at worst {} ns late", lateness(self.late.slack))
+        let span = SpanText {
+            ns: lateness(self.late.slack),
+        };
+        write!(f, ", at worst {span} late")
     }
 }
 
-/// Returns the lateness of a packet with a slack below 0, in nanoseconds.
+/// Returns the absolute value of a slack, in nanoseconds.
 fn lateness(slack: i128) -> u128
     ensures { result ≡ unsigned_abs slack }
 {
@@ -248,16 +170,38 @@ impl fmt::Display for Named {
         match self.place {
             None => Ok(()),
             Some(place) => {
-                let clock = Clock {
-                    ns: utc(self.tai, place.stamp),
+                let epoch = Epoch {
+                    ns: file_time(self.tai, place.stamp),
                 };
                 write!(
                     f,
-                    ". Packet {}, with which the verdict's fail ends, is record {} at {clock} UTC",
+                    ". Packet {}, with which the verdict's fail ends, is record {}, capture timestamp {epoch}",
                     self.to, place.record
                 )
             }
         }
+    }
+}
+
+/// The text on the slack of a type that passes.
+#[derive(Clone, Copy)]
+struct Later {
+    slack: i128,
+}
+
+impl fmt::Display for Later {
+    ghost use Rattle.std.specs.Prelude.{Some};
+    ghost use Rattle.flow_page.specs.Words.{later_text};
+
+    ghost output = { λ l. Some (later_text l.slack) };
+
+    #[tactic(auto, unfolding(crate::specs::Words::later_text))]
+    fn fmt<W: fmt::Write>(&self, f: &mut fmt::Formatter<W>) -> fmt::Result {
+        let minus = Minus { number: self.slack };
+        let span = SpanText {
+            ns: lateness(self.slack),
+        };
+        write!(f, "; each packet may come {minus}{span} later")
     }
 }
 
@@ -278,7 +222,12 @@ impl fmt::Display for Outcome {
 
     fn fmt<W: fmt::Write>(&self, f: &mut fmt::Formatter<W>) -> fmt::Result {
         match self.shown.verdict {
-            KindVerdict::Pass => write!(f, "; each packet may come {} ns later", self.shown.slack),
+            KindVerdict::Pass => {
+                let later = Later {
+                    slack: self.shown.slack,
+                };
+                write!(f, "{later}")
+            }
             KindVerdict::Fail(proof) => {
                 let breaks = Breaks {
                     shown: self.shown,

@@ -8,7 +8,7 @@ use Rattle.timing_base.specs.declared.packet.Rtp.{Rtp}
 use Rattle.timing_base.specs.declared.target.Target.{Target}
 use Rattle.udp_rtp.specs.Awaited.{awaited, carries_awaited}
 use Rattle.udp_rtp.specs.Carried.{carries}
-use Rattle.udp_rtp.specs.Frames.{Datagram, payload_at}
+use Rattle.udp_rtp.specs.Frames.{Datagram, datagram_at, payload_at}
 use Rattle.udp_rtp.proofs.Awaiting.{awaited-carried}
 use Rattle.udp_rtp.proofs.PlainFrames.{carried, datagram-carried, reading-carried}
 use Rattle.ruled_intake.specs.Packets.{packet_of}
@@ -56,6 +56,6 @@ pub packet-expected : (all : List Media) (target : Target) (p : Rtp) (media : �
     → packet_from 0 all r ≡ Some (packet_of media record { rec = r.number; at = r.stamp; rtp = Ok p })
 packet-expected all target p media r h is =
     let fields = carried target p r.bytes h in
-    let d : Datagram = record { target = target; payload = payload_at r.bytes 34 } in
+    let d : Datagram = record (datagram_at r.bytes 14) { target = target; payload = payload_at r.bytes 34 } in
     packet_from-media 0 all r d media (datagram-carried target p r.bytes fields) is
     ∙ ap (λ x. Some (packet_of media record { rec = r.number; at = r.stamp; rtp = x })) (reading-carried target p r.bytes fields)

@@ -1,32 +1,18 @@
 -- What follows for `measure` from what a reading of its capture came to.
-use Rattle.std.specs.Prelude.{◌&&◌, ◌<◌, All, IfErr, IfOk, Result, Ok, Err, if◌then◌else◌, not}
-use Rattle.std.specs.List.{list_any}
-use Rattle.std.proofs.Common.{◌≡◌, ◌+◌, ℕ, Bool, true, false, List, [], ◌∷◌, length, Some, refl, sym, subst, arith}
+use Rattle.std.specs.Prelude.{◌<◌, All}
+use Rattle.std.proofs.Common.{◌≡◌, ◌+◌, ℕ, List, [], ◌∷◌, length, arith}
 use Rattle.std.proofs.lemmas.List.Elements.{All-cons, All-nil, All-weaker}
 use Rattle.timing_base.specs.Captures.{Record}
 use Rattle.timing_base.specs.Jobs.{CaptureJob}
 use Rattle.timing_base.specs.Media.{Media}
-use Rattle.timing_base.specs.declared.capture.FileNote.{FileNote}
 use Rattle.flow_measure.specs.declared.numbers.MeasuredFlow.{MeasuredFlow}
 use Rattle.flow_measure.specs.report.Json.{AreOfMedia}
-use Rattle.sdp_reader.specs.Session.{session}
-use Rattle.timing_outside.specs.Causes.{Rose}
-use Rattle.timing_report.specs.Outcomes.{is_refused}
-use Rattle.timing_report.specs.declared.status.Status.TheVariants as status
-use Rattle.timing_report.specs.declared.status.Input.TheVariants as input
-use Rattle.timing_reach.specs.steps.Answers.{Answer, Gives, Inputs, OnReadFault, Yields}
-use Rattle.timing_reach.specs.steps.Ends.{HasStatus}
-use Rattle.timing_reach.specs.steps.Ran.{HasCause}
-use Rattle.timing_reach.specs.declared.steps.failure.Failure.{Failure}
-use Rattle.timing_reach.specs.declared.steps.failure.Failure.TheVariants as failure
-use Rattle.timing_reach.proofs.lemmas.steps.Endings.{look-answered}
-use Rattle.timing_reach.proofs.lemmas.steps.Seeing.{Sees, follows-session, risen-seen, yields-on}
-use Rattle.timing_reach.specs.Asked.{ReadsCapture}
-use Rattle.timing_reach.proofs.Following.{capture-seen}
+use Rattle.timing_steps.specs.Answers.{Answer}
+use Rattle.timing_steps.specs.Queries.{HasAnswer}
 use Rattle.udp_rtp.specs.Flow.{flow}
 use Rattle.timing_measure.specs.Each.{EachOf}
 use Rattle.timing_measure.specs.Measured.{IsMeasuredFlow}
-use Rattle.timing_measure.specs.Measures.{AreFlows, FollowsMeasure, HasMeasure, MeasureInputRose, has_run, measure_ends, measured}
+use Rattle.timing_measure.specs.Measures.{AreFlows, measure_query, measured}
 use Rattle.timing_measure.specs.flows.Taken.{IsCaptureIn, IsCaptureOf}
 use Rattle.timing_measure.specs.declared.measured.MeasuredCapture.{MeasuredCapture}
 
@@ -51,51 +37,10 @@ of-media tai media r h =
 -- the answer on what was read
 pub has-measure : (job : CaptureJob) (media : List Media) (text : List ℕ) (r : MeasuredCapture) (answer : Answer)
     → IsCaptureIn (AreFlows job.tai media) text r
-    → answer ≡ measured job.capture r.note media r.flows.items → HasMeasure job media text answer
+    → answer ≡ measured job.capture r.note media r.flows.items → HasAnswer (measure_query job) media (text ∷ []) answer
 has-measure job media text r answer h e = record {
-  items = h.items;
-  note = r.note;
-  records = h.records;
-  flows = r.flows.items;
-  are = h.are;
-  answer_is = e;
+  files = h.items ∷ [];
+  notes = r.note ∷ [];
+  records = (h.records, tt);
+  defined = record { flows = r.flows.items; are = h.are; answer_is = e };
 }
-
--- each answer has one of the statuses
-pub measure-ends : (name : List ℕ) (note : FileNote) (media : List Media) (flows : List MeasuredFlow) (answer : Answer)
-    → answer ≡ measured name note media flows → HasStatus measure_ends answer
-measure-ends name note media flows answer is =
-    subst (HasStatus measure_ends) (sym is) (go (measured name note media flows).text (list_any has_run flows && not (is_refused note)))
-  where
-    go : (text : List ℕ) (b : Bool) → HasStatus measure_ends (record { text = text; status = if b then status.Pass else status.NotAllJudged })
-    go text true = (refl, tt)
-    go text false = (refl, tt)
-
--- the capture is the one input that couldn't be read
-pub measure-cause : (i : Inputs) (job : CaptureJob) (outcome : Result Answer Failure) → IfOk outcome (HasStatus measure_ends)
-    → IfErr outcome (λ e. OnReadFault e (λ x. (x ≡ input.Capture 0) × Rose (i.before job.capture) (i.now job.capture)))
-    → HasCause outcome (MeasureInputRose job i)
-measure-cause i job (Ok answer) answers cause = look-answered answer answers
-measure-cause i job (Err (failure.ReadFault x)) answers cause = subst (MeasureInputRose job i) (sym cause.0) (refl, cause.1)
-measure-cause i job (Err failure.WriteFault) answers cause = cause
-measure-cause i job (Err failure.OutOfMemory) answers cause = tt
-
--- an input's count rose in a part of the run
-pub cause-seen : (i j : Inputs) (job : CaptureJob) (outcome : Result Answer Failure) → Sees i j → HasCause outcome (MeasureInputRose job j)
-    → HasCause outcome (MeasureInputRose job i)
-cause-seen i j job (Ok answer) s h = h
-cause-seen i j job (Err (failure.ReadFault input.Sdp)) s h = risen-seen i j job.sdp s h
-cause-seen i j job (Err (failure.ReadFault input.Report)) s h = absurd h
-cause-seen i j job (Err (failure.ReadFault (input.Capture number))) s h = (h.0, risen-seen i j job.capture s h.1)
-cause-seen i j job (Err failure.WriteFault) s h = h
-cause-seen i j job (Err failure.OutOfMemory) s h = tt
-
--- the session of a description that was read, and what follows for it was seen later
-pub session-follows : (i j : Inputs) (job : CaptureJob) (outcome : Result Answer Failure) (media : List Media) → Sees i j → ¬ i.lacks job.sdp
-    → ((text : List ℕ) → i.texts job.sdp ≡ Some text → session text ≡ Ok media)
-    → Yields outcome (ReadsCapture j outcome job.capture (λ text. Gives outcome (HasMeasure job media text))) → FollowsMeasure job i outcome
-session-follows i j job outcome media s there told h =
-    let answers : List ℕ → Type 0 = λ text. Gives outcome (HasMeasure job media text) in
-    follows-session i outcome job.sdp media (λ media. ReadsCapture i outcome job.capture (λ text. Gives outcome (HasMeasure job media text))) there told
-    (yields-on outcome (ReadsCapture j outcome job.capture answers) (ReadsCapture i outcome job.capture answers)
-    (λ read. capture-seen i j outcome job.capture answers s read) h)

@@ -4,6 +4,8 @@ mod Eaches
 mod Ends
 mod Taken
 mod Whole
+pub mod Held
+mod Reading
 pub mod Answering
 pub mod Some
 pub mod Numbers

@@ -1,4 +1,4 @@
--- The texts of `measure` have an answer.
+-- The packet records of a capture have an answer of `measure`.
 use Rattle.std.proofs.Common.{◌≡◌, ◌<◌, ◌≤◌, ◌+◌, ◌^◌, ◌∷◌, ℕ, zero, suc, List, [], length, map, Option, Some, None, refl, ◌∙◌, arith}
 use Rattle.std.proofs.Common.{slice_index}
 use Rattle.std.specs.Prelude.{All, slice_index_or}
@@ -16,9 +16,11 @@ use Rattle.timing_base.specs.declared.packet.FlowPacket.{FlowPacket}
 use Rattle.fail_interval.specs.Row.{verdict_of}
 use Rattle.flow_measure.specs.declared.numbers.MeasuredFlow.{MeasuredFlow}
 use Rattle.flow_measure.specs.declared.numbers.MeasuredRun.{MeasuredRun}
-use Rattle.flow_measure.proofs.Some.{some-measure}
+use Rattle.flow_measure.proofs.Some.{some-measure as some-numbers}
 use Rattle.pcap_reader.specs.Records.{Records}
-use Rattle.timing_reach.specs.steps.Answers.{Answer}
+use Rattle.timing_steps.specs.Answers.{Answer}
+use Rattle.timing_steps.specs.Queries.{HasAnswer, only_file, only_note}
+use Rattle.timing_steps.proofs.Onces.{DefinesSome}
 use Rattle.timing_reach.proofs.Packets.{flow-few, packet-of}
 use Rattle.udp_rtp.specs.Flow.{flow, flow_packet}
 use Rattle.timing_measure.specs.Each.{EachOf}
@@ -27,30 +29,31 @@ use Rattle.fail_interval.specs.Parts.{judged_packets, judged_parts, part_between
 use Rattle.flow_measure.specs.Measured.{AreMeasured, HasNumbers, IsMeasuredRun, named_by}
 use Rattle.flow_measure.specs.Packets.{records_of, timestamps_of}
 use Rattle.timing_measure.specs.Measured.{IsMeasuredFlow, first_source}
-use Rattle.timing_measure.specs.Measures.{HasMeasure, measured}
+use Rattle.timing_measure.specs.Measures.{DefinesMeasure, measure_query, measured}
+use Rattle.timing_measure.proofs.Held.{AreHeld, HaveStamps}
 use Rattle.timing_measure.proofs.Whole.{IsWhole, parts-whole}
 
 -- the packets of a judged run have stamps of a capture
-abbrev AreHeld : JudgedPart → Type 0
-AreHeld part = AreStamped part.packets
+abbrev HasStamps : JudgedPart → Type 0
+HasStamps part = AreStamped part.packets
 
 held-part : (m : Media) (packets : List FlowPacket) (number from to : ℕ) (o : RunOutcome) → AreStamped packets
-    → All AreHeld (part_by m number (packet packets from) (judged_packets packets from to) o)
-held-part m packets number from to (no_whole_frame head) h = All-nil AreHeld
+    → All HasStamps (part_by m number (packet packets from) (judged_packets packets from to) o)
+held-part m packets number from to (no_whole_frame head) h = All-nil HasStamps
 held-part m packets number from to (whole_frames run) h =
-    All-cons AreHeld _ [] (All-take (λ (p : FlowPacket). IsStamp p.at) _ _ (All-drop (λ (p : FlowPacket). IsStamp p.at) _ packets h)) (All-nil AreHeld)
+    All-cons HasStamps _ [] (All-take (λ (p : FlowPacket). IsStamp p.at) _ _ (All-drop (λ (p : FlowPacket). IsStamp p.at) _ packets h)) (All-nil HasStamps)
 
 held-between : (m : Media) (packets : List FlowPacket) (tai to number from : ℕ) (places : List ℕ) → AreStamped packets
-    → All AreHeld (parts_between m packets tai to number from places)
+    → All HasStamps (parts_between m packets tai to number from places)
 held-between m packets tai to number from [] h = held-part m packets number from to (run_outcome packets tai from to) h
 held-between m packets tai to number from (cut ∷ rest) h =
-    All-append AreHeld (part_between m packets tai number from cut) (parts_between m packets tai to (number + 1) cut rest)
+    All-append HasStamps (part_between m packets tai number from cut) (parts_between m packets tai to (number + 1) cut rest)
     (held-part m packets number from cut (run_outcome packets tai from cut) h) (held-between m packets tai to (number + 1) cut rest h)
 
-held-in : (m : Media) (packets : List FlowPacket) (tai : ℕ) (v : FlowVerdict) → AreStamped packets → All AreHeld (parts_in m packets tai v)
-held-in m packets tai absent h = All-nil AreHeld
-held-in m packets tai (refused rec fault) h = All-nil AreHeld
-held-in m packets tai (gap rec expected got) h = All-nil AreHeld
+held-in : (m : Media) (packets : List FlowPacket) (tai : ℕ) (v : FlowVerdict) → AreStamped packets → All HasStamps (parts_in m packets tai v)
+held-in m packets tai absent h = All-nil HasStamps
+held-in m packets tai (refused rec fault) h = All-nil HasStamps
+held-in m packets tai (gap rec expected got) h = All-nil HasStamps
 held-in m packets tai (in_one_run o) h = held-part m packets 1 0 (length packets) o h
 held-in m packets tai (in_runs runs) h = held-between m packets tai (length packets) 1 0 (cuts packets (length packets)) h
 
@@ -75,7 +78,7 @@ flow-stamped m (r ∷ items) h =
     (flow-stamped m items (All-tail (λ (r : Record). IsStamp r.stamp) r items h))
 
 -- a judged run has its numbers
-some-run : (m : Media) (tai : ℕ) (part : JudgedPart) → IsMedia m → tai ≤ 1000 → IsWhole tai part → AreHeld part
+some-run : (m : Media) (tai : ℕ) (part : JudgedPart) → IsMedia m → tai ≤ 1000 → IsWhole tai part → HasStamps part
     → (x : MeasuredRun) × IsMeasuredRun (HasNumbers m tai) part x
 some-run m tai part is few whole held =
     let stamps = stamps_of tai part.packets in
@@ -85,7 +88,7 @@ some-run m tai part is few whole held =
     let one : slice_index stamps i ≡ stamp_of tai (slice_index_or part.packets i no_packet) = stamp-at tai part.packets i (omega (arith, within, long)) in
     omega (arith, one, All-get_or (λ (p : FlowPacket). IsStamp p.at) part.packets i no_packet (omega (arith, within, long)) held, few) in
     let numbers =
-    some-measure m part.values.n part.values.frames stamps (records_of part.packets) (timestamps_of part.packets) (map named_by part.values.kinds) is whole.some
+    some-numbers m part.values.n part.values.frames stamps (records_of part.packets) (timestamps_of part.packets) (map named_by part.values.kinds) is whole.some
     whole.some_groups (long ∙ whole.whole) (omega (arith, long, whole.bounded)) low in (
       record {
         run = part.number;
@@ -97,12 +100,12 @@ some-run m tai part is few whole held =
       record { run_is = refl; record_is = refl; number = refl; judged_is = refl; numbers = numbers.1 },
     )
 
-some-runs : (m : Media) (tai : ℕ) (parts : List JudgedPart) → IsMedia m → tai ≤ 1000 → All (IsWhole tai) parts → All AreHeld parts
+some-runs : (m : Media) (tai : ℕ) (parts : List JudgedPart) → IsMedia m → tai ≤ 1000 → All (IsWhole tai) parts → All HasStamps parts
     → (xs : List MeasuredRun) × AreMeasured (HasNumbers m tai) parts xs
 some-runs m tai [] is few whole held = ([], tt)
 some-runs m tai (part ∷ parts) is few whole held =
-    let x = some-run m tai part is few (All-head (IsWhole tai) part parts whole) (All-head AreHeld part parts held) in
-    let xs = some-runs m tai parts is few (All-tail (IsWhole tai) part parts whole) (All-tail AreHeld part parts held) in
+    let x = some-run m tai part is few (All-head (IsWhole tai) part parts whole) (All-head HasStamps part parts held) in
+    let xs = some-runs m tai parts is few (All-tail (IsWhole tai) part parts whole) (All-tail HasStamps part parts held) in
     (x.0 ∷ xs.0, (x.1, xs.1))
 
 -- so has a flow
@@ -132,12 +135,21 @@ some-flows tai items number (m ∷ media) is seconds few held =
     let fs = some-flows tai items (number + 1) media (All-tail IsMedia m media is) seconds few held in
     (f.0 ∷ fs.0, (f.1, fs.1))
 
--- the answer on a capture whose records have stamps of a capture
+-- the answer over packet records of a capture
+pub measure-defined : (job : CaptureJob) (media : List Media) (items : List Record) (note : FileNote) → IsCaptureJob job → All IsMedia media → AreHeld items
+    → (answer : Answer) × DefinesMeasure job media items note answer
+measure-defined job media items note is all held =
+    let flows = some-flows job.tai items 0 media all is.tai_most held.few held.stamps in
+    (measured job.capture note media flows.0, record { flows = flows.0; are = flows.1; answer_is = refl })
+
+pub some-measure : (job : CaptureJob) (texts : List (List ℕ)) → IsCaptureJob job → HaveStamps texts → DefinesSome (measure_query job) texts
+some-measure job texts is held media files notes are unsettled records =
+    measure-defined job media (only_file files) (only_note notes) is are (held files notes records)
+
+-- over a capture with these contents
 pub some-measure-answer : (job : CaptureJob) (media : List Media) (text : List ℕ) (items : List Record) (note : FileNote) → IsCaptureJob job
     → All IsMedia media → Records text (2 ^ 40) items note → length items < 2 ^ 41 → All (λ (r : Record). IsStamp r.stamp) items
-    → (answer : Answer) × HasMeasure job media text answer
-some-measure-answer job media text items note is all records few held =
-    let flows = some-flows job.tai items 0 media all is.tai_most few held in (
-      measured job.capture note media flows.0,
-      record { items = items; note = note; records = records; flows = flows.0; are = flows.1; answer_is = refl },
-    )
+    → (answer : Answer) × HasAnswer (measure_query job) media (text ∷ []) answer
+some-measure-answer job media text items note is all records few stamps =
+    let made = measure-defined job media items note is all (record { few = few; stamps = stamps }) in
+    (made.0, record { files = items ∷ []; notes = note ∷ []; records = (records, tt); defined = made.1 })

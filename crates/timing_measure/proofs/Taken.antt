@@ -15,7 +15,7 @@ use Rattle.flow_demux.specs.Takings.{TakesAll, TakesFlow}
 use Rattle.flow_demux.specs.declared.demux.Demux.{Demux}
 use Rattle.flow_demux.specs.declared.media_flow.MediaFlow.{MediaFlow}
 use Rattle.timing_reach.proofs.Takings.{fed-alone}
-use Rattle.timing_reach.specs.steps.Taken.{TakesText}
+use Rattle.timing_steps.specs.Taken.{TakesText}
 use Rattle.timing_measure.specs.Each.{AllPairs, EachOf}
 use Rattle.timing_measure.specs.flows.Meters.{HasRoom, StandsFor, TakesOn, room_less}
 use Rattle.timing_measure.specs.flows.Taken.{AreMetered, AreTakenIn, AreTakenOf, IsFlowOf}

@@ -1,21 +1,18 @@
--- The texts of `measure` have one answer.
-use Rattle.std.proofs.Common.{◌≡◌, ◌^◌, ℕ, List, ◌∙◌, sym, subst}
+-- The packet records of a capture have one answer of `measure`.
+use Rattle.std.proofs.Common.{◌≡◌, ap, ◌∙◌, sym}
 use Rattle.timing_base.specs.Jobs.{CaptureJob}
-use Rattle.timing_base.specs.Media.{Media}
-use Rattle.pcap_reader.specs.Header.{header}
-use Rattle.pcap_reader.proofs.Lists.{only_by}
-use Rattle.timing_reach.specs.steps.Answers.{Answer}
+use Rattle.timing_steps.specs.Queries.{only_file, only_note}
+use Rattle.timing_steps.proofs.Onces.{DefinesOnce}
 use Rattle.udp_rtp.specs.Flow.{flow}
 use Rattle.timing_measure.specs.Measured.{IsMeasuredFlow}
-use Rattle.timing_measure.specs.Measures.{AreFlows, HasMeasure, measured}
+use Rattle.timing_measure.specs.Measures.{measure_query, measured}
 use Rattle.timing_measure.proofs.Eaches.{each-once}
 use Rattle.timing_measure.proofs.Numbers.{flow-once}
 
--- texts have no two answers
-pub once-measure : (job : CaptureJob) (media : List Media) (text : List ℕ) (a b : Answer) → HasMeasure job media text a → HasMeasure job media text b → a ≡ b
-once-measure job media text a b h k =
-    let (items, note) = only_by (header text) (2 ^ 40) text h.items k.items h.note k.note h.records k.records in
+-- no media and packet records have two answers
+pub once-measure : (job : CaptureJob) → DefinesOnce (measure_query job)
+once-measure job media files notes a b h k =
+    let items = only_file files in
     let flows : h.flows ≡ k.flows =
-    each-once (λ n m f. IsMeasuredFlow m n job.tai (flow k.items m) f) (λ n m. flow-once m n job.tai (flow k.items m)) 0 media h.flows k.flows
-    (subst (λ l. AreFlows job.tai media l h.flows) items h.are) k.are in
-    h.answer_is ∙ (λ i. measured job.capture (note i) media (flows i)) ∙ sym k.answer_is
+    each-once (λ n m f. IsMeasuredFlow m n job.tai (flow items m) f) (λ n m. flow-once m n job.tai (flow items m)) 0 media h.flows k.flows h.are k.are in
+    h.answer_is ∙ ap (measured job.capture (only_note notes) media) flows ∙ sym k.answer_is

@@ -1,7 +1,7 @@
 -- The output and status of `measure`, by the contents of its inputs: the numbers of every judged run of every media of
 -- a session, in one capture, as JSON (RFC 8259). The SDP is read first, then the capture. Capture timestamps are
 -- nanoseconds of TAI, with `--tai` added; media count from 0, and packet records from 1. This project's profile.
-use Rattle.std.specs.Prelude.{◌≡◌, ◌^◌, ◌&&◌, if◌then◌else◌, ℕ, Bool, not, nat_lt, List, length, map, Result}
+use Rattle.std.specs.Prelude.{◌≡◌, ◌&&◌, if◌then◌else◌, ℕ, Bool, not, nat_lt, List, length, map}
 use Rattle.std.specs.List.{list_any}
 use Rattle.timing_base.specs.Captures.{Record}
 use Rattle.timing_base.specs.Jobs.{CaptureJob}
@@ -10,16 +10,12 @@ use Rattle.timing_base.specs.declared.capture.FileNote.{FileNote}
 use Rattle.flow_measure.specs.declared.numbers.MeasuredFlow.{MeasuredFlow}
 use Rattle.flow_measure.specs.report.Json.{measure_json}
 use Rattle.flow_measure.specs.report.Told.{flow_told}
-use Rattle.pcap_reader.specs.Records.{Records}
 use Rattle.timing_report.specs.Outcomes.{is_refused}
-use Rattle.timing_report.specs.declared.status.Input.{Input}
-use Rattle.timing_report.specs.declared.status.Input.TheVariants as input
 use Rattle.timing_report.specs.declared.status.Status.{Status}
 use Rattle.timing_report.specs.declared.status.Status.TheVariants as status
-use Rattle.timing_reach.specs.steps.Answers.{Answer, Gives, HasRisen, Inputs, ReadsSession, Yields}
-use Rattle.timing_reach.specs.steps.Ends.{look_ends}
-use Rattle.timing_reach.specs.declared.steps.failure.Failure.{Failure}
-use Rattle.timing_reach.specs.Asked.{ReadsCapture}
+use Rattle.timing_steps.specs.Answers.{Answer}
+use Rattle.timing_steps.specs.Flows.{capture_query}
+use Rattle.timing_steps.specs.Queries.{Query}
 use Rattle.udp_rtp.specs.Flow.{flow}
 use Rattle.timing_measure.specs.Each.{EachOf}
 use Rattle.timing_measure.specs.Measured.{IsMeasuredFlow}
@@ -45,26 +41,13 @@ measured name note media flows = record {
   status = measure_status note flows;
 }
 
--- the answer of `measure` for these media, over a classic capture with these contents
-pub record HasMeasure (job : CaptureJob) (media : List Media) (text : List ℕ) (answer : Answer) : Type 0 where
-  pub items : List Record
-  pub note : FileNote
-  pub records : Records text (2 ^ 40) items note
+-- the answer of `measure` for these media, over the packet records of a capture that ends in this way
+pub record DefinesMeasure (job : CaptureJob) (media : List Media) (items : List Record) (note : FileNote)
+    (answer : Answer) : Type 0 where
   pub flows : List MeasuredFlow
   pub are : AreFlows job.tai media items flows
   pub answer_is : answer ≡ measured job.capture note media flows
 
--- `measure` reads the SDP, then the capture
-abbrev pub FollowsMeasure : CaptureJob → Inputs → Result Answer Failure → Type 0
-FollowsMeasure job i outcome = Yields outcome (ReadsSession i outcome job.sdp (λ media.
-    ReadsCapture i outcome job.capture (λ text. Gives outcome (HasMeasure job media text))))
-
--- the count of faults of the name of this input rose; there are two inputs, the SDP and the capture
-abbrev pub MeasureInputRose : CaptureJob → Inputs → Input → Type 0
-MeasureInputRose job i input.Sdp = HasRisen i job.sdp
-MeasureInputRose job i input.Report = ⊥
-MeasureInputRose job i (input.Capture number) = (number ≡ 0) × HasRisen i job.capture
-
--- the statuses of the answers of `measure`: 0, 3 or 4
-abbrev pub measure_ends : Status → Bool
-measure_ends ends = look_ends ends
+-- what `measure` asks: the answer is over all media of the SDP
+abbrev pub measure_query : CaptureJob → Query
+measure_query job = capture_query job (DefinesMeasure job)

@@ -2,7 +2,6 @@
 pub mod Rows
 pub mod Status
 pub mod Series
-pub mod Streams
 -- these serve only the proofs
 pub mod Stands
 pub mod Copies

@@ -1,17 +1,18 @@
 //! The output of `measure`, and its status.
 
-ghost use Rattle.std.specs.Prelude.{◌≡◌, IfOk, true};
+ghost use Rattle.std.specs.Prelude.{◌≡◌, IfOk, false, true};
 ghost use Rattle.std.specs.List.{list_any};
 ghost use Rattle.flow_measure.specs.report.Json.{AreOfMedia};
-ghost use Rattle.timing_measure.specs.Measures.{has_run, measure_ends, measure_status, measured};
+ghost use Rattle.timing_steps.specs.Queries.{judged_ends};
+ghost use Rattle.timing_measure.specs.Measures.{has_run, measure_status, measured};
 
 use crate::measured::MeasuredCapture;
 use flow_measure::MeasuredFlow;
 use flow_measure::report::json_of;
 use std::alloc::{AllocError as OutOfMemory, Global};
 use timing_base::{CaptureJob, FileNote, Session};
-use timing_reach::steps::Answer;
 use timing_report::{Status, any_refused};
+use timing_steps::Answer;
 
 /// Returns whether the flow has a judged run.
 fn has_run(flow: &MeasuredFlow) -> bool
@@ -30,7 +31,7 @@ fn is_one_measured(flows: &[MeasuredFlow]) -> bool
 /// Returns the status for these flows of a capture that ends in this way.
 fn status_of(note: FileNote, flows: &[MeasuredFlow]) -> Status
     ensures status { result ≡ measure_status note flows.now }
-    ensures ends { measure_ends result ≡ true }
+    ensures ends { judged_ends false result ≡ true }
 {
     if !is_one_measured(flows) {
         return Status::NotAllJudged;
@@ -49,8 +50,9 @@ pub fn measured(
     capture: &MeasuredCapture,
 ) -> Result<Answer, OutOfMemory>
     requires { AreOfMedia session.now capture.now.flows.items }
-    ensures { IfOk result (λ answer. answer
+    ensures answers { IfOk result (λ answer. answer
         ≡ measured job.now.capture capture.now.note session.now capture.now.flows.items) }
+    ensures ends { IfOk result (λ answer. judged_ends false answer.status ≡ true) }
 {
     let flows = capture.flows.as_slice();
     let text = json_of(alloc, job.capture.as_str(), capture.note, session, flows)?;

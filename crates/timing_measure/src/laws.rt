@@ -2,25 +2,27 @@
 
 pub mod parts;
 
-ghost use Rattle.std.specs.Prelude.{◌≡◌, ◌<◌, ◌^◌, ℕ, All, List, length};
+ghost use Rattle.std.specs.Prelude.{◌≡◌, ◌<◌, ◌^◌, ◌∷◌, [], ℕ, All, List, length};
 ghost use Rattle.timing_base.specs.Captures.{IsStamp, Record};
 ghost use Rattle.timing_base.specs.Jobs.{CaptureJob, IsCaptureJob};
 ghost use Rattle.timing_base.specs.Media.{IsMedia, Media};
 ghost use Rattle.timing_base.specs.declared.capture.FileNote.{FileNote};
 ghost use Rattle.pcap_reader.specs.Records.{Records};
-ghost use Rattle.timing_reach.specs.steps.Answers.{Answer};
-ghost use Rattle.timing_measure.specs.Measures.{HasMeasure};
+ghost use Rattle.timing_steps.specs.Answers.{Answer};
+ghost use Rattle.timing_steps.specs.Queries.{HasAnswer};
+ghost use Rattle.timing_measure.specs.Measures.{measure_query};
 
 /// The contents of the inputs of `measure` have an answer, if the media are within their limits and the packet records
 /// have timestamps that a capture can have.
 pub fn some_measure_answer()
     ensures { (job : CaptureJob) (media : List Media) (text : List ℕ) (items : List Record) (note : FileNote)
         → IsCaptureJob job → All IsMedia media → Records text (2 ^ 40) items note → length items < 2 ^ 41
-        → All (λ r. IsStamp r.stamp) items → (answer : Answer) × HasMeasure job media text answer }
+        → All (λ r. IsStamp r.stamp) items
+        → (answer : Answer) × HasAnswer (measure_query job) media (text ∷ []) answer }
 {}
 
 /// The contents of the inputs of `measure` don't have two answers.
 pub fn one_measure_answer()
-    ensures { (job : CaptureJob) (media : List Media) (text : List ℕ) (a b : Answer)
-        → HasMeasure job media text a → HasMeasure job media text b → a ≡ b }
+    ensures { (job : CaptureJob) (media : List Media) (texts : List (List ℕ)) (a b : Answer)
+        → HasAnswer (measure_query job) media texts a → HasAnswer (measure_query job) media texts b → a ≡ b }
 {}

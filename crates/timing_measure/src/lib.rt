@@ -20,4 +20,6 @@ mod measured;
 pub mod page;
 pub mod series;
 
-pub use measure::measure_one;
+pub use measure::MeasureCommand;
+pub use page::PageCommand;
+pub use series::SeriesCommand;

@@ -1,16 +1,12 @@
 //! `measure`: prints the numbers of every judged run of every media of a job.
 
-ghost use Rattle.std.specs.Prelude.{◌≡◌, ◌≤◌, ℕ, List, Some, IfErr, IfOk, length};
-ghost use Rattle.flow_measure.specs.report.Json.{AreOfMedia};
+ghost use Rattle.std.specs.Prelude.{◌≡◌, ◌≤◌, ◌∷◌, [], ℕ, List, Some, IfErr, IfOk, length, false, true};
 ghost use Rattle.timing_outside.specs.Causes.{Rose};
 ghost use Rattle.pcapng_reader.specs.Classic.{classic_texts};
 ghost use Rattle.timing_outside.specs.Shelves.{StaysAs};
-ghost use Rattle.timing_reach.specs.steps.Answers.{Gives, OnReadFault, Yields, seen_of};
-ghost use Rattle.timing_reach.specs.steps.Ends.{EndsWith, HasStatus};
-ghost use Rattle.timing_reach.specs.steps.Ran.{HasCause, Ran, output_of};
-ghost use Rattle.timing_reach.specs.Asked.{ReadsCapture};
-ghost use Rattle.timing_measure.specs.Measures.{AreFlows, FollowsMeasure, HasMeasure, MeasureInputRose, measure_ends};
-ghost use Rattle.timing_measure.specs.Measures.{measured};
+ghost use Rattle.timing_steps.specs.Answers.{CaptureRose, OnReadFault, seen_of};
+ghost use Rattle.timing_steps.specs.Queries.{FollowsCaptures, judged_ends};
+ghost use Rattle.timing_measure.specs.Measures.{AreFlows, measure_query};
 ghost use Rattle.timing_measure.specs.flows.Taken.{IsCaptureIn, IsCaptureOf};
 
 use crate::answer::measured;
@@ -18,11 +14,11 @@ use crate::both::Nothing;
 use crate::flows::take_flows;
 use crate::measured::{MeasuredCapture, measured_flows};
 use flow_measure::{MeasuredRuns, NumbersMeter};
-use std::alloc::Global;
-use timing_base::{CaptureJob, Media, Session};
+use std::alloc::{AllocError as OutOfMemory, Global};
+use timing_base::{CaptureJob, FileName, Media, Session};
 use timing_outside::{Shelf, Sink};
-use timing_reach::steps::{Answer, Failure, conclude, fetch_session};
-use timing_report::{Input, Status};
+use timing_report::Input;
+use timing_steps::{Answer, Command, Failure};
 
 /// Returns the flows of these media in the capture of a job.
 fn read_flows<H: Shelf>(
@@ -51,73 +47,54 @@ fn read_flows<H: Shelf>(
     })
 }
 
-/// Returns the answer for a capture with these flows.
-fn answer_capture(
-    alloc: Global,
-    job: &CaptureJob,
-    session: &Session,
-    capture: &MeasuredCapture,
-) -> Result<Answer, Failure>
-    requires { AreOfMedia session.now capture.now.flows.items }
-    ensures answered { IfOk result (HasStatus measure_ends) }
-    ensures answers { IfOk result (λ answer. answer
-        ≡ measured job.now.capture capture.now.note session.now capture.now.flows.items) }
-    ensures cause { IfErr result (λ e. OnReadFault e (λ _. ⊥)) }
-{
-    Ok(measured(alloc, job, session, capture)?)
-}
-
-/// Returns the answer over a session.
-fn answer_over<H: Shelf>(
-    alloc: Global,
-    job: &CaptureJob,
-    shelf: &mut H,
-    session: &Session,
-) -> Result<Answer, Failure>
-    ensures follows { Yields result (ReadsCapture (seen_of H.Shelf shelf.old shelf.new)
-        result job.now.capture (λ text. Gives result (HasMeasure job.now session.now text))) }
-    ensures answers { IfOk result (HasStatus measure_ends) }
-    ensures cause { HasCause result (MeasureInputRose job.now (seen_of H.Shelf shelf.old shelf.new)) }
-    ensures stays { StaysAs H.text H.lacks H.faults shelf.old shelf.new }
-{
-    let capture = read_flows(alloc, job, shelf, session.media.as_slice())?;
-    answer_capture(alloc, job, session, &capture)
-}
-
-/// Returns the answer of a job, or the reason why there is none. If the SDP is invalid, no capture is opened.
+/// Reads the capture of a job, and returns the answer over all media of a session.
 fn answer_measure<H: Shelf>(
     alloc: Global,
     job: &CaptureJob,
+    session: &Session,
     shelf: &mut H,
 ) -> Result<Answer, Failure>
-    ensures follows { FollowsMeasure job.now (seen_of H.Shelf shelf.old shelf.new) result }
-    ensures answers { IfOk result (HasStatus measure_ends) }
-    ensures cause { HasCause result (MeasureInputRose job.now (seen_of H.Shelf shelf.old shelf.new)) }
+    ensures follows { FollowsCaptures (measure_query job.now) session.now
+        (seen_of H.Shelf shelf.old shelf.new) result }
+    ensures ends { IfOk result (λ answer. judged_ends false answer.status ≡ true) }
+    ensures cause { IfErr result (λ e. OnReadFault e (λ i. (number : ℕ) × (i ≡ Input.Capture number)
+        × CaptureRose (H.faults shelf.old) (H.faults shelf.new) (job.now.capture ∷ []) number)) }
     ensures stays { StaysAs H.text H.lacks H.faults shelf.old shelf.new }
 {
-    match fetch_session(alloc, shelf, job.sdp.as_str())? {
-        Ok(session) => answer_over(alloc, job, shelf, &session),
-        Err(fault) => Ok(Answer::silent(alloc, Status::SdpRefused(fault))),
-    }
+    let capture = read_flows(alloc, job, shelf, session.media.as_slice())?;
+    Ok(measured(alloc, job, session, &capture)?)
 }
 
-/// Runs `measure`: prints on `out` the numbers of every judged run of every media of a job, as one JSON value. Prints
-/// on `err` the reason if there is no output.
-pub fn measure_one<H: Shelf, K: Sink>(
-    alloc: Global,
-    job: &CaptureJob,
-    shelf: &mut H,
-    out: &mut K,
-    err: &mut K,
-) -> Status
-    ensures ran { Ran (FollowsMeasure job.now (seen_of H.Shelf shelf.old shelf.new))
-        (MeasureInputRose job.now (seen_of H.Shelf shelf.old shelf.new))
-        (output_of K.Sink out.old out.new)
-        (output_of K.Sink err.old err.new)
-        result }
-    ensures ends { EndsWith measure_ends (output_of K.Sink out.old out.new) result }
-    ensures stays { StaysAs H.text H.lacks H.faults shelf.old shelf.new }
-{
-    let outcome = answer_measure(alloc, job, shelf);
-    conclude(out, err, outcome)
+/// The command `measure`: prints the numbers of every judged run of every media of a job, as one JSON value.
+#[derive(Drop)]
+pub struct MeasureCommand {
+    /// The capture.
+    pub job: CaptureJob,
+}
+
+impl Command for MeasureCommand {
+    ghost use Rattle.timing_measure.specs.Measures.{measure_query};
+
+    ghost query = { λ command. measure_query command.job };
+
+    ghost streams = { false };
+
+    fn sdp(&self) -> &FileName {
+        let job = &self.job;
+        &job.sdp
+    }
+
+    fn early(&self, _alloc: Global, _session: &Session) -> Result<Option<Answer>, OutOfMemory> {
+        Ok(None)
+    }
+
+    fn answer<H: Shelf, K: Sink>(
+        &self,
+        alloc: Global,
+        session: &Session,
+        shelf: &mut H,
+        _out: &mut K,
+    ) -> Result<Answer, Failure> {
+        answer_measure(alloc, &self.job, session, shelf)
+    }
 }

@@ -10,4 +10,4 @@ pub mod laws;
 mod page;
 mod shown;
 
-pub use page::page_one;
+pub use page::PageCommand;

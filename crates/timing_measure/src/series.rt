@@ -10,4 +10,4 @@ pub mod laws;
 mod series;
 mod stream;
 
-pub use series::series_one;
+pub use series::SeriesCommand;

@@ -8,8 +8,8 @@ ghost use Rattle.timing_outside.specs.Causes.{HasCause};
 #[derive(Clone, Copy, Debug, PartialEq, Eq)]
 pub struct Failed;
 
-/// An input with a name, which is read in pieces.
-pub trait Source: Send + Drop {
+/// An input with a name, which is read in pieces. Only what reads inputs on several threads also asks for `Send`.
+pub trait Source: Drop {
     /// The bytes of the name, which a read doesn't change.
     ghost name: { Self → List ℕ };
 

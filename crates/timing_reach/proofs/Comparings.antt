@@ -16,11 +16,11 @@ use Rattle.pcap_reader.specs.Records.{AreRecords}
 use Rattle.pcap_reader.specs.declared.records.Taken.{Taken}
 use Rattle.pcap_reader.proofs.Captures.{files-length, records-push}
 use Rattle.timing_report.specs.declared.status.Input.TheVariants as input
-use Rattle.timing_reach.specs.steps.Answers.{CaptureRose, OnReadFault}
-use Rattle.timing_reach.specs.steps.Taken.{TakesText}
-use Rattle.timing_reach.specs.declared.steps.failure.Failure.{Failure}
-use Rattle.timing_reach.specs.declared.steps.failure.Failure.TheVariants as failure
-use Rattle.timing_reach.proofs.lemmas.steps.Seeing.{rose-within}
+use Rattle.timing_steps.specs.Answers.{CaptureRose, OnReadFault}
+use Rattle.timing_steps.specs.Taken.{TakesText}
+use Rattle.timing_steps.specs.declared.failure.Failure.{Failure}
+use Rattle.timing_steps.specs.declared.failure.Failure.TheVariants as failure
+use Rattle.timing_steps.proofs.Seeing.{rose-within}
 use Rattle.udp_rtp.specs.Flow.{flow}
 use Rattle.timing_reach.specs.skew.Added.{Adds, taken_of}
 use Rattle.timing_reach.specs.skew.Comparing.{AreCompared, ComparesNext, IsComparedIn}

@@ -90,7 +90,8 @@ pub kept-some : (m : Media) (key : FlowKey) (tai most : ℕ) (list : Bool) (old 
     → IsRead m tai list f
 kept-some m key tai most list old new f start t finish = record { items = t.items; flow_is = finish t.items (t.taken key tai list [] start) }
 
-pub read-few : (m : Media) (key : FlowKey) (tai most : ℕ) (list : Bool) (old new : Reading) → IsReading m key tai list old [] → TakesFew (ReadsOn m) most old new
+pub read-few : (m : Media) (key : FlowKey) (tai most : ℕ) (list : Bool) (old new : Reading) → IsReading m key tai list old []
+    → TakesFew (ReadsOn m) most old new
     → count_read new ≤ most
 read-few m key tai most list old new start t =
     let h = t.taken key tai list [] start in omega (arith, h.judge.fed, flow-few m t.items, t.few)

@@ -1,6 +1,7 @@
 -- The answer on a flow that is kept, and that is judged in one run of whole frames.
 use Rattle.std.specs.Prelude.{slice_index, Result, Ok, Err}
-use Rattle.std.proofs.Common.{◌≡◌, ◌≤◌, ◌<◌, ◌+◌, ◌-◌, ◌*◌, ◌^◌, ℕ, Bool, true, false, List, [], ◌∷◌, ◌++◌, length, take, drop, All, refl, arith, ap, ◌∙◌, sym, subst, inl, inr}
+use Rattle.std.proofs.Common.{◌≡◌, ◌≤◌, ◌<◌, ◌+◌, ◌-◌, ◌*◌, ◌^◌, ℕ, Bool, true, false, List, [], ◌∷◌, ◌++◌, length, take, drop, All, refl, arith, ap, ◌∙◌, sym}
+use Rattle.std.proofs.Common.{subst, inl, inr}
 use Rattle.std.proofs.Common.{append_assoc, length-append}
 use Rattle.std.specs.Global.{Global}
 use Rattle.std.specs.declared.vec.Vec.{Vec}
@@ -16,7 +17,7 @@ use Rattle.timing_base.specs.Verdicts.{Judged}
 use Rattle.timing_base.specs.declared.media.Kind.{Kind}
 use Rattle.timing_report.specs.declared.status.Status.TheVariants as status
 use Rattle.flow_shaper.specs.declared.departure.Late.{Late}
-use Rattle.timing_reach.specs.steps.Answers.{Answer}
+use Rattle.timing_steps.specs.Answers.{Answer}
 use Rattle.timing_reach.specs.ShapedAgain.{CanBeHeld}
 use Rattle.timing_reach.specs.Shapes.{HasShape, IsLate, IsList, LeaveInTime, end_of, flow_records, not_shaped, shaped_capture}
 use Rattle.timing_reach.specs.shape.Keeping.{AreKept, came_text, stamps_of}
@@ -123,7 +124,8 @@ listed-shape m kind tai first j items run answer group (inr late) = inr (record 
 
 pub list-shape : (m : Media) (kind : Kind) (tai first : ℕ) (j : Judged) (stamps : Vec ℕ Global) (answer : Answer)
     → first ≡ slice_index (judged_part j stamps.items) 0
-    → (IsFit (first + tai * 10 ^ 9) (in_tai tai (judged_part j stamps.items)) → ListsSo (part_of m kind tai first j) (in_tai tai (judged_part j stamps.items)) answer)
+    → (IsFit (first + tai * 10 ^ 9) (in_tai tai (judged_part j stamps.items)) → ListsSo (part_of m kind tai first j) (in_tai tai (judged_part j stamps.items))
+    answer)
     → IsShapeOf m kind tai j (Stamps stamps) answer
 list-shape m kind tai first j stamps answer opens lists = λ list items run run_is kept.
     let is = kept-stamps list stamps (flow_records m items) kept.kept in

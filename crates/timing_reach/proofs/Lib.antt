@@ -8,7 +8,7 @@ pub mod SomeShape
 mod Judgments
 mod WindowGauges
 pub mod WindowReadings
-pub mod Following
+pub mod Flowing
 pub mod Unique
 mod Listings
 mod Copies
@@ -22,6 +22,6 @@ mod Shapings
 mod KeptShapes
 mod Pairings
 mod Comparings
-mod Skewing
+pub mod Skewing
+pub mod Windowing
 pub mod Scannings
-pub mod lemmas

@@ -15,7 +15,7 @@ use Rattle.timing_base.specs.Judged.{JudgedRun}
 use Rattle.timing_base.specs.Media.{Media}
 use Rattle.timing_base.specs.declared.media.Kind.{Kind}
 use Rattle.timing_report.specs.declared.status.Status.TheVariants as status
-use Rattle.timing_reach.specs.steps.Answers.{Answer}
+use Rattle.timing_steps.specs.Answers.{Answer}
 use Rattle.timing_reach.specs.Shapes.{AreBounds, HasPlan, HasShape, IsLate, IsList, LeaveInTime, Prints, delays, delays_line, end_of, greatest, not_shaped}
 use Rattle.timing_reach.specs.Shapes.{packet_lines}
 

@@ -28,7 +28,7 @@ use Rattle.pcap_reader.specs.Records.{Records}
 use Rattle.udp_rtp.specs.Flow.{flow}
 use Rattle.flow_shaper.specs.Plan.{Plan}
 use Rattle.sender_params.specs.Ticks.{NeverFall}
-use Rattle.timing_reach.specs.steps.Answers.{Answer}
+use Rattle.timing_steps.specs.Answers.{Answer}
 use Rattle.timing_reach.specs.Shapes.{HasPlan, end_of, flow_records, leaves_at, shaped_capture}
 use Rattle.timing_reach.specs.ShapedAgain.{CanBeHeld, IsJudgedAs, came_at}
 use Rattle.timing_reach.proofs.Copies.{leaves-by, leaves-judged}

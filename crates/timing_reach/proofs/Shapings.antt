@@ -1,6 +1,7 @@
 -- The judged packets of a kept flow leave, and what is printed of them is made.
 use Rattle.std.specs.Prelude.{cond, max, nat_lt, slice_index, slice_index_or, string_bytes, Ok, Err}
-use Rattle.std.proofs.Common.{◌≡◌, ◌≤◌, ◌<◌, ◌+◌, ◌-◌, ◌*◌, ◌^◌, ℕ, Bool, true, false, List, [], ◌∷◌, ◌++◌, length, take, drop, refl, arith, ap, ◌∙◌, sym, subst, inl, inr}
+use Rattle.std.proofs.Common.{◌≡◌, ◌≤◌, ◌<◌, ◌+◌, ◌-◌, ◌*◌, ◌^◌, ℕ, Bool, true, false, List, [], ◌∷◌, ◌++◌, length, take, drop, refl, arith, ap, ◌∙◌, sym}
+use Rattle.std.proofs.Common.{subst, inl, inr}
 use Rattle.std.proofs.Common.{append_assoc, length-append}
 use Rattle.std.specs.List.{count_by}
 use Rattle.std.proofs.Math.Seq.{get_or-append_seam}
@@ -10,7 +11,7 @@ use Rattle.flow_shaper.specs.declared.departure.Departure.{Departure}
 use Rattle.flow_shaper.specs.declared.departure.Late.{Late}
 use Rattle.timing_base.specs.Captures.{Record}
 use Rattle.timing_report.specs.declared.status.Status.TheVariants as status
-use Rattle.timing_reach.specs.steps.Answers.{Answer}
+use Rattle.timing_steps.specs.Answers.{Answer}
 use Rattle.timing_reach.specs.Shapes.{IsLate, IsList, delays, delays_line, end_of, greatest, not_shaped}
 use Rattle.timing_reach.specs.Shapes.{packet_line, packet_lines, shaped_capture}
 use Rattle.timing_reach.specs.shape.Keeping.{record_text, restamped, stamps_of}
@@ -95,7 +96,8 @@ lists-late w old new before stamps i at late answer within is e leaves fit h =
     let came : at + w.tai * 10 ^ 9 ≡ slice_index all i = ap (λ x. x + w.tai * 10 ^ 9) is ∙ tai-at w.tai stamps i within in
     inr (record {
       packet = late.packet;
-      late = next-late w old new all h.departures i (at + w.tai * 10 ^ 9) late (omega (arith, within, long)) came fit (leaves w (take i all) h.departures h.left);
+      late = next-late w old new all h.departures i (at + w.tai * 10 ^ 9) late (omega (arith, within, long)) came fit
+          (leaves w (take i all) h.departures h.left);
       answer_is = e;
     })
 

@@ -1,51 +1,68 @@
--- What follows for `skew` from what its steps found.
-use Rattle.std.specs.Prelude.{Result, Ok, map, slice_get}
-use Rattle.std.proofs.Common.{◌≡◌, ℕ, List, Option, Some, None, refl, ap, ◌∙◌, subst, inr}
+-- What follows for `skew` from what its steps found, and that its captures have one answer.
+use Rattle.std.proofs.Common.{◌≡◌, ℕ, List, Option, Some, None, refl, ap, ◌∙◌, sym, subst}
+use Rattle.std.specs.Prelude.{slice_get}
 use Rattle.timing_base.specs.Jobs.{SkewJob}
 use Rattle.timing_base.specs.Media.{Media}
-use Rattle.pcapng_reader.specs.Classic.{classic, classic_texts}
-use Rattle.sdp_reader.specs.Session.{session}
-use Rattle.timing_reach.specs.steps.Answers.{Answer, AreThere, AreTold, Gives, Inputs, ReadsCaptures, ReadsSession, Yields}
-use Rattle.timing_reach.specs.declared.steps.failure.Failure.{Failure}
-use Rattle.timing_reach.proofs.lemmas.steps.Classics.{told-classic}
-use Rattle.timing_reach.proofs.lemmas.steps.Seeing.{Sees, captures-seen, follows-session, yields-on}
+use Rattle.path_skew.specs.Pair.{skew}
+use Rattle.udp_rtp.specs.Flow.{flow}
+use Rattle.timing_steps.specs.Answers.{Answer}
+use Rattle.timing_steps.specs.Flows.{OnMedia, no_media, no_such_media}
+use Rattle.timing_steps.specs.Queries.{HasAnswer}
+use Rattle.timing_steps.proofs.Capturing.{some-none}
+use Rattle.timing_steps.proofs.Onces.{DefinesOnce, DefinesSome}
 use Rattle.timing_reach.specs.skew.Comparing.{IsComparedIn}
-use Rattle.timing_reach.specs.Skewed.{HasSkew, ReadsPair, skewed}
+use Rattle.timing_reach.specs.Skewed.{first_of, last_of, no_pair, skew_query, skewed}
 use Rattle.timing_reach.specs.declared.skew.compare.Compared.{Compared}
 
+-- the SDP has the first media, or both
+pub pair-first : (first second : Option Media) → no_pair first second ≡ None → no_media first ≡ None
+pair-first None second h = h
+pair-first (Some a) second h = refl
+
+pub pair-second : (first second : Option Media) → no_pair first second ≡ None → no_media second ≡ None
+pair-second None second h = absurd (some-none no_such_media h)
+pair-second (Some a) second h = h
+
+-- the answer of the first media, or of the second
+pub early-first : (first second : Option Media) (answer : Answer) → Some answer ≡ no_media first → Some answer ≡ no_pair first second
+early-first None second answer h = h
+early-first (Some a) second answer h = absurd (some-none answer h)
+
+pub early-second : (first second : Option Media) (found : Option Answer) → None ≡ no_media first → found ≡ no_media second → found ≡ no_pair first second
+early-second None second found none h = absurd (some-none no_such_media (sym none))
+early-second (Some a) second found none h = h
+
 -- the answer on what was found
-has-skew : (job : SkewJob) (a b : Media) (texts : List (List ℕ)) (c : Compared) (answer : Answer) → IsComparedIn texts a b c
-    → answer ≡ skewed job c.notes.items c.row → HasSkew job a b texts answer
-has-skew job a b texts c answer h e =
-    record { files = h.files; notes = c.notes.items; records = h.records; answer_is = e ∙ ap (skewed job c.notes.items) h.row_is }
+pub has-skew : (job : SkewJob) (media : List Media) (a b : Media) (texts : List (List ℕ)) (c : Compared) (answer : Answer) → slice_get media job.media ≡ Some a
+    → slice_get media job.pair ≡ Some b → IsComparedIn texts a b c → answer ≡ skewed job c.notes.items c.row → HasAnswer (skew_query job) media texts answer
+has-skew job media a b texts c answer first second h is = record {
+  files = h.files;
+  notes = c.notes.items;
+  records = h.records;
+  defined =
+      subst (λ x. OnMedia x (λ m. OnMedia (slice_get media job.pair) (λ n.
+      answer ≡ skewed job c.notes.items (skew (flow (first_of h.files) m) (flow (last_of h.files) n))))) (sym first)
+      (subst (λ x. OnMedia x (λ n. answer ≡ skewed job c.notes.items (skew (flow (first_of h.files) a) (flow (last_of h.files) n)))) (sym second)
+      (is ∙ ap (skewed job c.notes.items) h.row_is));
+}
 
--- the captures were read, and lead on to their answer
-pub pair-follows : (i : Inputs) (job : SkewJob) (a b : Media) (c : Compared) (answer : Answer) → AreThere i.lacks job.captures
-    → ((read : List (List ℕ)) → AreTold (classic_texts i.texts) job.captures read → IsComparedIn read a b c) → answer ≡ skewed job c.notes.items c.row
-    → Yields (Ok answer) (ReadsCaptures i (Ok answer) job.captures (λ texts. Gives (Ok answer) (HasSkew job a b texts)))
-pair-follows i job a b c answer there told e = inr (inr (
-  there,
-  λ texts t. (answer, refl, has-skew job a b (map classic texts) c answer (told (map classic texts) (told-classic i.texts job.captures texts t)) e),
-))
+-- the captures have one answer
+pub once-skew : (job : SkewJob) → DefinesOnce (skew_query job)
+once-skew job media files notes x y h k = both (slice_get media job.media) (slice_get media job.pair) h k
+  where
+    both : (first second : Option Media)
+        → OnMedia first (λ a. OnMedia second (λ b. x ≡ skewed job notes (skew (flow (first_of files) a) (flow (last_of files) b))))
+        → OnMedia first (λ a. OnMedia second (λ b. y ≡ skewed job notes (skew (flow (first_of files) a) (flow (last_of files) b)))) → x ≡ y
+    both None second h k = absurd h
+    both (Some a) None h k = absurd h
+    both (Some a) (Some b) h k = h ∙ sym k
 
--- captures that were read in a part of the run
-pair-seen : (i j : Inputs) (outcome : Result Answer Failure) (job : SkewJob) (a b : Option Media) → Sees i j → ReadsPair j outcome job a b
-    → ReadsPair i outcome job a b
-pair-seen i j outcome job None b s h = h
-pair-seen i j outcome job (Some a) None s h = h
-pair-seen i j outcome job (Some a) (Some b) s h = captures-seen i j outcome job.captures (λ texts. Gives outcome (HasSkew job a b texts)) s h
-
--- a description was read, and what follows for its media was seen later
-pub skew-session : (i j : Inputs) (job : SkewJob) (outcome : Result Answer Failure) (asked : List ℕ) (all media : List Media) → Sees i j → asked ≡ job.sdp
-    → all ≡ media → ¬ i.lacks asked
-    → ((text : List ℕ) → i.texts asked ≡ Some text → session text ≡ Ok media)
-    → Yields outcome (ReadsPair j outcome job (slice_get all job.media) (slice_get all job.pair))
-    → Yields outcome (ReadsSession i outcome job.sdp (λ m. ReadsPair i outcome job (slice_get m job.media) (slice_get m job.pair)))
-skew-session i j job outcome asked all media s named same there told h =
-    follows-session i outcome job.sdp media (λ m. ReadsPair i outcome job (slice_get m job.media) (slice_get m job.pair))
-    (subst (λ (n : List ℕ). ¬ i.lacks n) named there)
-    (λ text t. told text (ap i.texts named ∙ t))
-    (yields-on outcome (ReadsPair j outcome job (slice_get all job.media) (slice_get all job.pair))
-    (ReadsPair i outcome job (slice_get media job.media) (slice_get media job.pair))
-    (λ r. subst (λ (m : List Media). ReadsPair i outcome job (slice_get m job.media) (slice_get m job.pair)) same
-    (pair-seen i j outcome job (slice_get all job.media) (slice_get all job.pair) s r)) h)
+pub some-skew : (job : SkewJob) (texts : List (List ℕ)) → DefinesSome (skew_query job) texts
+some-skew job texts media files notes are unsettled records = both (slice_get media job.media) (slice_get media job.pair) unsettled
+  where
+    both : (first second : Option Media) → no_pair first second ≡ None
+        → (answer : Answer) × OnMedia first (λ a. OnMedia second (λ b.
+        answer ≡ skewed job notes (skew (flow (first_of files) a) (flow (last_of files) b))))
+    both None second h = absurd (some-none no_such_media h)
+    both (Some a) None h = absurd (some-none no_such_media h)
+    both (Some a) (Some b) h = (skewed job notes (skew (flow (first_of files) a) (flow (last_of files) b)), refl)

@@ -1,4 +1,4 @@
--- Each flow has an answer of `shape`, and not two.
+-- Each flow has an answer of `shape`, and its capture has one.
 use Rattle.std.specs.Prelude.{◌⊎◌, nat_lt, slice_index, slice_index_or}
 use Rattle.std.specs.List.{count_by}
 use Rattle.std.proofs.Common.{◌≡◌, ◌≤◌, ◌<◌, ◌+◌, ℕ, zero, suc, Bool, true, false, List, [], ◌∷◌, ◌++◌, length, take, refl, arith, ap, ◌∙◌, sym, subst, inl}
@@ -8,7 +8,7 @@ use Rattle.std.proofs.lemmas.Bool.{cases_lt}
 use Rattle.std.proofs.lemmas.List.{get_or_append_left, length-take-le}
 use Rattle.timing_base.specs.Captures.{Record}
 use Rattle.timing_base.specs.Jobs.{ShapeJob}
-use Rattle.timing_base.specs.Judged.{JudgedRun}
+use Rattle.timing_base.specs.Judged.{JudgedRun, judged}
 use Rattle.timing_base.specs.Media.{IsMedia, Media}
 use Rattle.timing_base.specs.declared.media.Kind.{Kind}
 use Rattle.flow_shaper.specs.Bounds.{BoundAt}
@@ -18,13 +18,18 @@ use Rattle.flow_shaper.specs.declared.departure.Bound.TheVariants.{Arrival}
 use Rattle.flow_shaper.proofs.Exists.{shaped-some}
 use Rattle.flow_shaper.proofs.Greedy.{least-none}
 use Rattle.flow_shaper.proofs.SomeBound.{bound-some}
+use Rattle.udp_rtp.specs.Flow.{flow}
 use Rattle.timing_report.specs.declared.status.Status.TheVariants as status
-use Rattle.timing_reach.specs.steps.Answers.{Answer}
-use Rattle.timing_reach.specs.Shaped.{HasShapeIn}
+use Rattle.timing_steps.specs.Answers.{Answer}
+use Rattle.timing_steps.specs.Queries.{only_file, only_note}
+use Rattle.timing_steps.proofs.Onces.{DefinesOnce, DefinesSome}
+use Rattle.timing_reach.specs.Shaped.{DefinesShape, shape_query}
 use Rattle.timing_reach.specs.Shapes.{AreBounds, HasShape, IsLate, LeaveInTime, Prints, delays, delays_line, end_of, flow_records, greatest, not_shaped}
 use Rattle.timing_reach.specs.Shapes.{packet_lines, shaped_capture}
 use Rattle.timing_reach.proofs.OneShape.{shape-once}
-use Rattle.timing_reach.proofs.Unique.{once-flow, some-flow}
+use Rattle.timing_reach.proofs.Flowing.{all-media, once-flow, some-on-media}
+use Rattle.timing_reach.proofs.RunSizes.{judged-size}
+use Rattle.timing_reach.proofs.Unique.{once-on, some-on}
 
 -- the first k packets leave in time, or some packet is late
 abbrev LeaveOrLate : Media → ℕ → Kind → (end : ℕ) → (stamps : List ℕ) → (k : ℕ) → Type 0
@@ -113,9 +118,9 @@ prints-some true tai kind m items run departures is few shaped =
 prints-some false tai kind m items run departures is few shaped = (shaped_capture tai run.head departures (flow_records m items), refl)
 
 -- of a run
-pub some-shape : (list : Bool) (tai : ℕ) (kind : Kind) (m : Media) (items : List Record) (run : JudgedRun) → IsMedia m → 1 ≤ run.n → run.n ≤ 262144
+pub shape-some : (list : Bool) (tai : ℕ) (kind : Kind) (m : Media) (items : List Record) (run : JudgedRun) → IsMedia m → 1 ≤ run.n → run.n ≤ 262144
     → (answer : Answer) × HasShape list tai kind m items run answer
-some-shape list tai kind m items run is some few =
+shape-some list tai kind m items run is some few =
     elim (leave-or-late m run.n kind (end_of tai) run.stamps (length run.stamps) is some (omega arith))
     as (λ _. (answer : Answer) × HasShape list tai kind m items run answer) [
       | inl found ↦
@@ -127,13 +132,18 @@ some-shape list tai kind m items run is some few =
       | inr late ↦ (not_shaped late.0, inr (record { packet = late.0; late = late.1; answer_is = refl }))
     ]
 
--- of a text
-pub some-shape-in : (job : ShapeJob) (m : Media) (text : List ℕ) → IsMedia m → (answer : Answer) × HasShapeIn job m text answer
-some-shape-in job m text is =
+-- the capture has an answer, if the media are within their limits
+pub some-shape : (job : ShapeJob) (texts : List (List ℕ)) → DefinesSome (shape_query job) texts
+some-shape job texts media files notes are unsettled records =
     let tai = job.flow.tai in
-    some-flow tai m (HasShape job.list tai job.kind m) text (λ items run size. some-shape job.list tai job.kind m items run is size.some size.few)
+    let items = only_file files in
+    some-on-media media job.flow.media (λ m answer. DefinesShape job m items (only_note notes) answer) unsettled
+    (λ m found. some-on m (HasShape job.list tai job.kind m items) (judged (flow items m) m.pt tai) (judged-size (flow items m) m.pt tai)
+    (λ run size. shape-some job.list tai job.kind m items run (all-media IsMedia media job.flow.media m are found) size.some size.few))
 
-pub once-shape-in : (job : ShapeJob) (m : Media) (text : List ℕ) (a b : Answer) → HasShapeIn job m text a → HasShapeIn job m text b → a ≡ b
-once-shape-in job m text a b h k =
-    let tai = job.flow.tai in
-    once-flow tai m (HasShape job.list tai job.kind m) text a b (λ items run x y. shape-once job.list tai job.kind m items run a b x y) h k
+-- and not two
+pub once-shape : (job : ShapeJob) → DefinesOnce (shape_query job)
+once-shape job =
+    once-flow job.flow (DefinesShape job)
+    (λ m items note a b h k. once-on m (HasShape job.list job.flow.tai job.kind m items) (judged (flow items m) m.pt job.flow.tai) a b
+    (λ run x y. shape-once job.list job.flow.tai job.kind m items run a b x y) h k)

@@ -7,7 +7,7 @@ use Rattle.timing_base.specs.Media.{Media}
 use Rattle.pcap_reader.specs.Taken.{TakesFew}
 use Rattle.pcap_reader.specs.declared.records.Taken.{Taken}
 use Rattle.pcap_reader.proofs.Captures.{map-raised}
-use Rattle.timing_reach.specs.steps.Taken.{TakesText}
+use Rattle.timing_steps.specs.Taken.{TakesText}
 use Rattle.flow_demux.specs.Takings.{TakesFlow}
 use Rattle.flow_demux.specs.declared.media_flow.MediaFlow.{MediaFlow}
 use Rattle.timing_reach.specs.judged.Flows.{TakesIn}

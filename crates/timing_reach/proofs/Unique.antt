@@ -1,25 +1,17 @@
--- Each text has one answer, and not two.
-use Rattle.std.proofs.Common.{◌≡◌, ◌^◌, ℕ, List, refl, ap, ◌∙◌, sym, subst}
-use Rattle.timing_base.specs.Captures.{Record}
-use Rattle.timing_base.specs.Judged.{FlowVerdict, JudgedRun, absent, gap, in_one_run, in_runs, judged, no_whole_frame, refused, whole_frames}
-use Rattle.timing_base.specs.Jobs.{SkewJob}
+-- Each flow has one answer of `window`, and not two; each verdict has one answer, if its run has.
+use Rattle.std.proofs.Common.{◌≡◌, ℕ, List, refl, ap, ◌∙◌, sym}
+use Rattle.timing_base.specs.Judged.{FlowVerdict, JudgedRun, absent, gap, in_one_run, in_runs, no_whole_frame, refused, whole_frames}
 use Rattle.timing_base.specs.Media.{Media}
 use Rattle.timing_base.specs.declared.media.Kind.TheVariants.{N, NL, W}
 use Rattle.fail_interval.specs.Row.{verdict_of}
 use Rattle.offset_window.proofs.Unique.{window-once, window-some}
 use Rattle.offset_window.specs.declared.window.Window.{Window}
-use Rattle.path_skew.specs.Pair.{skew}
-use Rattle.pcap_reader.specs.Header.{header}
-use Rattle.pcap_reader.proofs.Captures.{only-records, some-records}
-use Rattle.pcap_reader.proofs.Lists.{only_by, some_by}
-use Rattle.udp_rtp.specs.Flow.{flow}
 use Rattle.timing_report.specs.declared.status.Status.TheVariants as status
-use Rattle.timing_reach.specs.steps.Answers.{Answer}
-use Rattle.timing_reach.specs.Asked.{HasWindow, OnFlow, OnRun, not_judged}
-use Rattle.timing_reach.specs.Skewed.{HasSkew, first_of, last_of, skewed}
+use Rattle.timing_steps.specs.Answers.{Answer}
+use Rattle.timing_reach.specs.Asked.{OnRun, not_judged}
 use Rattle.timing_reach.specs.Windows.{AreWindowsOf, HasLines, windows_text}
 use Rattle.timing_reach.specs.declared.window.windows.Windows.{Windows}
-use Rattle.timing_reach.proofs.RunSizes.{HasSize, RunHasSize, judged-size}
+use Rattle.timing_reach.proofs.RunSizes.{HasSize, RunHasSize}
 
 -- of a run
 pub some-lines : (m : Media) (run : JudgedRun) → (answer : Answer) × HasLines m run answer
@@ -46,7 +38,7 @@ lines-once m run a b h k =
     ∙ sym k.answer_is
 
 -- of a verdict
-some-on : (m : Media) (next : JudgedRun → Answer → Type 0) (v : FlowVerdict) → RunHasSize v
+pub some-on : (m : Media) (next : JudgedRun → Answer → Type 0) (v : FlowVerdict) → RunHasSize v
     → ((run : JudgedRun) → HasSize run → (answer : Answer) × next run answer) → (answer : Answer) × OnRun m next v answer
 some-on m next absent size some = (not_judged m (verdict_of m absent), refl)
 some-on m next (refused rec fault) size some = (not_judged m (verdict_of m (refused rec fault)), refl)
@@ -55,7 +47,7 @@ some-on m next (in_one_run (no_whole_frame head)) size some = (not_judged m (ver
 some-on m next (in_one_run (whole_frames run)) size some = some run size
 some-on m next (in_runs runs) size some = (not_judged m (verdict_of m (in_runs runs)), refl)
 
-once-on : (m : Media) (next : JudgedRun → Answer → Type 0) (v : FlowVerdict) (a b : Answer) → ((run : JudgedRun) → next run a → next run b → a ≡ b)
+pub once-on : (m : Media) (next : JudgedRun → Answer → Type 0) (v : FlowVerdict) (a b : Answer) → ((run : JudgedRun) → next run a → next run b → a ≡ b)
     → OnRun m next v a → OnRun m next v b → a ≡ b
 once-on m next absent a b once h k = h ∙ sym k
 once-on m next (refused rec fault) a b once h k = h ∙ sym k
@@ -63,38 +55,3 @@ once-on m next (gap rec expected got) a b once h k = h ∙ sym k
 once-on m next (in_one_run (no_whole_frame head)) a b once h k = h ∙ sym k
 once-on m next (in_one_run (whole_frames run)) a b once h k = once run h k
 once-on m next (in_runs runs) a b once h k = h ∙ sym k
-
--- of a text
-pub some-flow : (tai : ℕ) (m : Media) (next : List Record → JudgedRun → Answer → Type 0) (text : List ℕ)
-    → ((items : List Record) (run : JudgedRun) → HasSize run → (answer : Answer) × next items run answer)
-    → (answer : Answer) × OnFlow tai m next text answer
-some-flow tai m next text some =
-    let all = some_by (header text) (2 ^ 40) text in
-    let on = some-on m (next all.0) (judged (flow all.0 m) m.pt tai) (judged-size (flow all.0 m) m.pt tai) (some all.0) in
-    (on.0, record { items = all.0; note = all.1; records = all.2; on_run = on.1 })
-
-pub once-flow : (tai : ℕ) (m : Media) (next : List Record → JudgedRun → Answer → Type 0) (text : List ℕ) (a b : Answer)
-    → ((items : List Record) (run : JudgedRun) → next items run a → next items run b → a ≡ b) → OnFlow tai m next text a → OnFlow tai m next text b → a ≡ b
-once-flow tai m next text a b once h k =
-    let same : h.items ≡ k.items = (only_by (header text) (2 ^ 40) text h.items k.items h.note k.note h.records k.records).0 in
-    once-on m (next k.items) (judged (flow k.items m) m.pt tai) a b (once k.items)
-    (subst (λ (l : List Record). OnRun m (next l) (judged (flow l m) m.pt tai) a) same h.on_run) k.on_run
-
--- of two flows
-pub some-skew : (job : SkewJob) (a b : Media) (texts : List (List ℕ)) → (answer : Answer) × HasSkew job a b texts answer
-some-skew job a b texts =
-    let all = some-records texts in
-    (skewed job all.1 (skew (flow (first_of all.0) a) (flow (last_of all.0) b)), record { files = all.0; notes = all.1; records = all.2; answer_is = refl })
-
-pub once-skew : (job : SkewJob) (a b : Media) (texts : List (List ℕ)) (x y : Answer) → HasSkew job a b texts x → HasSkew job a b texts y → x ≡ y
-once-skew job a b texts x y h k =
-    let same = only-records texts h.files k.files h.notes k.notes h.records k.records in
-    h.answer_is ∙ ap (λ (files : List (List Record)). skewed job h.notes (skew (flow (first_of files) a) (flow (last_of files) b))) same.0
-    ∙ ap (λ notes. skewed job notes (skew (flow (first_of k.files) a) (flow (last_of k.files) b))) same.1 ∙ sym k.answer_is
-
--- of `window`
-pub some-window : (tai : ℕ) (m : Media) (text : List ℕ) → (answer : Answer) × HasWindow tai m text answer
-some-window tai m text = some-flow tai m (λ items. HasLines m) text (λ items run size. some-lines m run)
-
-pub once-window : (tai : ℕ) (m : Media) (text : List ℕ) (a b : Answer) → HasWindow tai m text a → HasWindow tai m text b → a ≡ b
-once-window tai m text a b h k = once-flow tai m (λ items. HasLines m) text a b (λ items run x y. lines-once m run a b x y) h k

@@ -1,5 +1,5 @@
 -- What the reading of a flow finds that is measured while it is judged.
-use Rattle.std.specs.Prelude.{IfErr, IsSome, Result, Ok, Err, Option, Some, None}
+use Rattle.std.specs.Prelude.{IsSome, Option, Some, None}
 use Rattle.std.proofs.Common.{◌≡◌, ◌≤◌, ◌+◌, ℕ, List, [], ◌∷◌, refl, arith, ap, ◌∙◌, subst}
 use Rattle.timing_base.specs.Captures.{Record}
 use Rattle.timing_base.specs.Judged.{JudgedRun, in_one_run, judged, whole_frames}
@@ -12,11 +12,8 @@ use Rattle.timing_base.specs.declared.row.Verdict.TheVariants as verdict
 use Rattle.fail_interval.specs.Meterings.{HasRoom as JudgeHasRoom}
 use Rattle.pcap_reader.specs.Taken.{TakesFew}
 use Rattle.udp_rtp.specs.Flow.{flow, flow_packet}
-use Rattle.timing_report.specs.declared.status.Input.{Input}
-use Rattle.timing_reach.specs.steps.Answers.{Answer, OnReadFault}
-use Rattle.timing_reach.specs.declared.steps.failure.Failure.{Failure}
-use Rattle.timing_reach.specs.declared.steps.failure.Failure.TheVariants as failure
-use Rattle.timing_reach.specs.Asked.{HasWindow, OnRun, not_judged}
+use Rattle.timing_steps.specs.Answers.{Answer}
+use Rattle.timing_reach.specs.Asked.{OnRun, not_judged}
 use Rattle.timing_reach.specs.Windows.{HasLines}
 use Rattle.timing_reach.specs.judged.Flows.{TakesIn}
 use Rattle.timing_reach.specs.window.Gauging.{AreWindowsIn, IsGauged, Passes, count_gauged}
@@ -81,17 +78,3 @@ measured-in text m key tai old new x start t finish = record {
   records = t.records;
   measured_is = finish (flow t.items m) (t.fed key tai [] start);
 }
-
--- the answer over this text
-pub window-in : (text : List ℕ) (m : Media) (tai : ℕ) (x : Measured) (answer : Answer)
-    → ((tai : ℕ) (packets : List FlowPacket) → IsMeasured m tai packets x → OnRun m (HasLines m) (judged packets m.pt tai) answer)
-    → IsMeasuredIn m tai text x → HasWindow tai m text answer
-window-in text m tai x answer answers h =
-    record { items = h.items; note = h.note; records = h.records; on_run = answers tai (flow h.items m) h.measured_is }
-
--- memory ran out
-pub no-fault : (outcome : Result Answer Failure) (P : Input → Type 0) → IfErr outcome (λ e. OnReadFault e (λ _. ⊥)) → IfErr outcome (λ e. OnReadFault e P)
-no-fault (Ok answer) P h = tt
-no-fault (Err (failure.ReadFault x)) P h = absurd h
-no-fault (Err failure.WriteFault) P h = h
-no-fault (Err failure.OutOfMemory) P h = tt

@@ -15,5 +15,3 @@ pub mod window
 pub mod shape
 pub mod skew
 pub mod scan
--- the definitions for the steps of all commands
-pub mod steps

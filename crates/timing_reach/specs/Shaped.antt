@@ -1,18 +1,22 @@
--- The output and status of `shape`, by the contents of its inputs, in the order in which these are read: the SDP, then
--- a capture. This project's profile.
-use Rattle.std.specs.Prelude.{ℕ, List, slice_get, Result}
+-- The output and status of `shape`, by the contents of its inputs: the SDP, then a capture. This project's profile.
+use Rattle.std.specs.Prelude.{List}
+use Rattle.timing_base.specs.Captures.{Record}
 use Rattle.timing_base.specs.Jobs.{ShapeJob}
+use Rattle.timing_base.specs.Judged.{judged}
 use Rattle.timing_base.specs.Media.{Media}
-use Rattle.timing_reach.specs.steps.Answers.{Answer, Inputs, ReadsSession, Yields}
-use Rattle.timing_reach.specs.declared.steps.failure.Failure.{Failure}
-use Rattle.timing_reach.specs.Asked.{OnFlow, ReadsFlow}
+use Rattle.timing_base.specs.declared.capture.FileNote.{FileNote}
+use Rattle.udp_rtp.specs.Flow.{flow}
+use Rattle.timing_steps.specs.Answers.{Answer}
+use Rattle.timing_steps.specs.Flows.{flow_query}
+use Rattle.timing_steps.specs.Queries.{Query}
+use Rattle.timing_reach.specs.Asked.{OnRun}
 use Rattle.timing_reach.specs.Shapes.{HasShape}
 
--- the answer of `shape` for the flow of this media, over a capture with these contents
-abbrev pub HasShapeIn : ShapeJob → Media → (text : List ℕ) → Answer → Type 0
-HasShapeIn job m text answer = OnFlow job.flow.tai m (HasShape job.list job.flow.tai job.kind m) text answer
+-- the answer of `shape` for the flow of this media in a capture with these packet records, however it ends
+abbrev pub DefinesShape : ShapeJob → Media → List Record → FileNote → Answer → Type 0
+DefinesShape job m items note answer =
+    OnRun m (HasShape job.list job.flow.tai job.kind m items) (judged (flow items m) m.pt job.flow.tai) answer
 
--- `shape` reads the SDP, then the capture
-abbrev pub FollowsShape : ShapeJob → Inputs → Result Answer Failure → Type 0
-FollowsShape job i outcome = Yields outcome (ReadsSession i outcome job.flow.sdp (λ media.
-    ReadsFlow i outcome job.flow (HasShapeIn job) (slice_get media job.flow.media)))
+-- what `shape` asks
+abbrev pub shape_query : ShapeJob → Query
+shape_query job = flow_query job.flow (DefinesShape job)

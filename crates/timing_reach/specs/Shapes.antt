@@ -16,7 +16,7 @@ use Rattle.timing_base.specs.Judged.{JudgedRun}
 use Rattle.timing_base.specs.Media.{Media}
 use Rattle.timing_base.specs.declared.media.Kind.{Kind}
 use Rattle.timing_report.specs.declared.status.Status.TheVariants as status
-use Rattle.timing_reach.specs.steps.Answers.{Answer}
+use Rattle.timing_steps.specs.Answers.{Answer}
 use Rattle.udp_rtp.specs.Flow.{flow_packet}
 
 -- the first instant of TAI that a capture can't have as a timestamp if its clock is `tai` seconds behind, in

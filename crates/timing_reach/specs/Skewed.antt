@@ -2,8 +2,8 @@
 -- one capture or two. Two flows that carry the same packets on two paths (SMPTE ST 2022-7; RFC 7104) are compared. The
 -- first flow is in the first capture, the second in the last. Captures and media count from 0, packet records from 1;
 -- skews are nanoseconds. This project's profile.
-use Rattle.std.specs.Prelude.{◌≡◌, ◌+◌, ◌-◌, ◌==◌, ◌||◌, if◌then◌else◌, ℕ, Bool, List, [], ◌++◌, length, slice_get}
-use Rattle.std.specs.Prelude.{slice_index_or, Option, Some, None, Result, codes}
+use Rattle.std.specs.Prelude.{◌≡◌, ◌+◌, ◌-◌, ◌==◌, ◌||◌, if◌then◌else◌, ℕ, Bool, false, List, [], ◌++◌, length}
+use Rattle.std.specs.Prelude.{slice_get, slice_index_or, Option, Some, None, codes}
 use Rattle.std.specs.Fmt.{decimal, signed_decimal}
 use Rattle.std.specs.List.{list_any}
 use Rattle.timing_base.specs.Captures.{Record}
@@ -13,18 +13,14 @@ use Rattle.timing_base.specs.declared.capture.FileNote.{FileNote}
 use Rattle.path_skew.specs.Pair.{skew}
 use Rattle.path_skew.specs.declared.row.Extreme.{Extreme}
 use Rattle.path_skew.specs.declared.row.SkewRow.{SkewRow}
-use Rattle.pcap_reader.specs.Records.{AreRecords}
 use Rattle.udp_rtp.specs.Flow.{flow}
 use Rattle.timing_report.specs.Outcomes.{is_refused}
 use Rattle.timing_report.specs.Text.{files_lines, text_of_lines}
-use Rattle.timing_report.specs.declared.status.Input.{Input}
-use Rattle.timing_report.specs.declared.status.Input.TheVariants as input
 use Rattle.timing_report.specs.declared.status.Status.{Status}
 use Rattle.timing_report.specs.declared.status.Status.TheVariants as status
-use Rattle.timing_reach.specs.steps.Answers.{Answer, CaptureRose, Gives, HasRisen, Inputs, ReadsCaptures, ReadsSession}
-use Rattle.timing_reach.specs.steps.Answers.{Yields}
-use Rattle.timing_reach.specs.declared.steps.failure.Failure.{Failure}
-use Rattle.timing_reach.specs.Asked.{no_such_media}
+use Rattle.timing_steps.specs.Answers.{Answer}
+use Rattle.timing_steps.specs.Flows.{OnMedia, no_media, no_such_media}
+use Rattle.timing_steps.specs.Queries.{Query}
 
 -- `pair 1.A F.B: `; F is the number of captures
 abbrev pub pair_head : SkewJob → List ℕ
@@ -71,27 +67,19 @@ first_of files = slice_index_or files 0 []
 abbrev pub last_of : List (List Record) → List Record
 last_of files = slice_index_or files (length files - 1) []
 
--- the answer of `skew` for these two media, over captures with these contents
-pub record HasSkew (job : SkewJob) (a b : Media) (texts : List (List ℕ)) (answer : Answer) : Type 0 where
-  pub files : List (List Record)
-  pub notes : List FileNote
-  pub records : AreRecords texts files notes
-  pub answer_is : answer ≡ skewed job notes (skew (flow (first_of files) a) (flow (last_of files) b))
+-- the answer if the SDP doesn't have one of the media
+abbrev pub no_pair : (first second : Option Media) → Option Answer
+no_pair None second = Some no_such_media
+no_pair (Some a) second = no_media second
 
--- if the SDP doesn't have one of the media, no capture is read; else the captures are read
-abbrev pub ReadsPair : Inputs → Result Answer Failure → SkewJob → (first second : Option Media) → Type 0
-ReadsPair i outcome job (Some a) (Some b) =
-    ReadsCaptures i outcome job.captures (λ texts. Gives outcome (HasSkew job a b texts))
-ReadsPair i outcome job None second = Gives outcome (λ answer. answer ≡ no_such_media)
-ReadsPair i outcome job (Some a) None = Gives outcome (λ answer. answer ≡ no_such_media)
-
--- `skew` reads the SDP, then the captures
-abbrev pub FollowsSkew : SkewJob → Inputs → Result Answer Failure → Type 0
-FollowsSkew job i outcome = Yields outcome (ReadsSession i outcome job.sdp (λ media.
-    ReadsPair i outcome job (slice_get media job.media) (slice_get media job.pair)))
-
--- the count of faults of the name of this input rose
-abbrev pub SkewInputRose : SkewJob → Inputs → Input → Type 0
-SkewInputRose job i input.Sdp = HasRisen i job.sdp
-SkewInputRose job i input.Report = ⊥
-SkewInputRose job i (input.Capture number) = CaptureRose i.before i.now job.captures number
+-- what `skew` asks: the captures are read if the SDP has both media
+abbrev pub skew_query : SkewJob → Query
+skew_query job = record {
+  sdp = job.sdp;
+  captures = job.captures;
+  early = λ media. no_pair (slice_get media job.media) (slice_get media job.pair);
+  Defines = λ media files notes answer.
+      OnMedia (slice_get media job.media) (λ a. OnMedia (slice_get media job.pair) (λ b.
+      answer ≡ skewed job notes (skew (flow (first_of files) a) (flow (last_of files) b))));
+  checks = false;
+}

@@ -1,19 +1,26 @@
--- The output of `window` for a flow that is judged in one run: for each sender type of SMPTE ST 2110-21 the offsets
--- with which the receiver buffer would neither underflow nor overflow. Offsets are microseconds, and judged packets
--- count from 0. This project's profile.
+-- The output and status of `window`, by the contents of its inputs: the SDP, then a capture. For a flow that is judged
+-- in one run the output has, for each sender type of SMPTE ST 2110-21, the offsets with which the receiver buffer would
+-- neither underflow nor overflow. Offsets are microseconds, and judged packets count from 0. This project's profile.
 use Rattle.std.specs.Prelude.{◌≡◌, ℕ, List, [], ◌++◌, Option, Some, None, codes}
 use Rattle.std.specs.Fmt.{decimal}
-use Rattle.timing_base.specs.Judged.{JudgedRun}
+use Rattle.timing_base.specs.Captures.{Record}
+use Rattle.timing_base.specs.Jobs.{FlowJob}
+use Rattle.timing_base.specs.Judged.{JudgedRun, judged}
 use Rattle.timing_base.specs.Media.{Media}
+use Rattle.timing_base.specs.declared.capture.FileNote.{FileNote}
 use Rattle.timing_base.specs.declared.media.Kind.{Kind}
 use Rattle.timing_base.specs.declared.media.Kind.TheVariants.{N, NL, W}
 use Rattle.offset_window.specs.Window.{IsWindow}
 use Rattle.offset_window.specs.declared.window.Window.{Window}
 use Rattle.offset_window.specs.declared.window.WindowEnd.{WindowEnd}
 use Rattle.offset_window.specs.declared.window.WindowEnd.TheVariants.{Absent, At}
+use Rattle.udp_rtp.specs.Flow.{flow}
 use Rattle.timing_report.specs.Words.{kind_name}
 use Rattle.timing_report.specs.declared.status.Status.TheVariants as status
-use Rattle.timing_reach.specs.steps.Answers.{Answer}
+use Rattle.timing_steps.specs.Answers.{Answer}
+use Rattle.timing_steps.specs.Flows.{flow_query}
+use Rattle.timing_steps.specs.Queries.{Query}
+use Rattle.timing_reach.specs.Asked.{OnRun}
 use Rattle.timing_reach.specs.declared.window.windows.Windows.{Windows}
 
 -- ` at packet I`, if a packet binds the end
@@ -46,3 +53,12 @@ pub record HasLines (m : Media) (run : JudgedRun) (answer : Answer) : Type 0 whe
   pub windows : Windows
   pub are : AreWindowsOf m run.n run.stamps windows
   pub answer_is : answer ≡ record { text = windows_text windows; status = status.Pass }
+
+-- the answer of `window` for the flow of this media in a capture with these packet records, however it ends; `tai` is
+-- in seconds
+abbrev pub DefinesWindow : (tai : ℕ) → Media → List Record → FileNote → Answer → Type 0
+DefinesWindow tai m items note answer = OnRun m (HasLines m) (judged (flow items m) m.pt tai) answer
+
+-- what `window` asks
+abbrev pub window_query : FlowJob → Query
+window_query job = flow_query job (DefinesWindow job.tai)

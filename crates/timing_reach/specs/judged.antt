@@ -1,3 +1,2 @@
 -- these serve only the proofs
 pub mod Flows
-pub mod Found

@@ -1,9 +1,5 @@
-//! The common parts of the commands on one flow: the media of a job is looked up in its SDP, and the packets of its
-//! flow are taken from its capture while that is read.
+//! The common parts of the commands on one flow: the packets of a flow are taken from its capture while that is read,
+//! and a flow that isn't judged in one run has its verdict as the answer.
 
-pub mod captures;
 pub mod flows;
-mod media;
 pub mod words;
-
-pub use media::find_media;

@@ -2,11 +2,11 @@
 
 pub mod shapes;
 
-ghost use Rattle.std.specs.Prelude.{◌≡◌, ◌++◌, ◌∷◌, [], ℕ, List, None, codes, map, pos, negsuc, true, false};
+ghost use Rattle.std.specs.Prelude.{◌≡◌, ◌++◌, ◌∷◌, [], ℕ, List, All, None, codes, map, pos, negsuc, true, false};
 ghost use Rattle.timing_base.specs.Captures.{Record};
-ghost use Rattle.timing_base.specs.Jobs.{ScanJob, SkewJob};
+ghost use Rattle.timing_base.specs.Jobs.{FlowJob, ScanJob, SkewJob};
 ghost use Rattle.timing_base.specs.Judged.{FlowRun, in_one_run, in_runs, judged, no_whole_frame};
-ghost use Rattle.timing_base.specs.Media.{Media};
+ghost use Rattle.timing_base.specs.Media.{IsMedia, Media};
 ghost use Rattle.timing_base.specs.declared.capture.FileNote.TheVariants as note;
 ghost use Rattle.timing_base.specs.declared.media.Kind.TheVariants.{N, NL, W};
 ghost use Rattle.timing_base.specs.declared.row.Verdict.TheVariants as verdict;
@@ -15,19 +15,22 @@ ghost use Rattle.offset_window.specs.declared.window.WindowEnd.TheVariants.{Abse
 ghost use Rattle.path_skew.specs.Examples.{at_records, told};
 ghost use Rattle.sender_params.specs.Worked.{hd_50};
 ghost use Rattle.timing_report.specs.declared.status.Status.TheVariants as status;
-ghost use Rattle.timing_reach.specs.steps.Answers.{Answer};
-ghost use Rattle.timing_reach.specs.Asked.{HasWindow, OnRun, no_such_media, not_judged};
+ghost use Rattle.timing_steps.specs.Answers.{Answer};
+ghost use Rattle.timing_steps.specs.Flows.{no_such_media};
+ghost use Rattle.timing_steps.specs.Queries.{HasAnswer};
+ghost use Rattle.timing_reach.specs.Asked.{OnRun, not_judged};
 ghost use Rattle.timing_reach.specs.Scanned.{HasScan};
-ghost use Rattle.timing_reach.specs.Skewed.{HasSkew, first_of, last_of, skew_status, skewed};
-ghost use Rattle.timing_reach.specs.Windows.{HasLines, window_line};
+ghost use Rattle.timing_reach.specs.Skewed.{first_of, last_of, skew_query, skew_status, skewed};
+ghost use Rattle.timing_reach.specs.Windows.{HasLines, window_line, window_query};
 ghost use Rattle.timing_reach.specs.Worked.{bound_at, from_to, narrow_frame, pair_of};
 
-/// The contents of the inputs of `window` have exactly one answer.
+/// The capture of `window` has exactly one answer, if the SDP has the media.
 pub fn one_window_answer()
-    ensures some { (tai : ℕ) (media : Media) (text : List ℕ)
-        → (answer : Answer) × HasWindow tai media text answer }
-    ensures once { (tai : ℕ) (media : Media) (text : List ℕ) (a b : Answer)
-        → HasWindow tai media text a → HasWindow tai media text b → a ≡ b }
+    ensures some { (job : FlowJob) (media : List Media) (texts : List (List ℕ))
+        → (window_query job).early media ≡ None
+        → (answer : Answer) × HasAnswer (window_query job) media texts answer }
+    ensures once { (job : FlowJob) (media : List Media) (texts : List (List ℕ)) (a b : Answer)
+        → HasAnswer (window_query job) media texts a → HasAnswer (window_query job) media texts b → a ≡ b }
 {}
 
 /// The answer for a frame of a narrow sender, at 50 frames per second with 20 packets in a frame.
@@ -72,12 +75,13 @@ pub fn unjudged_by_hand()
         → answer ≡ not_judged media (verdict.Runs (map (run_of media) runs)) }
 {}
 
-/// The contents of the inputs of `skew` have exactly one answer.
+/// The captures of `skew` have exactly one answer, if the SDP has both media.
 pub fn one_skew_answer()
-    ensures some { (job : SkewJob) (a b : Media) (texts : List (List ℕ))
-        → (answer : Answer) × HasSkew job a b texts answer }
-    ensures once { (job : SkewJob) (a b : Media) (texts : List (List ℕ)) (x y : Answer)
-        → HasSkew job a b texts x → HasSkew job a b texts y → x ≡ y }
+    ensures some { (job : SkewJob) (media : List Media) (texts : List (List ℕ)) → All IsMedia media
+        → (skew_query job).early media ≡ None
+        → (answer : Answer) × HasAnswer (skew_query job) media texts answer }
+    ensures once { (job : SkewJob) (media : List Media) (texts : List (List ℕ)) (x y : Answer)
+        → HasAnswer (skew_query job) media texts x → HasAnswer (skew_query job) media texts y → x ≡ y }
 {}
 
 /// A path and a longer one, in either order; and captures without a packet of the second flow.

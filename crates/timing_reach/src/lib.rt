@@ -14,7 +14,6 @@
 //! - `judged`: the common parts of the commands on one flow.
 //! - `laws`: contents have one answer; what `shape` writes is read back; answers that are worked by hand.
 //! - `scan`, `shape`, `skew`, `window`: the commands.
-//! - `steps`: the common steps of all commands: opening inputs, taking packet records, and printing.
 #![tactic(auto)]
 
 pub mod judged;
@@ -22,10 +21,9 @@ pub mod laws;
 mod scan;
 mod shape;
 mod skew;
-pub mod steps;
 mod window;
 
 pub use scan::scan_one;
-pub use shape::shape_one;
-pub use skew::skew_one;
-pub use window::window_one;
+pub use shape::ShapeCommand;
+pub use skew::SkewCommand;
+pub use window::WindowCommand;

@@ -7,20 +7,19 @@ ghost use Rattle.capture_scan.specs.report.Contents.{contents_of};
 ghost use Rattle.timing_outside.specs.Causes.{Rose};
 ghost use Rattle.timing_outside.specs.Shelves.{StaysAs};
 ghost use Rattle.pcapng_reader.specs.Classic.{classic_texts};
-ghost use Rattle.timing_reach.specs.steps.Answers.{OnReadFault, seen_of};
-ghost use Rattle.timing_reach.specs.steps.Ends.{EndsWith, HasStatus};
-ghost use Rattle.timing_reach.specs.steps.Ran.{HasCause, Ran, output_of};
+ghost use Rattle.timing_steps.specs.Answers.{OnReadFault, seen_of};
+ghost use Rattle.timing_steps.specs.Ends.{EndsWith, HasStatus};
+ghost use Rattle.timing_steps.specs.Ran.{HasCause, Ran, output_of};
 ghost use Rattle.timing_reach.specs.Scanned.{FollowsScan, ScanInputRose, scan_ends, scanned};
 ghost use Rattle.timing_reach.specs.scan.Scanning.{IsScannedIn};
 
-use crate::judged::captures::take_capture;
 use crate::scan::words::scanned;
-use crate::steps::{Answer, Failure, conclude};
 use capture_scan::{Found, Scan};
 use std::alloc::Global;
 use timing_base::{FileNote, ScanJob};
 use timing_outside::{Shelf, Sink};
 use timing_report::{Input, Status};
+use timing_steps::{Answer, Failure, conclude, take_capture};
 
 /// The result of a scan.
 #[derive(Drop)]

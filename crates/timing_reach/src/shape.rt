@@ -9,31 +9,30 @@ mod shaping;
 mod walk;
 mod words;
 
-ghost use Rattle.std.specs.Prelude.{◌≡◌, ◌≤◌, Bool, List, Some, IfErr, IfOk, ℕ};
+ghost use Rattle.std.specs.Prelude.{◌≡◌, ◌≤◌, ◌∷◌, [], Bool, List, None, Some, IfErr, IfOk, ℕ, false, slice_get, true};
 ghost use Rattle.timing_base.specs.Captures.{Record};
 ghost use Rattle.timing_base.specs.Judged.{judged};
 ghost use Rattle.timing_outside.specs.Causes.{Rose};
 ghost use Rattle.timing_outside.specs.Shelves.{StaysAs};
 ghost use Rattle.pcapng_reader.specs.Classic.{classic_texts};
 ghost use Rattle.udp_rtp.specs.Flow.{flow};
-ghost use Rattle.timing_reach.specs.steps.Answers.{Gives, OnReadFault, Yields, seen_of};
-ghost use Rattle.timing_reach.specs.steps.Ends.{EndsWith, HasStatus, look_ends};
-ghost use Rattle.timing_reach.specs.steps.Ran.{HasCause, Ran, output_of};
-ghost use Rattle.timing_reach.specs.Asked.{FlowInputRose, OnRun, ReadsCapture};
-ghost use Rattle.timing_reach.specs.Shaped.{FollowsShape, HasShapeIn};
+ghost use Rattle.timing_steps.specs.Answers.{CaptureRose, OnReadFault, seen_of};
+ghost use Rattle.timing_steps.specs.Flows.{OnMedia, no_media};
+ghost use Rattle.timing_steps.specs.Queries.{FollowsCaptures, judged_ends};
+ghost use Rattle.timing_reach.specs.Asked.{OnRun};
+ghost use Rattle.timing_reach.specs.Shaped.{shape_query};
 ghost use Rattle.timing_reach.specs.Shapes.{HasShape};
 ghost use Rattle.timing_reach.specs.shape.Readings.{AnswersSome, IsKeptFlow, IsKeptIn, IsRead};
 
-use crate::judged::find_media;
 use crate::judged::flows::take_flow;
 use crate::judged::words::not_judged;
 use crate::shape::reading::{KeptFlow, Reading};
 use crate::shape::shaping::shape_kept;
-use crate::steps::{Answer, Failure, conclude};
 use std::alloc::{AllocError as OutOfMemory, Global};
-use timing_base::{Kind, Media, ShapeJob, Verdict};
+use timing_base::{FileName, Kind, Media, Session, ShapeJob, Verdict};
 use timing_outside::{Shelf, Sink};
-use timing_report::{Input, Status};
+use timing_report::Input;
+use timing_steps::{Answer, Command, Failure, early_of_media, media_of};
 
 /// Returns the answer for a flow that is kept: its shaped packets if it is judged in one run, else its verdict.
 fn told_of(
@@ -45,7 +44,7 @@ fn told_of(
 ) -> Result<Answer, OutOfMemory>
     requires tai { tai ≤ 1000 }
     requires read { (list : Bool) × IsRead media.now tai list kept }
-    ensures answered { IfOk result (HasStatus look_ends) }
+    ensures ends { IfOk result (λ answer. judged_ends false answer.status ≡ true) }
     ensures answers { IfOk result (λ answer. (list : Bool) (items : List Record)
         → IsKeptFlow media.now tai list items kept
         → OnRun media.now (HasShape list tai kind media.now items)
@@ -86,71 +85,75 @@ fn answer_kept(
     job: &ShapeJob,
     media: &Media,
     kept: KeptFlow,
-) -> Result<Answer, Failure>
+) -> Result<Answer, OutOfMemory>
     requires { IsRead media.now job.now.flow.tai job.now.list kept }
-    ensures answered { IfOk result (HasStatus look_ends) }
+    ensures ends { IfOk result (λ answer. judged_ends false answer.status ≡ true) }
     ensures some { IfOk result (λ answer. AnswersSome job.now media.now answer) }
-    ensures answers { IfOk result (λ answer. (text : List ℕ)
-        → IsKeptIn media.now job.now.flow.tai job.now.list text kept
-        → HasShapeIn job.now media.now text answer) }
-    ensures cause { IfErr result (λ e. OnReadFault e (λ _. ⊥)) }
+    ensures answers { IfOk result (λ answer. (items : List Record)
+        → IsKeptFlow media.now job.now.flow.tai job.now.list items kept
+        → OnRun media.now (HasShape job.now.list job.now.flow.tai job.now.kind media.now items)
+        (judged (flow items media.now) media.now.pt job.now.flow.tai) answer) }
 {
     let flow = &job.flow;
-    Ok(told_of(alloc, media, job.kind, flow.tai, kept)?)
+    told_of(alloc, media, job.kind, flow.tai, kept)
 }
 
-/// Returns the answer for the flow of this media, from the packet records that were read, also if the contents of the
-/// capture aren't known.
-fn answer_on<H: Shelf>(
+/// Returns the answer for the flow of the media of a job, or the reason why there is none. The answer is that for the
+/// packet records that were read, also if the contents of the capture aren't known.
+fn answer_shape<H: Shelf>(
     alloc: Global,
     job: &ShapeJob,
+    session: &Session,
     shelf: &mut H,
-    media: &Media,
 ) -> Result<Answer, Failure>
-    ensures follows { Yields result (ReadsCapture (seen_of H.Shelf shelf.old shelf.new)
-        result job.now.flow.capture (λ text. Gives result (HasShapeIn job.now media.now text))) }
-    ensures some { IfOk result (λ answer. AnswersSome job.now media.now answer) }
-    ensures answers { IfOk result (HasStatus look_ends) }
-    ensures cause { HasCause result
-        (FlowInputRose job.now.flow (seen_of H.Shelf shelf.old shelf.new)) }
+    requires { no_media (slice_get session.now job.now.flow.media) ≡ None }
+    ensures follows { FollowsCaptures (shape_query job.now) session.now
+        (seen_of H.Shelf shelf.old shelf.new) result }
+    ensures some { IfOk result (λ answer.
+        OnMedia (slice_get session.now job.now.flow.media) (λ m. AnswersSome job.now m answer)) }
+    ensures ends { IfOk result (λ answer. judged_ends false answer.status ≡ true) }
+    ensures cause { IfErr result (λ e. OnReadFault e (λ i. (number : ℕ) × (i ≡ Input.Capture number)
+        × CaptureRose (H.faults shelf.old) (H.faults shelf.new) (job.now.flow.capture ∷ []) number)) }
     ensures stays { StaysAs H.text H.lacks H.faults shelf.old shelf.new }
 {
+    let flow = &job.flow;
+    let media = media_of(session, flow.media);
     let kept = read(alloc, job, shelf, media)?;
-    answer_kept(alloc, job, media, kept)
+    Ok(answer_kept(alloc, job, media, kept)?)
 }
 
-/// Returns the answer of a job, or the reason why there is none.
-fn answer_shape<H: Shelf>(alloc: Global, job: &ShapeJob, shelf: &mut H) -> Result<Answer, Failure>
-    ensures follows { FollowsShape job.now (seen_of H.Shelf shelf.old shelf.new) result }
-    ensures answers { IfOk result (HasStatus look_ends) }
-    ensures cause { HasCause result
-        (FlowInputRose job.now.flow (seen_of H.Shelf shelf.old shelf.new)) }
-    ensures stays { StaysAs H.text H.lacks H.faults shelf.old shelf.new }
-{
-    match find_media(alloc, &job.flow, shelf)? {
-        Ok(media) => answer_on(alloc, job, shelf, &media),
-        Err(answer) => Ok(answer),
+/// The command `shape`: prints the flow of a job as a capture in which its judged packets leave as early as the limits
+/// of a sender type allow, or the list of those that are delayed.
+#[derive(Drop)]
+pub struct ShapeCommand {
+    /// The flow, the sender type, and the form of the output.
+    pub job: ShapeJob,
+}
+
+impl Command for ShapeCommand {
+    ghost use Rattle.timing_reach.specs.Shaped.{shape_query};
+
+    ghost query = { λ command. shape_query command.job };
+
+    ghost streams = { false };
+
+    fn sdp(&self) -> &FileName {
+        let flow = &self.job.flow;
+        &flow.sdp
     }
-}
 
-/// Runs `shape`: prints on `out` the flow of a job as a capture in which its judged packets leave as early as the
-/// limits of a sender type allow, or the list of those that are delayed. Prints on `err` the reason if there is no
-/// output.
-pub fn shape_one<H: Shelf, K: Sink>(
-    alloc: Global,
-    job: &ShapeJob,
-    shelf: &mut H,
-    out: &mut K,
-    err: &mut K,
-) -> Status
-    ensures ran { Ran (FollowsShape job.now (seen_of H.Shelf shelf.old shelf.new))
-        (FlowInputRose job.now.flow (seen_of H.Shelf shelf.old shelf.new))
-        (output_of K.Sink out.old out.new)
-        (output_of K.Sink err.old err.new)
-        result }
-    ensures ends { EndsWith look_ends (output_of K.Sink out.old out.new) result }
-    ensures stays { StaysAs H.text H.lacks H.faults shelf.old shelf.new }
-{
-    let outcome = answer_shape(alloc, job, shelf);
-    conclude(out, err, outcome)
+    fn early(&self, alloc: Global, session: &Session) -> Result<Option<Answer>, OutOfMemory> {
+        let flow = &self.job.flow;
+        early_of_media(alloc, session, flow.media)
+    }
+
+    fn answer<H: Shelf, K: Sink>(
+        &self,
+        alloc: Global,
+        session: &Session,
+        shelf: &mut H,
+        _out: &mut K,
+    ) -> Result<Answer, Failure> {
+        answer_shape(alloc, &self.job, session, shelf)
+    }
 }

@@ -5,34 +5,33 @@ mod meters;
 mod reading;
 mod windows;
 
-ghost use Rattle.std.specs.Prelude.{◌≡◌, ℕ, List, Some, IfErr, IfOk};
+ghost use Rattle.std.specs.Prelude.{◌≡◌, ◌∷◌, [], ℕ, List, None, Some, IfErr, IfOk, false, slice_get, true};
 ghost use Rattle.timing_base.specs.Judged.{judged};
 ghost use Rattle.timing_base.specs.declared.packet.FlowPacket.{FlowPacket as PacketValue};
 ghost use Rattle.timing_outside.specs.Causes.{Rose};
 ghost use Rattle.timing_outside.specs.Shelves.{StaysAs};
 ghost use Rattle.pcapng_reader.specs.Classic.{classic_texts};
-ghost use Rattle.timing_reach.specs.steps.Answers.{Gives, OnReadFault, Yields, seen_of};
-ghost use Rattle.timing_reach.specs.steps.Ends.{EndsWith, HasStatus, look_ends};
-ghost use Rattle.timing_reach.specs.steps.Ran.{HasCause, Ran, output_of};
-ghost use Rattle.timing_reach.specs.Asked.{FlowInputRose, FollowsWindow, HasWindow, OnRun, ReadsCapture};
-ghost use Rattle.timing_reach.specs.Windows.{HasLines};
+ghost use Rattle.timing_steps.specs.Answers.{CaptureRose, OnReadFault, seen_of};
+ghost use Rattle.timing_steps.specs.Flows.{no_media};
+ghost use Rattle.timing_steps.specs.Queries.{FollowsCaptures, judged_ends};
+ghost use Rattle.timing_reach.specs.Asked.{OnRun};
+ghost use Rattle.timing_reach.specs.Windows.{HasLines, window_query};
 ghost use Rattle.timing_reach.specs.window.Readings.{HasWindows, IsMeasured, IsMeasuredIn};
 
-use crate::judged::find_media;
 use crate::judged::flows::take_flow;
 use crate::judged::words::not_judged;
-use crate::steps::{Answer, Failure, conclude};
 use crate::window::reading::{Measured, Reading};
 use crate::window::windows::windowed;
 use std::alloc::{AllocError as OutOfMemory, Global};
-use timing_base::{FlowJob, Media, Verdict};
+use timing_base::{FileName, FlowJob, Media, Session, Verdict};
 use timing_outside::{Shelf, Sink};
-use timing_report::{Input, Status};
+use timing_report::Input;
+use timing_steps::{Answer, Command, Failure, early_of_media, media_of};
 
 /// Returns the lines for a flow that is judged in one run, or the verdict on any other.
 fn told_of(alloc: Global, media: &Media, measured: &Measured) -> Result<Answer, OutOfMemory>
     requires { HasWindows measured.now }
-    ensures answered { IfOk result (HasStatus look_ends) }
+    ensures ends { IfOk result (λ answer. judged_ends false answer.status ≡ true) }
     ensures answers { IfOk result (λ answer. (tai : ℕ) (packets : List PacketValue)
         → IsMeasured media.now tai packets measured.now
         → OnRun media.now (HasLines media.now) (judged packets media.now.pt tai) answer) }
@@ -41,18 +40,6 @@ fn told_of(alloc: Global, media: &Media, measured: &Measured) -> Result<Answer, 
         Verdict::Judged(_) => windowed(alloc, &measured.windows.unwrap()),
         verdict => not_judged(alloc, media, verdict),
     }
-}
-
-/// Returns the answer for a flow that was read with this result.
-fn answer_measured(alloc: Global, media: &Media, measured: &Measured) -> Result<Answer, Failure>
-    requires { HasWindows measured.now }
-    ensures answered { IfOk result (HasStatus look_ends) }
-    ensures answers { IfOk result (λ answer. (tai : ℕ) (packets : List PacketValue)
-        → IsMeasured media.now tai packets measured.now
-        → OnRun media.now (HasLines media.now) (judged packets media.now.pt tai) answer) }
-    ensures cause { IfErr result (λ e. OnReadFault e (λ _. ⊥)) }
-{
-    Ok(told_of(alloc, media, measured)?)
 }
 
 /// Opens the capture of a job, reads its flow, and measures the flow while it is judged.
@@ -76,55 +63,57 @@ fn measure<H: Shelf>(
     Ok(reading.finish()?)
 }
 
-/// Returns the answer for the flow of this media.
-fn answer_on<H: Shelf>(
+/// Returns the answer for the flow of the media of a job, or the reason why there is none.
+fn answer_window<H: Shelf>(
     alloc: Global,
     job: &FlowJob,
+    session: &Session,
     shelf: &mut H,
-    media: &Media,
 ) -> Result<Answer, Failure>
-    ensures follows { Yields result (ReadsCapture (seen_of H.Shelf shelf.old shelf.new)
-        result job.now.capture (λ text. Gives result (HasWindow job.now.tai media.now text))) }
-    ensures answers { IfOk result (HasStatus look_ends) }
-    ensures cause { HasCause result
-        (FlowInputRose job.now (seen_of H.Shelf shelf.old shelf.new)) }
+    requires { no_media (slice_get session.now job.now.media) ≡ None }
+    ensures follows { FollowsCaptures (window_query job.now) session.now
+        (seen_of H.Shelf shelf.old shelf.new) result }
+    ensures ends { IfOk result (λ answer. judged_ends false answer.status ≡ true) }
+    ensures cause { IfErr result (λ e. OnReadFault e (λ i. (number : ℕ) × (i ≡ Input.Capture number)
+        × CaptureRose (H.faults shelf.old) (H.faults shelf.new) (job.now.capture ∷ []) number)) }
     ensures stays { StaysAs H.text H.lacks H.faults shelf.old shelf.new }
 {
+    let media = media_of(session, job.media);
     let measured = measure(alloc, job, shelf, media)?;
-    answer_measured(alloc, media, &measured)
+    Ok(told_of(alloc, media, &measured)?)
 }
 
-/// Returns the answer of a job, or the reason why there is none.
-fn answer_window<H: Shelf>(alloc: Global, job: &FlowJob, shelf: &mut H) -> Result<Answer, Failure>
-    ensures follows { FollowsWindow job.now (seen_of H.Shelf shelf.old shelf.new) result }
-    ensures answers { IfOk result (HasStatus look_ends) }
-    ensures cause { HasCause result
-        (FlowInputRose job.now (seen_of H.Shelf shelf.old shelf.new)) }
-    ensures stays { StaysAs H.text H.lacks H.faults shelf.old shelf.new }
-{
-    match find_media(alloc, job, shelf)? {
-        Ok(media) => answer_on(alloc, job, shelf, &media),
-        Err(answer) => Ok(answer),
+/// The command `window`: prints, for each sender type, the offsets with which the receiver buffer of a flow would
+/// neither underflow nor overflow.
+#[derive(Drop)]
+pub struct WindowCommand {
+    /// The flow.
+    pub job: FlowJob,
+}
+
+impl Command for WindowCommand {
+    ghost use Rattle.timing_reach.specs.Windows.{window_query};
+
+    ghost query = { λ command. window_query command.job };
+
+    ghost streams = { false };
+
+    fn sdp(&self) -> &FileName {
+        let job = &self.job;
+        &job.sdp
     }
-}
 
-/// Runs `window`: prints on `out`, for each sender type, the offsets with which the receiver buffer of a flow would
-/// neither underflow nor overflow. Prints on `err` the reason if there is no output.
-pub fn window_one<H: Shelf, K: Sink>(
-    alloc: Global,
-    job: &FlowJob,
-    shelf: &mut H,
-    out: &mut K,
-    err: &mut K,
-) -> Status
-    ensures ran { Ran (FollowsWindow job.now (seen_of H.Shelf shelf.old shelf.new))
-        (FlowInputRose job.now (seen_of H.Shelf shelf.old shelf.new))
-        (output_of K.Sink out.old out.new)
-        (output_of K.Sink err.old err.new)
-        result }
-    ensures ends { EndsWith look_ends (output_of K.Sink out.old out.new) result }
-    ensures stays { StaysAs H.text H.lacks H.faults shelf.old shelf.new }
-{
-    let outcome = answer_window(alloc, job, shelf);
-    conclude(out, err, outcome)
+    fn early(&self, alloc: Global, session: &Session) -> Result<Option<Answer>, OutOfMemory> {
+        early_of_media(alloc, session, self.job.media)
+    }
+
+    fn answer<H: Shelf, K: Sink>(
+        &self,
+        alloc: Global,
+        session: &Session,
+        shelf: &mut H,
+        _out: &mut K,
+    ) -> Result<Answer, Failure> {
+        answer_window(alloc, &self.job, session, shelf)
+    }
 }

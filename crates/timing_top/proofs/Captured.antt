@@ -8,10 +8,10 @@ use Rattle.pcapng_reader.specs.Classic.{classic_texts}
 use Rattle.pcapng_reader.specs.Sources.{faults_of, left_of, name_of}
 use Rattle.pcapng_reader.specs.declared.source.Classic.{Classic}
 use Rattle.timing_report.specs.declared.status.Input.TheVariants.{Capture}
-use Rattle.timing_reach.specs.steps.Answers.{AreTold, OnReadFault}
-use Rattle.timing_reach.specs.steps.Fetched.{AreFetched, Reading}
-use Rattle.timing_reach.specs.declared.steps.failure.Failure.{Failure}
-use Rattle.timing_reach.proofs.lemmas.steps.Readings.{reading-all, reading-at, reading-next, reading-start, reading-stopped}
+use Rattle.timing_steps.specs.Answers.{AreTold, OnReadFault}
+use Rattle.timing_steps.specs.Fetched.{AreFetched, Reading}
+use Rattle.timing_steps.specs.declared.failure.Failure.{Failure}
+use Rattle.timing_steps.proofs.Readings.{reading-all, reading-at, reading-next, reading-start, reading-stopped}
 
 -- of all captures that were fetched so many were read since the shelf was `first`, and this holds of their texts; the
 -- sources of the others are ahead. Or one couldn't be read

@@ -11,8 +11,8 @@ use Rattle.timing_outside.specs.Causes.{Rose}
 use Rattle.flow_worker.specs.crew.Judging.{AreBack, AreTexts}
 use Rattle.timing_report.specs.Outcomes.{AreOfSession}
 use Rattle.timing_report.proofs.Keys.{keys_within}
-use Rattle.timing_reach.specs.steps.Answers.{AreTold, CaptureRose}
-use Rattle.timing_reach.specs.steps.Fetched.{AreFetched}
+use Rattle.timing_steps.specs.Answers.{AreTold, CaptureRose}
+use Rattle.timing_steps.specs.Fetched.{AreFetched}
 
 -- what is there
 pub some-at : {T : Type 0} (o : Option T) (x : T) (P : T → Type 0) → o ≡ Some x → IfSome o P → P x

@@ -1,60 +1,62 @@
 -- How a run of a request ends, whatever its texts are.
-use Rattle.std.proofs.Common.{◌≡◌, ℕ, true, Some, None, Option, Ok, Err, refl, ap, ◌∙◌, sym, subst, inl, inr}
-use Rattle.std.specs.Prelude.{◌||◌, if◌then◌else◌, Bool, Result}
+use Rattle.std.proofs.Common.{◌≡◌, Bool, true, false, Some, None, Option, Ok, Err, refl, ap, ◌∙◌, sym, subst, inl, inr}
+use Rattle.std.specs.Prelude.{◌||◌, Result}
 use Rattle.std.proofs.lemmas.Bool.{false≢true}
-use Rattle.timing_base.specs.Jobs.{CaptureJob, CheckJob, FlowJob, ReportJob, ScanJob, SelfTestJob, SeriesJob, ShapeJob, SkewJob}
-use Rattle.timing_base.specs.Jobs.{VerifyJob}
+use Rattle.timing_base.specs.Jobs.{ReportJob, ScanJob, SelfTestJob}
 use Rattle.timing_words.specs.declared.command.Command.{Command}
 use Rattle.timing_words.specs.declared.request.Request.{Request}
 use Rattle.timing_words.specs.declared.request.Request.TheVariants as request
 use Rattle.timing_report.specs.declared.status.Status.{Status}
 use Rattle.timing_report.specs.declared.status.Status.TheVariants as status
-use Rattle.timing_reach.specs.steps.Answers.{Answer, silent}
-use Rattle.timing_reach.specs.steps.Ends.{EndsWith, check_ends, is_failure, is_silent, look_ends, report_ends}
-use Rattle.timing_reach.specs.steps.Ran.{Appended, Broke, HasCause, Leaves, Output, Ran}
-use Rattle.timing_reach.specs.declared.steps.failure.Failure.{Failure}
-use Rattle.timing_reach.specs.declared.steps.failure.Failure.TheVariants as failure
-use Rattle.timing_measure.specs.Measures.{measure_ends}
-use Rattle.timing_measure.specs.page.Pages.{page_ends}
+use Rattle.timing_steps.specs.Answers.{Answer, silent}
+use Rattle.timing_steps.specs.Ends.{EndsWith, is_failure}
+use Rattle.timing_steps.specs.Queries.{ends_of}
+use Rattle.timing_steps.specs.Ran.{Appended, Broke, HasCause, Leaves, Output, Ran}
+use Rattle.timing_steps.specs.Runs.{EndsAs}
+use Rattle.timing_steps.specs.declared.failure.Failure.{Failure}
+use Rattle.timing_steps.specs.declared.failure.Failure.TheVariants as failure
 use Rattle.timing_reach.specs.Scanned.{scan_ends}
-use Rattle.timing_top.specs.Asked.{FollowsHelp, FollowsSelfTest}
-use Rattle.timing_top.specs.Ends.{Ends, may_end, reads_inputs, reads_sdp}
-use Rattle.timing_top.specs.Runs.{prints_whole}
-use Rattle.timing_measure.specs.series.Streams.{StreamEnds, is_silent_stream}
-use Rattle.timing_reach.proofs.lemmas.steps.Endings.{kept-none}
-use Rattle.timing_top.proofs.Answering.{ok-not-err, same-ok}
+use Rattle.timing_top.specs.Asked.{FollowsHelp, FollowsSelfTest, is_command, query_of}
+use Rattle.timing_top.specs.Ends.{Ends, checks, may_end, reads_inputs, reads_sdp}
+use Rattle.timing_top.specs.Runs.{streams_of}
+use Rattle.timing_top.specs.verify.Verified.{report_ends}
+use Rattle.timing_steps.proofs.Endings.{kept-none}
+use Rattle.timing_steps.proofs.Onces.{ok-not-err, same-ok}
 use Rattle.timing_top.proofs.Headlines.{none-broke}
 
+-- what a request asked for ended
+abbrev EndsFor : Output → Status → Request → Type 0
+EndsFor o ends asked = Ends (Some asked) o ends
+
+-- a command reads an SDP, and ends with 1 only if its query checks
+command-reads : (run : Request) → is_command run ≡ true
+    → (reads_inputs (Some run) ≡ true) × (reads_sdp (Some run) ≡ true) × (checks (Some run) ≡ (query_of run).checks)
+command-reads (request.VerifyReport job) is = absurd (false≢true is)
+command-reads (request.SelfTest job) is = absurd (false≢true is)
+command-reads (request.Scan job) is = absurd (false≢true is)
+command-reads (request.Help named) is = absurd (false≢true is)
+command-reads run is = (refl, refl, refl)
+
 -- the statuses of a command are those of its request
-ends-as : (may : Status → Bool) (asked : Request) (o : Output) (ends : Status)
-    → prints_whole (Some asked) ≡ true → ((s : Status) → may s || is_failure s ≡ true → may_end (Some asked) s ≡ true) → EndsWith may o ends
-    → Ends (Some asked) o ends
-ends-as may asked o ends whole all h = record {
-  status_is = all ends h.status_is;
-  silent = λ e. h.silent (sym (ap (λ b. if b then is_silent ends else is_silent_stream ends) whole) ∙ e);
-}
+command-all : (run : Request) → is_command run ≡ true → (s : Status) → ends_of (query_of run) s || is_failure s ≡ true → may_end (Some run) s ≡ true
+command-all run is status.Pass h = refl
+command-all run is status.Fail h = (command-reads run is).2 ∙ or-false (query_of run).checks h
+  where
+    or-false : (b : Bool) → b || false ≡ true → b ≡ true
+    or-false true h = refl
+    or-false false h = h
+command-all run is status.Usage h = absurd (false≢true h)
+command-all run is (status.SdpRefused fault) h = (command-reads run is).1
+command-all run is status.NotAllJudged h = (command-reads run is).0
+command-all run is (status.ReadFault input) h = (command-reads run is).0
+command-all run is status.WriteFault h = refl
+command-all run is status.OutOfMemory h = refl
+command-all run is status.ReportRefused h = absurd (false≢true h)
 
-check-all : (job : CheckJob) (s : Status) → check_ends s || is_failure s ≡ true → may_end (Some (request.Check job)) s ≡ true
-check-all job status.Pass h = refl
-check-all job status.Fail h = refl
-check-all job status.Usage h = h
-check-all job (status.SdpRefused fault) h = refl
-check-all job status.NotAllJudged h = refl
-check-all job (status.ReadFault input) h = refl
-check-all job status.WriteFault h = refl
-check-all job status.OutOfMemory h = refl
-check-all job status.ReportRefused h = h
-
-verify-all : (job : VerifyJob) (s : Status) → check_ends s || is_failure s ≡ true → may_end (Some (request.Verify job)) s ≡ true
-verify-all job status.Pass h = refl
-verify-all job status.Fail h = refl
-verify-all job status.Usage h = h
-verify-all job (status.SdpRefused fault) h = refl
-verify-all job status.NotAllJudged h = refl
-verify-all job (status.ReadFault input) h = refl
-verify-all job status.WriteFault h = refl
-verify-all job status.OutOfMemory h = refl
-verify-all job status.ReportRefused h = h
+pub ends-command : (asked run : Request) (o : Output) (ends : Status) → asked ≡ run → is_command run ≡ true
+    → EndsAs (streams_of (Some run)) (query_of run) o ends → Ends (Some asked) o ends
+ends-command asked run o ends is command h =
+    subst (EndsFor o ends) (sym is) (record { status_is = command-all run command ends h.status_is; silent = h.silent })
 
 report-all : (job : ReportJob) (s : Status) → report_ends s || is_failure s ≡ true → may_end (Some (request.VerifyReport job)) s ≡ true
 report-all job status.Pass h = refl
@@ -67,19 +69,6 @@ report-all job status.WriteFault h = refl
 report-all job status.OutOfMemory h = refl
 report-all job status.ReportRefused h = refl
 
--- of a command that reads a description and looks into captures: `window`, `shape`, `skew`, `measure`, `series` and `page`
-look-all : (asked : Request) → reads_inputs (Some asked) ≡ true → reads_sdp (Some asked) ≡ true → (s : Status)
-    → look_ends s || is_failure s ≡ true → may_end (Some asked) s ≡ true
-look-all asked inputs sdp status.Pass h = refl
-look-all asked inputs sdp status.Fail h = absurd (false≢true h)
-look-all asked inputs sdp status.Usage h = h
-look-all asked inputs sdp (status.SdpRefused fault) h = sdp
-look-all asked inputs sdp status.NotAllJudged h = inputs
-look-all asked inputs sdp (status.ReadFault input) h = inputs
-look-all asked inputs sdp status.WriteFault h = refl
-look-all asked inputs sdp status.OutOfMemory h = refl
-look-all asked inputs sdp status.ReportRefused h = absurd (false≢true h)
-
 scan-all : (job : ScanJob) (s : Status) → scan_ends s || is_failure s ≡ true → may_end (Some (request.Scan job)) s ≡ true
 scan-all job status.Pass h = refl
 scan-all job status.Fail h = h
@@ -91,54 +80,14 @@ scan-all job status.WriteFault h = refl
 scan-all job status.OutOfMemory h = refl
 scan-all job status.ReportRefused h = h
 
--- what a request asked for ended
-abbrev EndsFor : Output → Status → Request → Type 0
-EndsFor o ends asked = Ends (Some asked) o ends
-
-pub ends-check : (asked : Request) (job : CheckJob) (o : Output) (ends : Status) → asked ≡ request.Check job → EndsWith check_ends o ends
-    → Ends (Some asked) o ends
-ends-check asked job o ends is h = subst (EndsFor o ends) (sym is) (ends-as check_ends (request.Check job) o ends refl (check-all job) h)
-
-pub ends-verify : (asked : Request) (job : VerifyJob) (o : Output) (ends : Status) → asked ≡ request.Verify job → EndsWith check_ends o ends
-    → Ends (Some asked) o ends
-ends-verify asked job o ends is h = subst (EndsFor o ends) (sym is) (ends-as check_ends (request.Verify job) o ends refl (verify-all job) h)
-
 pub ends-report : (asked : Request) (job : ReportJob) (o : Output) (ends : Status) → asked ≡ request.VerifyReport job → EndsWith report_ends o ends
     → Ends (Some asked) o ends
-ends-report asked job o ends is h = subst (EndsFor o ends) (sym is) (ends-as report_ends (request.VerifyReport job) o ends refl (report-all job) h)
-
-pub ends-window : (asked : Request) (job : FlowJob) (o : Output) (ends : Status) → asked ≡ request.Window job → EndsWith look_ends o ends
-    → Ends (Some asked) o ends
-ends-window asked job o ends is h =
-    subst (EndsFor o ends) (sym is) (ends-as look_ends (request.Window job) o ends refl (look-all (request.Window job) refl refl) h)
-
-pub ends-shape : (asked : Request) (job : ShapeJob) (o : Output) (ends : Status) → asked ≡ request.Shape job → EndsWith look_ends o ends
-    → Ends (Some asked) o ends
-ends-shape asked job o ends is h =
-    subst (EndsFor o ends) (sym is) (ends-as look_ends (request.Shape job) o ends refl (look-all (request.Shape job) refl refl) h)
-
-pub ends-skew : (asked : Request) (job : SkewJob) (o : Output) (ends : Status) → asked ≡ request.Skew job → EndsWith look_ends o ends
-    → Ends (Some asked) o ends
-ends-skew asked job o ends is h =
-    subst (EndsFor o ends) (sym is) (ends-as look_ends (request.Skew job) o ends refl (look-all (request.Skew job) refl refl) h)
+ends-report asked job o ends is h =
+    subst (EndsFor o ends) (sym is) (record { status_is = report-all job ends h.status_is; silent = h.silent })
 
 pub ends-scan : (asked : Request) (job : ScanJob) (o : Output) (ends : Status) → asked ≡ request.Scan job → EndsWith scan_ends o ends
     → Ends (Some asked) o ends
-ends-scan asked job o ends is h = subst (EndsFor o ends) (sym is) (ends-as scan_ends (request.Scan job) o ends refl (scan-all job) h)
-
-pub ends-measure : (asked : Request) (job : CaptureJob) (o : Output) (ends : Status) → asked ≡ request.Measure job → EndsWith measure_ends o ends
-    → Ends (Some asked) o ends
-ends-measure asked job o ends is h =
-    subst (EndsFor o ends) (sym is) (ends-as measure_ends (request.Measure job) o ends refl (look-all (request.Measure job) refl refl) h)
-
-pub ends-page : (asked : Request) (job : CaptureJob) (o : Output) (ends : Status) → asked ≡ request.Page job → EndsWith page_ends o ends
-    → Ends (Some asked) o ends
-ends-page asked job o ends is h =
-    subst (EndsFor o ends) (sym is) (ends-as page_ends (request.Page job) o ends refl (look-all (request.Page job) refl refl) h)
-
-pub ends-series : (asked : Request) (job : SeriesJob) (o : Output) (ends : Status) → asked ≡ request.Series job → StreamEnds o ends → Ends (Some asked) o ends
-ends-series asked job o ends is h =
-    subst (EndsFor o ends) (sym is) (record { status_is = look-all (request.Series job) refl refl ends h.status_is; silent = h.silent })
+ends-scan asked job o ends is h = subst (EndsFor o ends) (sym is) (record { status_is = scan-all job ends h.status_is; silent = h.silent })
 
 -- want of memory, whatever was asked
 pub ends-memory : (asked : Option Request) (o : Output) (ends : Status) → Leaves o (Err failure.OutOfMemory) ends → Ends asked o ends

@@ -14,17 +14,17 @@ use Rattle.sdp_reader.specs.declared.fault.SdpFault.{SdpFault}
 use Rattle.sdp_reader.proofs.Within.{session-within}
 use Rattle.timing_report.specs.declared.status.Status.{Status}
 use Rattle.timing_report.specs.declared.status.Status.TheVariants as status
-use Rattle.timing_reach.specs.steps.Answers.{Answer, AreTold, Gives, Inputs, OnSession, ReadsCaptures, silent}
-use Rattle.timing_reach.specs.steps.Ran.{Appended, Broke, HasCause, Leaves, Output, Ran}
-use Rattle.timing_reach.specs.declared.steps.failure.Failure.{Failure}
-use Rattle.timing_reach.specs.declared.steps.failure.Failure.TheVariants as failure
+use Rattle.timing_steps.specs.Answers.{Answer, AreTold, Gives, Inputs, OnSession, ReadsCaptures, silent}
+use Rattle.timing_steps.specs.Queries.{FollowsQuery, QueryInputRose}
+use Rattle.timing_steps.specs.Ran.{Appended, Broke, HasCause, Leaves, Output, Ran}
+use Rattle.timing_steps.specs.declared.failure.Failure.{Failure}
+use Rattle.timing_steps.specs.declared.failure.Failure.TheVariants as failure
 use Rattle.timing_words.specs.Request.{request as request_of}
 use Rattle.timing_words.proofs.Limits.{request-within}
 use Rattle.timing_top.specs.Asked.{Follows, FollowsAtOnce, InputRose}
-use Rattle.timing_top.specs.Check.{CheckInputRose, FollowsCheck}
 use Rattle.timing_top.specs.Headline.{Headline, IsTheReport, NoRequest, out_of_memory, refused, reported, unread, unwritten, with_workers}
-use Rattle.timing_top.specs.Report.{HasReport}
-use Rattle.timing_top.proofs.Answering.{ok-not-err, same-ok}
+use Rattle.timing_top.specs.Report.{HasReport, check_query}
+use Rattle.timing_steps.proofs.Onces.{ok-not-err, same-ok}
 use Rattle.timing_top.proofs.Exact.{rows-exact}
 use Rattle.timing_top.proofs.Reports.{only-report}
 
@@ -32,11 +32,16 @@ use Rattle.timing_top.proofs.Reports.{only-report}
 pub same-report : (job : CheckJob) (workers : ℕ) (media : List Media) (texts : List (List ℕ)) (answer : Answer) → HasReport job media texts answer
     → HasReport (with_workers workers job) media texts answer
 same-report job workers media texts answer h =
-    record { files = h.files; notes = h.notes; records = h.records; text_is = h.text_is; status_is = h.status_is }
+    record {
+      files = h.files;
+      notes = h.notes;
+      records = h.records;
+      defined = record { text_is = h.defined.text_is; status_is = h.defined.status_is };
+    }
 
 -- nor in what `check` follows
-pub same-follows : (job : CheckJob) (workers : ℕ) (i : Inputs) (outcome : Result Answer Failure) → FollowsCheck job i outcome
-    → FollowsCheck (with_workers workers job) i outcome
+pub same-follows : (job : CheckJob) (workers : ℕ) (i : Inputs) (outcome : Result Answer Failure) → FollowsQuery (check_query job) i outcome
+    → FollowsQuery (check_query (with_workers workers job)) i outcome
 same-follows job workers i outcome (inl memory) = inl memory
 same-follows job workers i outcome (inr (inl failed)) = inr (inl failed)
 same-follows job workers i outcome (inr (inr read)) = inr (inr (read.0, λ text told. on (session text) (read.1 text told)))
@@ -77,7 +82,7 @@ IsToPrint job (Ok media) captures answer = IsTheReport job media captures answer
 
 -- what an answer of `check` is
 to-print : (job : CheckJob) (i : Inputs) (sdp : List ℕ) (captures : List (List ℕ)) (answer : Answer) → IsCheckJob job → i.texts job.sdp ≡ Some sdp
-    → AreTold i.texts job.captures captures → All AreBytes captures → FollowsCheck job i (Ok answer) → IsToPrint job (session sdp) captures answer
+    → AreTold i.texts job.captures captures → All AreBytes captures → FollowsQuery (check_query job) i (Ok answer) → IsToPrint job (session sdp) captures answer
 to-print job i sdp captures answer is told are bytes (inl memory) = absurd (ok-not-err answer failure.OutOfMemory (Ok answer) refl memory)
 to-print job i sdp captures answer is told are bytes (inr (inl failed)) = absurd (ok-not-err answer _ (Ok answer) refl failed.0)
 to-print job i sdp captures answer is told are bytes (inr (inr read)) = on (session sdp) refl (read.1 sdp told)
@@ -117,7 +122,7 @@ printed-front job sdp captures i o ends (Ok media) answer e is status broke = un
 -- how a run of `check` ends, by its outcome
 by-outcome : (job : CheckJob) (sdp : List ℕ) (captures : List (List ℕ)) (i : Inputs) (o : Output) (ends : Status)
     (outcome : Result Answer Failure) → IsCheckJob job → i.texts job.sdp ≡ Some sdp → AreTold i.texts job.captures captures
-    → All AreBytes captures → FollowsCheck job i outcome → HasCause outcome (CheckInputRose job i) → Leaves o outcome ends → Headline job sdp captures i o ends
+    → All AreBytes captures → FollowsQuery (check_query job) i outcome → HasCause outcome (QueryInputRose (check_query job) i) → Leaves o outcome ends → Headline job sdp captures i o ends
 by-outcome job sdp captures i o ends (Ok answer) is told are bytes follows cause (inl h) =
     printed-whole job sdp captures i o ends (session sdp) answer refl (to-print job i sdp captures answer is told are bytes follows) h.0 h.1
 by-outcome job sdp captures i o ends (Ok answer) is told are bytes follows cause (inr h) =
@@ -132,8 +137,8 @@ pub headline : (words : List (List ℕ)) (job : CheckJob) (sdp : List ℕ) (capt
     → Ran (Follows (request_of words) i) (InputRose (request_of words) i) o e ends → Headline job sdp captures i o ends
 headline words job sdp captures i o e ends asked told are bytes ran =
     let is : IsCheckJob job = request-within words (request.Check job) asked in
-    let follows : FollowsCheck job i ran.outcome = subst (λ (r : Option Request). Follows r i ran.outcome) asked ran.follows in
-    let cause : HasCause ran.outcome (CheckInputRose job i) = subst (λ (r : Option Request). HasCause ran.outcome (InputRose r i)) asked ran.cause in
+    let follows : FollowsQuery (check_query job) i ran.outcome = subst (λ (r : Option Request). Follows r i ran.outcome) asked ran.follows in
+    let cause : HasCause ran.outcome (QueryInputRose (check_query job) i) = subst (λ (r : Option Request). HasCause ran.outcome (InputRose r i)) asked ran.cause in
     by-outcome job sdp captures i o ends ran.outcome is told are bytes follows cause ran.printed
 
 -- a run on words that are no request

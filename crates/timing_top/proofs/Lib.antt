@@ -1,4 +1,3 @@
-mod Answering
 mod Asking
 mod Begun
 mod Captured
@@ -10,17 +9,15 @@ mod Finding
 mod Following
 mod Headlines
 mod Measurable
-mod Measuring
 mod ReadBack
-mod Reaching
 mod Reported
 mod Reports
 mod Rows
+mod Scanning
 mod SelfTests
 mod Serving
 mod Small
 mod Takings
 mod Verified
-mod Verifying
 mod Words
 pub mod lemmas

@@ -16,7 +16,7 @@ use Rattle.timing_report.specs.json_report.Json.{json_text}
 use Rattle.timing_report.specs.json_report.Reading.{IsReport}
 use Rattle.timing_report.specs.declared.json_report.reading.ReportProof.{ReportProof}
 use Rattle.timing_report.proofs.lemmas.json_report.Back.{read-back}
-use Rattle.timing_reach.specs.steps.Answers.{Answer}
+use Rattle.timing_steps.specs.Answers.{Answer}
 use Rattle.timing_top.specs.verify.Asked.{HasReported}
 use Rattle.timing_top.proofs.lemmas.verify.Unique.{confirmed-status}
 use Rattle.timing_top.specs.ReadBack.{IsReadable, reading_back}

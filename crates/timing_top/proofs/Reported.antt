@@ -10,14 +10,14 @@ use Rattle.timing_report.specs.declared.json_report.reading.ReportProof.{ReportP
 use Rattle.timing_report.specs.declared.status.Input.{Input}
 use Rattle.timing_report.specs.declared.status.Input.TheVariants as input
 use Rattle.timing_report.specs.declared.status.Status.TheVariants as status
-use Rattle.timing_reach.specs.steps.Answers.{Answer, AreThere, AreTold, Gives, HasRisen, Inputs, ReadsSession, silent}
-use Rattle.timing_reach.specs.declared.steps.failure.Failure.{Failure}
+use Rattle.timing_steps.specs.Answers.{Answer, AreThere, AreTold, Gives, HasRisen, Inputs, ReadsSession, silent}
+use Rattle.timing_steps.specs.declared.failure.Failure.{Failure}
 use Rattle.timing_top.specs.verify.Asked.{FollowsReport, HasReported, OnReport, ReadsNeeded, ReadsReport, ReportInputRose, needed}
 use Rattle.timing_report.proofs.lemmas.json_report.Decided.{only-claims, report-decided}
 use Rattle.timing_top.proofs.lemmas.verify.Answered.{needed-all, same-needed, same-reported, text_in, told-needed}
 use Rattle.timing_top.proofs.lemmas.verify.Unique.{only-reported, some-reported}
-use Rattle.timing_top.proofs.Answering.{Caused, described-failed, not-given, ok-not-err, only-described, only-given, only-silent, only-yielded, same-err}
-use Rattle.timing_top.proofs.Answering.{same-some, some-described, some-yielded, yielded-failed}
+use Rattle.timing_steps.proofs.Onces.{Caused, described-failed, not-given, ok-not-err, only-described, only-given, only-silent, only-yielded, same-err}
+use Rattle.timing_steps.proofs.Onces.{same-some, some-described, some-yielded, yielded-failed}
 
 -- what a text that may be a report leads to
 some-on_report : (text : List ℕ) (Next : Answer → List ReportProof → Type 0) → ((claims : List ReportProof) → (answer : Answer) × Next answer claims)

@@ -2,7 +2,7 @@
 use Rattle.std.proofs.Common.{◌≡◌, ◌≤◌, ◌<◌, ◌+◌, ℕ, List, [], ◌∷◌, ◌++◌, length, Option, Some, refl, arith, ap, ◌∙◌, sym, subst, append_assoc, append-nil}
 use Rattle.std.proofs.Common.{length-append, true, false, if◌then◌else◌}
 use Rattle.std.specs.Prelude.{All, IfOk, Result, Ok, Err, map}
-use Rattle.timing_reach.specs.declared.steps.failure.Failure.{Failure}
+use Rattle.timing_steps.specs.declared.failure.Failure.{Failure}
 use Rattle.std.proofs.lemmas.List.{length-map}
 use Rattle.std.proofs.lemmas.List.Elements.{All-nil, All-cons, All-append}
 use Rattle.timing_base.specs.Captures.{Record, joined, joined_after, raised}
@@ -19,7 +19,7 @@ use Rattle.fail_interval.specs.declared.bank.Bank.{Bank}
 use Rattle.timing_report.specs.Outcomes.{AreOfSession}
 use Rattle.pcap_reader.specs.Records.{AreRecords}
 use Rattle.fail_interval.specs.Found.{AreFound}
-use Rattle.timing_reach.specs.steps.Taken.{TakesText}
+use Rattle.timing_steps.specs.Taken.{TakesText}
 use Rattle.timing_top.specs.Found.{AreJoined, FindsNext, JoinsNext}
 use Rattle.timing_top.specs.Report.{rows}
 

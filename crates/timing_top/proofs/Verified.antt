@@ -9,7 +9,7 @@ use Rattle.timing_report.specs.json_report.Fails.{fails_of}
 use Rattle.timing_report.specs.json_report.Json.{json_text}
 use Rattle.timing_report.specs.json_report.Reading.{IsReport}
 use Rattle.timing_report.specs.declared.json_report.reading.ReportProof.{ReportProof}
-use Rattle.timing_reach.specs.steps.Answers.{Answer}
+use Rattle.timing_steps.specs.Answers.{Answer}
 use Rattle.timing_top.specs.verify.Asked.{HasReported}
 use Rattle.timing_top.specs.Report.{HasReport, rows}
 use Rattle.timing_top.specs.ReadBack.{IsReadable, reading_back}
@@ -20,7 +20,7 @@ use Rattle.timing_top.proofs.ReadBack.{report-confirmed, report-status, report-t
 prints-json : (job : CheckJob) (media : List Media) (texts : List (List ℕ)) (answer : Answer) → job.json ≡ true → (h : HasReport job media texts answer)
     → answer.text ≡ json_text job media h.notes (rows job media h.files)
 prints-json job media texts answer json h =
-    h.text_is ∙ ap (λ b. if b then json_text job media h.notes (rows job media h.files) else report_text job media h.notes (rows job media h.files)) json
+    h.defined.text_is ∙ ap (λ b. if b then json_text job media h.notes (rows job media h.files) else report_text job media h.notes (rows job media h.files)) json
 
 pub answer-told : (job : CheckJob) (media : List Media) (text : List ℕ → List ℕ) (answer : Answer) → IsReadable job media text → job.json ≡ true
     → length answer.text ≤ 16777216

@@ -10,18 +10,19 @@ use Rattle.timing_words.specs.declared.request.Request.TheVariants as request
 use Rattle.timing_report.specs.declared.status.Input.{Input}
 use Rattle.timing_report.specs.declared.status.Status.{Status}
 use Rattle.timing_report.specs.declared.status.Status.TheVariants as status
-use Rattle.timing_reach.specs.steps.Answers.{Answer, Gives, Inputs, Yields, silent}
-use Rattle.timing_reach.specs.declared.steps.failure.Failure.{Failure}
-use Rattle.timing_top.specs.Check.{CheckInputRose, FollowsCheck}
-use Rattle.timing_measure.specs.Measures.{FollowsMeasure, MeasureInputRose}
-use Rattle.timing_measure.specs.page.Pages.{FollowsPage, PageInputRose}
-use Rattle.timing_reach.specs.Asked.{FlowInputRose, FollowsWindow}
+use Rattle.timing_steps.specs.Answers.{Answer, Gives, Inputs, Yields, silent}
+use Rattle.timing_steps.specs.Queries.{FollowsQuery, Query, QueryInputRose, inputs_of}
+use Rattle.timing_steps.specs.declared.failure.Failure.{Failure}
 use Rattle.timing_reach.specs.Scanned.{FollowsScan, ScanInputRose}
-use Rattle.timing_reach.specs.Shaped.{FollowsShape}
-use Rattle.timing_reach.specs.Skewed.{FollowsSkew, SkewInputRose}
-use Rattle.timing_measure.specs.series.Series.{FollowsSeries}
-use Rattle.timing_top.specs.verify.Asked.{FollowsReport, FollowsVerify, ReportInputRose, VerifyInputRose}
+use Rattle.timing_reach.specs.Shaped.{shape_query}
+use Rattle.timing_reach.specs.Skewed.{skew_query}
+use Rattle.timing_reach.specs.Windows.{window_query}
+use Rattle.timing_measure.specs.Measures.{measure_query}
+use Rattle.timing_measure.specs.page.Pages.{page_query}
+use Rattle.timing_measure.specs.series.Series.{series_query}
+use Rattle.timing_top.specs.Report.{check_query}
 use Rattle.timing_top.specs.SelfTest.{HasSelfTest}
+use Rattle.timing_top.specs.verify.Asked.{FollowsReport, ReportInputRose, verify_query}
 
 -- `selftest` with this many frames, which reads nothing
 abbrev pub FollowsSelfTest : ℕ → Result Answer Failure → Type 0
@@ -39,49 +40,58 @@ FollowsHelp named outcome = Yields outcome (Gives outcome (λ answer. answer ≡
 abbrev pub FollowsAtOnce : Status → Result Answer Failure → Type 0
 FollowsAtOnce ends outcome = Yields outcome (Gives outcome (λ answer. answer ≡ silent ends))
 
+-- the request is a command that reads an SDP, and then captures
+abbrev pub is_command : Request → Bool
+is_command (request.VerifyReport job) = false
+is_command (request.SelfTest job) = false
+is_command (request.Scan job) = false
+is_command (request.Help named) = false
+is_command asked = true
+
+-- what such a command asks of its inputs; of another request nothing is asked here
+abbrev pub query_of : Request → Query
+query_of (request.Check job) = check_query job
+query_of (request.Verify job) = verify_query job
+query_of (request.Window job) = window_query job
+query_of (request.Shape job) = shape_query job
+query_of (request.Skew job) = skew_query job
+query_of (request.Measure job) = measure_query job
+query_of (request.Series job) = series_query job
+query_of (request.Page job) = page_query job
+query_of other = record {
+  sdp = [];
+  captures = [];
+  early = λ media. None;
+  Defines = λ media files notes answer. ⊥;
+  checks = false;
+}
+
 -- the outcome that a request defines; `None` is an invalid command line. No definition depends on the number of workers
 abbrev pub Follows : Option Request → Inputs → Result Answer Failure → Type 0
 Follows None i outcome = FollowsAtOnce status.Usage outcome
-Follows (Some (request.Check job)) i outcome = FollowsCheck job i outcome
-Follows (Some (request.Verify job)) i outcome = FollowsVerify job i outcome
 Follows (Some (request.VerifyReport job)) i outcome = FollowsReport job i outcome
 Follows (Some (request.SelfTest job)) i outcome = FollowsSelfTest job.frames outcome
-Follows (Some (request.Window job)) i outcome = FollowsWindow job i outcome
-Follows (Some (request.Shape job)) i outcome = FollowsShape job i outcome
-Follows (Some (request.Skew job)) i outcome = FollowsSkew job i outcome
 Follows (Some (request.Scan job)) i outcome = FollowsScan job i outcome
-Follows (Some (request.Measure job)) i outcome = FollowsMeasure job i outcome
-Follows (Some (request.Series job)) i outcome = FollowsSeries job i outcome
-Follows (Some (request.Page job)) i outcome = FollowsPage job i outcome
 Follows (Some (request.Help named)) i outcome = FollowsHelp named outcome
+Follows (Some command) i outcome = FollowsQuery (query_of command) i outcome
 
 -- the count of faults of this input's name rose; for a request that reads nothing this is false
 abbrev pub InputRose : Option Request → Inputs → Input → Type 0
-InputRose (Some (request.Check job)) i input = CheckInputRose job i input
-InputRose (Some (request.Verify job)) i input = VerifyInputRose job i input
+InputRose None i input = ⊥
 InputRose (Some (request.VerifyReport job)) i input = ReportInputRose job i input
-InputRose (Some (request.Window job)) i input = FlowInputRose job i input
-InputRose (Some (request.Shape job)) i input = FlowInputRose job.flow i input
-InputRose (Some (request.Skew job)) i input = SkewInputRose job i input
+InputRose (Some (request.SelfTest job)) i input = ⊥
 InputRose (Some (request.Scan job)) i input = ScanInputRose job i input
-InputRose (Some (request.Measure job)) i input = MeasureInputRose job i input
-InputRose (Some (request.Series job)) i input = FlowInputRose job.flow i input
-InputRose (Some (request.Page job)) i input = PageInputRose job i input
-InputRose other i input = ⊥
+InputRose (Some (request.Help named)) i input = ⊥
+InputRose (Some command) i input = QueryInputRose (query_of command) i input
 
 -- the names of a request's inputs
 abbrev pub names_of : Option Request → List (List ℕ)
-names_of (Some (request.Check job)) = job.sdp ∷ job.captures
-names_of (Some (request.Verify job)) = job.sdp ∷ job.captures
+names_of None = []
 names_of (Some (request.VerifyReport job)) = job.sdp ∷ job.report ∷ job.captures
-names_of (Some (request.Window job)) = job.sdp ∷ job.capture ∷ []
-names_of (Some (request.Shape job)) = job.flow.sdp ∷ job.flow.capture ∷ []
-names_of (Some (request.Skew job)) = job.sdp ∷ job.captures
+names_of (Some (request.SelfTest job)) = []
 names_of (Some (request.Scan job)) = job.capture ∷ []
-names_of (Some (request.Measure job)) = job.sdp ∷ job.capture ∷ []
-names_of (Some (request.Series job)) = job.flow.sdp ∷ job.flow.capture ∷ []
-names_of (Some (request.Page job)) = job.sdp ∷ job.capture ∷ []
-names_of other = []
+names_of (Some (request.Help named)) = []
+names_of (Some command) = inputs_of (query_of command)
 
 -- for `measure`, `series` and `page`: the job is within its limits, as that of every command line is, and the contents
 -- are bytes, as those of every file are

@@ -1,13 +1,12 @@
 -- The statuses that a run of a request may end with, whatever its inputs contain, and when nothing is printed.
-use Rattle.std.specs.Prelude.{◌≡◌, Bool, true, false, not, if◌then◌else◌, Option, Some, None, []}
+use Rattle.std.specs.Prelude.{◌≡◌, Bool, true, false, not, Option, Some, None, []}
 use Rattle.timing_words.specs.declared.request.Request.{Request}
 use Rattle.timing_words.specs.declared.request.Request.TheVariants as request
 use Rattle.timing_report.specs.declared.status.Status.{Status}
 use Rattle.timing_report.specs.declared.status.Status.TheVariants as status
-use Rattle.timing_reach.specs.steps.Ends.{is_silent}
-use Rattle.timing_reach.specs.steps.Ran.{Appended, Output}
-use Rattle.timing_measure.specs.series.Streams.{is_silent_stream}
-use Rattle.timing_top.specs.Runs.{prints_whole}
+use Rattle.timing_steps.specs.Ran.{Appended, Output}
+use Rattle.timing_steps.specs.Runs.{is_silent_for}
+use Rattle.timing_top.specs.Runs.{streams_of}
 
 -- the command line is valid
 abbrev pub is_request : Option Request → Bool
@@ -49,13 +48,9 @@ may_end asked status.WriteFault = is_request asked
 may_end asked status.OutOfMemory = true
 may_end asked status.ReportRefused = reads_report asked
 
--- with this status nothing is printed on standard output. `series` prints while it reads: if its capture can't be read,
--- or memory runs out, a prefix of its rows may have been printed
-abbrev pub is_silent_for : Option Request → Status → Bool
-is_silent_for asked ends = if prints_whole asked then is_silent ends else is_silent_stream ends
-
 -- a run of a request by its status and its output: the status is one that it may end with, and if that status is
--- silent, nothing was printed
+-- silent, nothing was printed. `series` prints while it reads: if its capture can't be read, or memory runs out, a
+-- prefix of its rows may have been printed
 pub record Ends (asked : Option Request) (o : Output) (ends : Status) : Type 0 where
   pub status_is : may_end asked ends ≡ true
-  pub silent : is_silent_for asked ends ≡ true → Appended o []
+  pub silent : is_silent_for (streams_of asked) ends ≡ true → Appended o []

@@ -2,9 +2,7 @@
 use Rattle.std.specs.Prelude.{◌≡◌, ◌≤◌, ◌+◌, ◌^◌, ℕ, List, [], ◌∷◌, ◌++◌, length, All, IfErr, IfOk, Option, Some}
 use Rattle.std.specs.Prelude.{Result, Ok}
 use Rattle.timing_base.specs.Captures.{Record, joined}
-use Rattle.timing_base.specs.Jobs.{CheckJob}
 use Rattle.timing_base.specs.Media.{Media}
-use Rattle.timing_base.specs.Targets.{HaveOwnTargets}
 use Rattle.timing_base.specs.declared.capture.FileNote.{FileNote}
 use Rattle.timing_base.specs.declared.row.Row.{Row}
 use Rattle.pcap_reader.specs.Records.{AreRecords, Records}
@@ -13,7 +11,6 @@ use Rattle.timing_outside.specs.declared.source.Source as source
 use Rattle.pcapng_reader.specs.Classic.{classic_texts}
 use Rattle.pcapng_reader.specs.Sources.{faults_of, left_of, name_of}
 use Rattle.pcapng_reader.specs.declared.source.Classic.{Classic}
-use Rattle.sdp_reader.specs.Session.{session}
 use Rattle.fail_interval.specs.Found.{AreFound}
 use Rattle.fail_interval.specs.Rows.{rows_of}
 use Rattle.fail_interval.specs.BankStands.{Feeds, StandsFor}
@@ -21,29 +18,11 @@ use Rattle.fail_interval.specs.declared.bank.Bank.{Bank}
 use Rattle.pcap_reader.specs.declared.records.Taken.{Taken}
 use Rattle.timing_report.specs.Outcomes.{AreOfSession}
 use Rattle.timing_report.specs.declared.status.Input.TheVariants as input
-use Rattle.timing_reach.specs.steps.Answers.{AreThere, AreTold, CaptureRose, Inputs, OnReadFault, seen_of}
-use Rattle.timing_reach.specs.steps.Fetched.{AreFetched}
-use Rattle.timing_reach.specs.steps.Taken.{TakesText}
-use Rattle.timing_reach.specs.declared.steps.failure.Failure.{Failure}
+use Rattle.timing_steps.specs.Answers.{AreTold, CaptureRose, Inputs, OnReadFault, seen_of}
+use Rattle.timing_steps.specs.Fetched.{AreFetched}
+use Rattle.timing_steps.specs.Taken.{TakesText}
+use Rattle.timing_steps.specs.declared.failure.Failure.{Failure}
 use Rattle.timing_top.specs.declared.captures.Found.{Found}
-
--- the SDP of a job was read as the session of these media, and these are the sources of its captures, each at its start
--- and without a failed read
-pub record IsOpened {S : Type 0} (name : S → List ℕ) (left : S → Option (List ℕ)) (faults : S → ℕ) (job : CheckJob)
-    (i : Inputs) (media : List Media) (sources : List S) : Type 0 where
-  pub there : ¬ i.lacks job.sdp
-  pub told : (text : List ℕ) → i.texts job.sdp ≡ Some text → session text ≡ Ok media
-  pub targets : HaveOwnTargets media
-  pub captures : AreThere i.lacks job.captures
-  pub fetched : AreFetched name left faults (classic_texts i.texts) job.captures sources
-  pub count : length sources ≡ length job.captures
-  pub fresh : All (λ source. faults source ≡ 0) sources
-
--- the SDP of a job was read, and these are the sources of its captures, as seen on a shelf before and after
-abbrev pub Opens : {H S : Type 0} → CheckJob → shelf.Ghosts H S → source.Ghosts S → (old new : H) → List Media
-    → List (Classic S) → Type 0
-Opens job tells from old new media sources =
-    IsOpened (name_of from.name) (left_of from.left) (faults_of from.faults) job (seen_of tells old new) media sources
 
 -- the outcome of judging captures. If the contents of the captures are known, the results are `rows` of their packet
 -- records, with one note for each capture, and every result is of a media of the session. If there is no result, memory

@@ -14,11 +14,11 @@ use Rattle.sdp_reader.specs.declared.fault.SdpFault.{SdpFault}
 use Rattle.timing_report.specs.declared.status.Input.{Input}
 use Rattle.timing_report.specs.declared.status.Status.{Status}
 use Rattle.timing_report.specs.declared.status.Status.TheVariants as status
-use Rattle.timing_reach.specs.steps.Answers.{Answer, Inputs}
-use Rattle.timing_reach.specs.steps.Ran.{Appended, Broke, Output}
-use Rattle.timing_top.specs.Check.{CheckInputRose}
+use Rattle.timing_steps.specs.Answers.{Answer, Inputs}
+use Rattle.timing_steps.specs.Queries.{QueryInputRose}
+use Rattle.timing_steps.specs.Ran.{Appended, Broke, Output}
 use Rattle.timing_top.specs.Exact.{IsExactRow}
-use Rattle.timing_top.specs.Report.{HasReport, rows}
+use Rattle.timing_top.specs.Report.{HasReport, check_query, rows}
 
 -- the same job with this number of workers; 0 is one thread
 abbrev pub with_workers : ℕ → CheckJob → CheckJob
@@ -47,7 +47,7 @@ pub data Headline (job : CheckJob) (sdp : List ℕ) (captures : List (List ℕ))
   unwritten : (media : List Media) (report : Answer) → session sdp ≡ Ok media → IsTheReport job media captures report
       → ends ≡ status.WriteFault → Broke o report.text
       → Headline job sdp captures i o ends
-  unread : (input : Input) → CheckInputRose job i input
+  unread : (input : Input) → QueryInputRose (check_query job) i input
       → ends ≡ status.ReadFault input → Keeps o.old o.new
       → Headline job sdp captures i o ends
   out_of_memory : ends ≡ status.OutOfMemory → Keeps o.old o.new → Headline job sdp captures i o ends

@@ -1,6 +1,5 @@
 -- the definitions that the public clauses cite
 pub mod Asked
-pub mod Check
 pub mod Ends
 pub mod Report
 pub mod Runs

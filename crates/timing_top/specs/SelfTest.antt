@@ -15,7 +15,7 @@ use Rattle.timing_report.specs.Outcomes.{status_of}
 use Rattle.timing_report.specs.Status.{code_of}
 use Rattle.timing_report.specs.Verdict.{verdict_text}
 use Rattle.timing_report.specs.declared.status.Status.TheVariants as status
-use Rattle.timing_reach.specs.steps.Answers.{Answer}
+use Rattle.timing_steps.specs.Answers.{Answer}
 
 -- `flaw F: VERDICT; status S`, for a capture with one flow: its media, how the capture ends, and the result of the flow
 abbrev pub flaw_line : ℕ → Media → FileNote → Row → List ℕ

@@ -11,7 +11,7 @@ use pcapng_reader::Classic;
 use std::alloc::Global;
 use timing_base::Media;
 use timing_outside::Shelf;
-use timing_reach::steps::Failure;
+use timing_steps::Failure;
 
 /// A request to judge media in captures on one thread.
 #[derive(Clone, Copy)]

@@ -5,7 +5,7 @@ ghost use Rattle.timing_outside.specs.Causes.{Rose};
 ghost use Rattle.timing_outside.specs.Shelves.{StaysAs};
 ghost use Rattle.timing_report.specs.Outcomes.{AreOfSession};
 ghost use Rattle.pcapng_reader.specs.Sources.{faults_of, left_of, name_of};
-ghost use Rattle.timing_reach.specs.steps.Answers.{OnReadFault};
+ghost use Rattle.timing_steps.specs.Answers.{OnReadFault};
 ghost use Rattle.fail_interval.specs.Rows.{rows_of_files};
 ghost use Rattle.timing_top.specs.Found.{AreReady, FindsNext, Judges};
 
@@ -15,8 +15,8 @@ use pcapng_reader::Classic;
 use std::alloc::Global;
 use timing_base::{FileNote, Media, Row};
 use timing_outside::{Shelf, Source};
-use timing_reach::steps::{Failure, give_back, take_source};
 use timing_report::Input;
+use timing_steps::{Failure, give_back, take_source};
 
 /// The results of judging the captures of a job.
 #[derive(Drop)]

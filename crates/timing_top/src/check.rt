@@ -1,27 +1,27 @@
-//! `check`: reads the SDP, judges the captures on one thread or with workers, and prints their report.
+//! `check`: judges the captures on one thread or with workers, and prints their report.
 
-ghost use Rattle.std.specs.Prelude.{◌≡◌, ◌≤◌, Err, IfErr, IfOk, Ok, string_bytes};
+ghost use Rattle.std.specs.Io.KnownBytes.{Keeps};
+ghost use Rattle.std.specs.Prelude.{◌≡◌, ℕ, IfErr, IfOk, false, string_bytes, true};
+ghost use Rattle.timing_base.specs.Targets.{HaveOwnTargets};
 ghost use Rattle.timing_outside.specs.Shelves.{StaysAs};
 ghost use Rattle.timing_report.specs.Outcomes.{AreOfSession, status_of};
-ghost use Rattle.timing_reach.specs.steps.Answers.{OnReadFault, seen_of};
-ghost use Rattle.timing_reach.specs.steps.Ends.{EndsWith, HasStatus, check_ends};
-ghost use Rattle.timing_reach.specs.steps.Ran.{output_of};
-ghost use Rattle.timing_top.specs.Check.{AnswersCheck, CheckInputRose, FollowsCheck, RanCheck};
-ghost use Rattle.timing_top.specs.Found.{Opens};
-ghost use Rattle.timing_top.specs.Report.{printed};
+ghost use Rattle.timing_steps.specs.Answers.{CaptureRose, OnReadFault, seen_of};
+ghost use Rattle.timing_steps.specs.Queries.{FollowsCaptures, judged_ends};
+ghost use Rattle.timing_steps.specs.Ran.{Output, output_of};
+ghost use Rattle.timing_steps.specs.Runs.{BeforeEnd, EndsAs, RanAs};
+ghost use Rattle.timing_top.specs.Report.{check_query, printed};
 
 use crate::alone::Alone;
 use crate::captures::Found;
 use crate::many::judge_many;
-use pcapng_reader::Classic;
 use std::alloc::{AllocError as OutOfMemory, Global};
 use std::sync::Wait;
 use std::thread::Threads;
-use timing_base::{CheckJob, Session};
-use timing_outside::{Gate, Shelf, Sink, Source};
-use timing_reach::steps::{Answer, Failure, conclude, fetch_captures, fetch_session};
+use timing_base::{CheckJob, FileName, Session};
+use timing_outside::{Gate, Shelf, Sink};
 use timing_report::json_report::json_of;
-use timing_report::{Status, status_of, text_of};
+use timing_report::{Input, Status, status_of, text_of};
+use timing_steps::{Answer, Command, Failure, begin, conclude, fetch_captures};
 
 /// Returns the report as text, or as JSON if the job asks for it.
 fn text_on(
@@ -54,7 +54,7 @@ fn report_on(
     ensures status { IfOk result (λ answer. answer.status
         ≡ status_of session.now found.now.notes.items found.now.rows.items) }
     ensures memory { IfErr result (λ e. e ≡ Failure.OutOfMemory) }
-    ensures answers { IfOk result (HasStatus check_ends) }
+    ensures ends { IfOk result (λ answer. judged_ends true answer.status ≡ true) }
 {
     Ok(Answer {
         text: text_on(alloc, job, session, found)?.into_bytes(),
@@ -62,118 +62,135 @@ fn report_on(
     })
 }
 
-/// The inputs of a job, opened for judging.
+/// Returns the answer of a job over a session, judged on one thread, or the reason why there is none. All captures are
+/// opened in order before the first one is read.
+fn answer_alone<H: Shelf>(
+    alloc: Global,
+    job: &CheckJob,
+    session: &Session,
+    shelf: &mut H,
+) -> Result<Answer, Failure>
+    ensures follows { FollowsCaptures (check_query job.now) session.now
+        (seen_of H.Shelf shelf.old shelf.new) result }
+    ensures ends { IfOk result (λ answer. judged_ends true answer.status ≡ true) }
+    ensures cause { IfErr result (λ e. OnReadFault e (λ i. (number : ℕ) × (i ≡ Input.Capture number)
+        × CaptureRose (H.faults shelf.old) (H.faults shelf.new) job.now.captures number)) }
+    ensures stays { StaysAs H.text H.lacks H.faults shelf.old shelf.new }
+{
+    let sources = fetch_captures(alloc, shelf, job.captures.as_slice())?;
+    let alone = Alone {
+        alloc,
+        media: session.media.as_slice(),
+        joined: job.joined,
+        tai: job.tai,
+    };
+    let found = alone.judge(shelf, sources)?;
+    report_on(alloc, job, session, &found)
+}
+
+/// The command `check` on one thread, whatever number of workers the job has. It takes no handle for waiting.
 #[derive(Drop)]
-struct Opened<S: Source> {
-    /// The media of the SDP.
-    session: Session,
-    /// The sources of the captures, in their order.
-    sources: Vec<Classic<S>>,
+pub struct CheckCommand {
+    /// The SDP and the captures, and how they are judged.
+    pub job: CheckJob,
 }
 
-/// Reads the SDP of a job and opens its captures. If the SDP is invalid, returns the answer of the job instead.
-fn open<H: Shelf>(
-    alloc: Global,
-    job: &CheckJob,
-    shelf: &mut H,
-) -> Result<Result<Opened<H::Source>, Answer>, Failure>
-    ensures opened { IfOk result (λ read. IfOk read (λ opened.
-        Opens job.now H.Shelf H.Source.Source shelf.old shelf.new opened.session opened.sources.items)) }
-    ensures refused { IfOk result (λ read. IfErr read (λ answer.
-        FollowsCheck job.now (seen_of H.Shelf shelf.old shelf.new) (Ok answer)
-        × HasStatus check_ends answer)) }
-    ensures failed { IfErr result (λ e.
-        FollowsCheck job.now (seen_of H.Shelf shelf.old shelf.new) (Err e)
-        × OnReadFault e (CheckInputRose job.now (seen_of H.Shelf shelf.old shelf.new))) }
-    ensures stays { StaysAs H.text H.lacks H.faults shelf.old shelf.new }
-{
-    match fetch_session(alloc, shelf, job.sdp.as_str())? {
-        Ok(session) => {
-            let sources = fetch_captures(alloc, shelf, job.captures.as_slice())?;
-            Ok(Ok(Opened { session, sources }))
-        }
-        Err(fault) => Ok(Err(Answer::silent(alloc, Status::SdpRefused(fault)))),
+impl Command for CheckCommand {
+    ghost use Rattle.timing_top.specs.Report.{check_query};
+
+    ghost query = { λ command. check_query command.job };
+
+    ghost streams = { false };
+
+    fn sdp(&self) -> &FileName {
+        let job = &self.job;
+        &job.sdp
+    }
+
+    fn early(&self, _alloc: Global, _session: &Session) -> Result<Option<Answer>, OutOfMemory> {
+        Ok(None)
+    }
+
+    fn answer<H: Shelf, K: Sink>(
+        &self,
+        alloc: Global,
+        session: &Session,
+        shelf: &mut H,
+        _out: &mut K,
+    ) -> Result<Answer, Failure> {
+        answer_alone(alloc, &self.job, session, shelf)
     }
 }
 
-/// Returns the answer of a job, judged on one thread, or the reason why there is none.
-fn answer_check<H: Shelf>(alloc: Global, job: &CheckJob, shelf: &mut H) -> Result<Answer, Failure>
-    ensures answers { AnswersCheck job.now (seen_of H.Shelf shelf.old shelf.new) result }
-    ensures stays { StaysAs H.text H.lacks H.faults shelf.old shelf.new }
-{
-    match open(alloc, job, shelf)? {
-        Ok(Opened { session, sources }) => {
-            let alone = Alone {
-                alloc,
-                media: session.media.as_slice(),
-                joined: job.joined,
-                tai: job.tai,
-            };
-            let found = alone.judge(shelf, sources)?;
-            report_on(alloc, job, &session, &found)
-        }
-        Err(answer) => Ok(answer),
-    }
-}
-
-/// Runs `check` on one thread, whatever number of workers the job has. Prints the report on `out`, or on `err` the
-/// reason why there is none.
-pub fn check_one<H: Shelf, K: Sink>(
-    alloc: Global,
-    job: &CheckJob,
-    shelf: &mut H,
-    out: &mut K,
-    err: &mut K,
-) -> Status
-    ensures ran { RanCheck job.now (seen_of H.Shelf shelf.old shelf.new)
-        (output_of K.Sink out.old out.new) (output_of K.Sink err.old err.new) result }
-    ensures ends { EndsWith check_ends (output_of K.Sink out.old out.new) result }
-    ensures stays { StaysAs H.text H.lacks H.faults shelf.old shelf.new }
-{
-    let outcome = answer_check(alloc, job, shelf);
-    conclude(out, err, outcome)
-}
-
-/// Returns the answer of a job, judged with its workers, or the reason why there is none.
+/// Returns the answer of a job over a session, judged with its workers, or the reason why there is none.
 fn answer_many<R: Threads + Wait + Sync, H: Shelf, G: Gate>(
     rt: &R,
     alloc: Global,
     job: &CheckJob,
+    session: &Session,
     shelf: &mut H,
     gate: &G,
 ) -> Result<Answer, Failure>
-    requires some { 1 ≤ job.now.workers }
-    ensures answers { AnswersCheck job.now (seen_of H.Shelf shelf.old shelf.new) result }
+where
+    H::Source: Send,
+    requires targets { HaveOwnTargets session.now }
+    ensures follows { FollowsCaptures (check_query job.now) session.now
+        (seen_of H.Shelf shelf.old shelf.new) result }
+    ensures ends { IfOk result (λ answer. judged_ends true answer.status ≡ true) }
+    ensures cause { IfErr result (λ e. OnReadFault e (λ i. (number : ℕ) × (i ≡ Input.Capture number)
+        × CaptureRose (H.faults shelf.old) (H.faults shelf.new) job.now.captures number)) }
     ensures stays { StaysAs H.text H.lacks H.faults shelf.old shelf.new }
 {
-    match open(alloc, job, shelf)? {
-        Ok(Opened { session, sources }) => {
-            let media = session.media.as_slice();
-            let (joined, tai, workers) = (job.joined, job.tai, job.workers);
-            let found = judge_many(rt, alloc, shelf, sources, media, joined, tai, workers, gate)?;
-            report_on(alloc, job, &session, &found)
-        }
+    let sources = fetch_captures(alloc, shelf, job.captures.as_slice())?;
+    let media = session.media.as_slice();
+    let (joined, tai, workers) = (job.joined, job.tai, job.workers);
+    let found = judge_many(rt, alloc, shelf, sources, media, joined, tai, workers, gate)?;
+    report_on(alloc, job, session, &found)
+}
+
+/// Returns the answer of `check` with workers, or the reason why there is none.
+fn answer_check<R: Threads + Wait + Sync, H: Shelf, G: Gate>(
+    rt: &R,
+    alloc: Global,
+    command: &CheckCommand,
+    shelf: &mut H,
+    gate: &G,
+) -> Result<Answer, Failure>
+where
+    H::Source: Send,
+    ensures stands { (o : Output) → Keeps o.old o.new → BeforeEnd false (check_query command.now.job)
+        (seen_of H.Shelf shelf.old shelf.new) o result }
+    ensures stays { StaysAs H.text H.lacks H.faults shelf.old shelf.new }
+{
+    match begin(alloc, command, shelf)? {
+        Ok(session) => answer_many(rt, alloc, &command.job, &session, shelf, gate),
         Err(answer) => Ok(answer),
     }
 }
 
-/// Runs `check` with an intake thread for each capture and at most as many workers as the job has. Prints what
-/// `check_one` prints. The call may wait for its threads; its clauses hold if it returns.
+/// Runs `check` with an intake thread for each capture, and with at most as many workers as the job has, at least one.
+/// Prints what `run_command` prints of the command, in the same order. The call may wait for its threads; its clauses
+/// hold if it returns.
+///
+/// It is a function beside `run_command`, since the method `answer` of a `Command` can't start threads.
 pub fn check_many<R: Threads + Wait + Sync, H: Shelf, K: Sink, G: Gate>(
     rt: &R,
     alloc: Global,
-    job: &CheckJob,
+    command: &CheckCommand,
     shelf: &mut H,
     out: &mut K,
     err: &mut K,
     gate: &G,
 ) -> Status
-    requires some { 1 ≤ job.now.workers }
-    ensures ran { RanCheck job.now (seen_of H.Shelf shelf.old shelf.new)
-        (output_of K.Sink out.old out.new) (output_of K.Sink err.old err.new) result }
-    ensures ends { EndsWith check_ends (output_of K.Sink out.old out.new) result }
+where
+    H::Source: Send,
+    ensures ran { RanAs false (check_query command.now.job) (seen_of H.Shelf shelf.old shelf.new)
+        (output_of K.Sink out.old out.new)
+        (output_of K.Sink err.old err.new)
+        result }
+    ensures ends { EndsAs false (check_query command.now.job) (output_of K.Sink out.old out.new) result }
     ensures stays { StaysAs H.text H.lacks H.faults shelf.old shelf.new }
 {
-    let outcome = answer_many(rt, alloc, job, shelf, gate);
+    let outcome = answer_check(rt, alloc, command, shelf, gate);
     conclude(out, err, outcome)
 }

@@ -2,26 +2,24 @@
 
 ghost use Rattle.std.specs.Prelude.{Some, map, string_bytes};
 ghost use Rattle.timing_outside.specs.Shelves.{StaysAs};
-ghost use Rattle.timing_reach.specs.steps.Answers.{seen_of};
-ghost use Rattle.timing_reach.specs.steps.Ran.{output_of};
+ghost use Rattle.timing_steps.specs.Answers.{seen_of};
+ghost use Rattle.timing_steps.specs.Ran.{output_of};
 ghost use Rattle.timing_words.specs.Request.{request};
 ghost use Rattle.timing_top.specs.Ends.{Ends};
 ghost use Rattle.timing_top.specs.Runs.{RanAs};
 
-use crate::check::{check_many, check_one};
+use crate::check::{CheckCommand, check_many};
 use crate::help::print_help;
 use crate::self_tests::self_test;
-use crate::verify::{verify_all, verify_one};
+use crate::verify::{VerifyCommand, verify_all};
 use std::alloc::Global;
 use std::sync::Wait;
 use std::thread::Threads;
-use timing_measure::measure_one;
-use timing_measure::page::page_one;
-use timing_measure::series::series_one;
+use timing_measure::{MeasureCommand, PageCommand, SeriesCommand};
 use timing_outside::{Gate, Shelf, Sink};
-use timing_reach::steps::{Answer, Failure, conclude};
-use timing_reach::{scan_one, shape_one, skew_one, window_one};
+use timing_reach::{ShapeCommand, SkewCommand, WindowCommand, scan_one};
 use timing_report::Status;
+use timing_steps::{Answer, Failure, conclude, run_command};
 use timing_words::{Request, WordFault, read_words};
 
 /// Runs the command of a request. `check` runs on one thread if the job has 0 workers.
@@ -34,6 +32,8 @@ fn serve<R: Threads + Wait + Sync, H: Shelf, K: Sink, G: Gate>(
     err: &mut K,
     gate: &G,
 ) -> Status
+where
+    H::Source: Send,
     ensures ran { RanAs (Some request) (seen_of H.Shelf shelf.old shelf.new)
         (output_of K.Sink out.old out.new)
         (output_of K.Sink err.old err.new)
@@ -43,22 +43,23 @@ fn serve<R: Threads + Wait + Sync, H: Shelf, K: Sink, G: Gate>(
 {
     match request {
         Request::Check(job) => {
-            if job.workers == 0 {
-                check_one(alloc, &job, shelf, out, err)
+            let command = CheckCommand { job };
+            if command.job.workers == 0 {
+                run_command(alloc, &command, shelf, out, err)
             } else {
-                check_many(rt, alloc, &job, shelf, out, err, gate)
+                check_many(rt, alloc, &command, shelf, out, err, gate)
             }
         }
-        Request::Verify(job) => verify_one(alloc, &job, shelf, out, err),
+        Request::Verify(job) => run_command(alloc, &VerifyCommand { job }, shelf, out, err),
         Request::VerifyReport(job) => verify_all(alloc, &job, shelf, out, err),
         Request::SelfTest(job) => self_test(rt, alloc, &job, out, err, gate),
-        Request::Window(job) => window_one(alloc, &job, shelf, out, err),
-        Request::Shape(job) => shape_one(alloc, &job, shelf, out, err),
+        Request::Window(job) => run_command(alloc, &WindowCommand { job }, shelf, out, err),
+        Request::Shape(job) => run_command(alloc, &ShapeCommand { job }, shelf, out, err),
         Request::Scan(job) => scan_one(alloc, &job, shelf, out, err),
-        Request::Skew(job) => skew_one(alloc, &job, shelf, out, err),
-        Request::Measure(job) => measure_one(alloc, &job, shelf, out, err),
-        Request::Series(job) => series_one(alloc, &job, shelf, out, err),
-        Request::Page(job) => page_one(alloc, &job, shelf, out, err),
+        Request::Skew(job) => run_command(alloc, &SkewCommand { job }, shelf, out, err),
+        Request::Measure(job) => run_command(alloc, &MeasureCommand { job }, shelf, out, err),
+        Request::Series(job) => run_command(alloc, &SeriesCommand { job }, shelf, out, err),
+        Request::Page(job) => run_command(alloc, &PageCommand { job }, shelf, out, err),
         Request::Help(command) => print_help(alloc, command, out, err),
     }
 }
@@ -80,6 +81,8 @@ pub fn run<R: Wait + Threads + Sync, H: Shelf, K: Sink, G: Gate>(
     err: &mut K,
     gate: &G,
 ) -> Status
+where
+    H::Source: Send,
     // The answer that the contents of the inputs define was printed, with its status. Or it wasn't, and the status
     // gives the reason: a read of an input failed and the count of its faults rose, a write failed, or memory ran out.
     // Then nothing was printed, or a prefix of the answer if a write failed; `series` may also leave a prefix with the

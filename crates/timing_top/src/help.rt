@@ -1,12 +1,12 @@
 //! `help`: prints the arguments of the commands.
 
-ghost use Rattle.timing_reach.specs.steps.Ran.{Ran, output_of};
+ghost use Rattle.timing_steps.specs.Ran.{Ran, output_of};
 ghost use Rattle.timing_top.specs.Asked.{FollowsHelp};
 
 use std::alloc::Global;
 use timing_outside::Sink;
-use timing_reach::steps::{Answer, Failure, conclude};
 use timing_report::Status;
+use timing_steps::{Answer, Failure, conclude};
 use timing_words::{Command, help_text};
 
 /// Returns the answer of `help`, or of `help` with a command.

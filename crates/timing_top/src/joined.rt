@@ -5,7 +5,7 @@ ghost use Rattle.timing_base.specs.Captures.{joined};
 ghost use Rattle.timing_outside.specs.Causes.{Rose};
 ghost use Rattle.timing_outside.specs.Shelves.{StaysAs};
 ghost use Rattle.pcapng_reader.specs.Sources.{faults_of, left_of, name_of};
-ghost use Rattle.timing_reach.specs.steps.Answers.{OnReadFault};
+ghost use Rattle.timing_steps.specs.Answers.{OnReadFault};
 ghost use Rattle.fail_interval.specs.Rows.{rows_of};
 ghost use Rattle.fail_interval.specs.BankStands.{IsFed, records};
 ghost use Rattle.timing_top.specs.Found.{AreReady, JoinsNext, Judges};
@@ -17,8 +17,8 @@ use pcapng_reader::Classic;
 use std::alloc::Global;
 use timing_base::FileNote;
 use timing_outside::{Shelf, Source};
-use timing_reach::steps::{Failure, give_back, give_back_all, take_source};
 use timing_report::Input;
+use timing_steps::{Failure, give_back, give_back_all, take_source};
 
 /// The captures that were taken as one so far.
 #[derive(Drop)]

@@ -7,18 +7,18 @@ ghost use Rattle.timing_words.specs.declared.request.Request.TheVariants as asks
 ghost use Rattle.sdp_reader.specs.Session.{session};
 ghost use Rattle.capture_gen.specs.Sdp.{sdp_text};
 ghost use Rattle.timing_report.specs.declared.status.Input.{Input as InputValue};
-ghost use Rattle.timing_reach.specs.steps.Answers.{Answer, AreTold, seen_of};
-ghost use Rattle.timing_reach.specs.steps.Ran.{Output, Ran};
-ghost use Rattle.timing_reach.specs.declared.steps.failure.Failure.{Failure};
-ghost use Rattle.timing_reach.specs.declared.steps.failure.Failure.TheVariants as failure;
+ghost use Rattle.timing_steps.specs.Answers.{Answer, AreTold, seen_of};
+ghost use Rattle.timing_steps.specs.Queries.{FollowsQuery};
+ghost use Rattle.timing_steps.specs.Ran.{Output, Ran};
+ghost use Rattle.timing_steps.specs.declared.failure.Failure.{Failure};
+ghost use Rattle.timing_steps.specs.declared.failure.Failure.TheVariants as failure;
 ghost use Rattle.timing_top.specs.Asked.{Follows, InputRose, MeasuresBytes, names_of, seen};
-ghost use Rattle.timing_top.specs.Check.{FollowsCheck};
 ghost use Rattle.timing_top.specs.Headline.{Headline, NoRequest, with_workers};
 ghost use Rattle.timing_top.specs.SelfTest.{HasSelfTest};
 ghost use Rattle.timing_words.specs.Request.{request};
 ghost use Rattle.timing_base.specs.Jobs.{CheckJob, IsCheckJob};
 ghost use Rattle.timing_base.specs.Media.{Media, IsMedia};
-ghost use Rattle.timing_top.specs.Report.{HasReport, rows};
+ghost use Rattle.timing_top.specs.Report.{HasReport, check_query, rows};
 ghost use Rattle.timing_top.specs.Runs.{RanAs, prints_whole};
 ghost use Rattle.timing_base.specs.Captures.{Record};
 ghost use Rattle.timing_base.specs.declared.capture.FileNote.{FileNote};
@@ -155,8 +155,8 @@ pub fn same_for_all_workers<H: Shelf>()
         (answer : Answer) → HasReport job media texts answer
         → HasReport (with_workers workers job) media texts answer }
     ensures follows { (job : CheckJob) (workers : ℕ) (old new : H) (outcome : Result Answer Failure)
-        → FollowsCheck job (seen_of H.Shelf old new) outcome
-        → FollowsCheck (with_workers workers job) (seen_of H.Shelf old new) outcome }
+        → FollowsQuery (check_query job) (seen_of H.Shelf old new) outcome
+        → FollowsQuery (check_query (with_workers workers job)) (seen_of H.Shelf old new) outcome }
 {}
 
 /// For every request but `series`, and for an invalid command line, the clause `ran` of `crate::run` means that the

@@ -18,7 +18,7 @@ mod many;
 mod self_tests;
 pub mod verify;
 
-pub use check::{check_many, check_one};
+pub use check::{CheckCommand, check_many};
 pub use commands::run;
 pub use help::print_help;
 pub use self_tests::self_test;

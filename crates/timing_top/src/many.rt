@@ -17,8 +17,8 @@ use std::sync::Wait;
 use std::thread::Threads;
 use timing_base::{FileNote, Media, PcapFault};
 use timing_outside::{Gate, Shelf};
-use timing_reach::steps::{Failure, give_back_all};
 use timing_report::Input;
+use timing_steps::{Failure, give_back_all};
 
 /// Returns the number of the first capture that couldn't be read, from 0. Returns `None` if there is none, or if memory
 /// ran out in a capture before it.
@@ -37,22 +37,22 @@ fn first_unread(notes: &[Option<FileNote>]) -> Option<u32>
     None
 }
 
-/// Returns the number of workers of a run: at most as many as were asked for, as flows, and 16. A worker without a flow
-/// would have nothing to judge.
+/// Returns the number of workers of a run: at most as many as were asked for, as flows, and 16, and at least one. A
+/// worker without a flow would have nothing to judge.
 fn worker_count(asked: u32, captures: usize, media: usize, joined: bool) -> u32
-    requires { 1 ≤ asked }
     ensures some { 1 ≤ result }
-    ensures most { result ≤ asked }
+    ensures few { result ≤ 16 }
+    ensures most { 1 ≤ asked → result ≤ asked }
 {
     let flows = if joined {
         media
     } else {
         captures.saturating_mul(media)
     };
-    asked.min(flows.max(1).min(16) as u32)
+    asked.max(1).min(flows.max(1).min(16) as u32)
 }
 
-/// Judges the media, in each capture by itself or in all of them as one, with at most this many workers.
+/// Judges the media, in each capture by itself or in all of them as one, with at most this many workers, at least one.
 ///
 /// Returns `ReadFault` with the first capture that couldn't be read, and `OutOfMemory` if memory runs out. The sources
 /// go back to the shelf before, also if memory ran out in an intake.
@@ -67,12 +67,12 @@ pub fn judge_many<R: Threads + Wait + Sync, H: Shelf, G: Gate>(
     workers: u32,
     gate: &G,
 ) -> Result<Found, Failure>
+where
+    H::Source: Send,
     requires ready { AreReady (faults_of H.Source.faults) sources.items media.now tai }
     requires some { 1 ≤ length sources.items }
     requires some_media { 1 ≤ length media.now }
     requires targets { HaveOwnTargets media.now }
-    requires some_workers { 1 ≤ workers }
-    requires few_workers { workers ≤ 16 }
     ensures judged { Judges (rows_over joined tai media.now) media.now
         H.Shelf H.Source.Source shelf.old shelf.new sources.items result }
     ensures stays { StaysAs H.text H.lacks H.faults shelf.old shelf.new }

@@ -9,7 +9,7 @@ ghost use Rattle.timing_outside.specs.Shelves.{StaysAs};
 ghost use Rattle.timing_outside.specs.SteadyShelves.{bytes_of};
 ghost use Rattle.fail_interval.specs.Rows.{rows_over};
 ghost use Rattle.pcapng_reader.specs.Sources.{faults_of};
-ghost use Rattle.timing_reach.specs.steps.Ran.{Ran, output_of};
+ghost use Rattle.timing_steps.specs.Ran.{Ran, output_of};
 ghost use Rattle.capture_gen.specs.Capture.{capture};
 ghost use Rattle.capture_gen.specs.Sdp.{sdp_text};
 ghost use Rattle.timing_report.specs.Outcomes.{AreOfSession};
@@ -27,8 +27,8 @@ use std::sync::Wait;
 use std::thread::Threads;
 use timing_base::{FileName, Media, SelfTestJob, Session};
 use timing_outside::{Gate, MemorySink, Shelf, Sink, SteadyShelf};
-use timing_reach::steps::{Answer, Failure, conclude, fetch_captures, fetch_session};
 use timing_report::{Status, status_of, verdict_of};
+use timing_steps::{Answer, Failure, conclude, fetch_captures, fetch_session};
 
 /// The number of flaws that a generated capture can have, with flaw 0, which is none.
 const FLAWS: u32 = 5;
@@ -77,6 +77,8 @@ fn judge_made<R: Threads + Wait + Sync, H: Shelf, G: Gate>(
     workers: u32,
     gate: &G,
 ) -> Result<Found, Failure>
+where
+    H::Source: Send,
     requires ready { AreReady (faults_of H.Source.faults) sources.items media.now 0 }
     requires some { 1 ≤ length sources.items }
     requires some_media { 1 ≤ length media.now }

@@ -15,4 +15,4 @@ mod words;
 
 pub use checked::{Checked, Finding};
 pub use report::verify_all;
-pub use verify::verify_one;
+pub use verify::VerifyCommand;

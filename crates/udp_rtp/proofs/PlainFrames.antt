@@ -108,7 +108,7 @@ datagram-behind frame kind udp = rw (kind, udp) refl
 
 -- such a frame has a datagram to this target
 pub datagram-carried : (target : Target) (p : Rtp) (frame : List ℕ) → IsCarried target p frame
-    → datagram_of frame ≡ Some (record { target = target; payload = payload_at frame 34 })
+    → datagram_of frame ≡ Some (record (datagram_at frame 14) { target = target; payload = payload_at frame 34 })
 datagram-carried target p frame f =
     datagram-behind frame f.kind (is-udp frame f.long f.first f.protocol f.whole)
     ∙ rw (udp-at frame f.first, f.address, f.port) refl

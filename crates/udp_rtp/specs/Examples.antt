@@ -73,6 +73,43 @@ frame_of header = frame_with header (udp 22) packet
 abbrev pub group : Target
 group = record { address = ipv4 239 0 0 1; port = 50000 }
 
--- a datagram to that target with this payload
+-- 192.0.2.1, port 50000
+abbrev pub sender : Target
+sender = record { address = ipv4 192 0 2 1; port = 50000 }
+
+-- a datagram from the sender to the group, of 42 bytes with its IPv4 header, with this much payload by its UDP length
+-- and this one captured
+abbrev pub stating : ℕ → List ℕ → Datagram
+stating stated bytes = record { target = group; source = sender; length = 42; stated = stated; payload = bytes }
+
+-- such a datagram with a UDP length of 22 bytes
 abbrev pub to_group : List ℕ → Datagram
-to_group bytes = record { target = group; payload = bytes }
+to_group bytes = stating 14 bytes
+
+-- the type field of IPv6
+abbrev pub ipv6_type : List ℕ
+ipv6_type = 0x86 ∷ 0xdd ∷ []
+
+-- the type field of ARP
+abbrev pub arp_type : List ℕ
+arp_type = 0x08 ∷ 0x06 ∷ []
+
+-- a tag of a provider's bridge, with VLAN 5
+abbrev pub provider_tag : List ℕ
+provider_tag = 0x88 ∷ 0xa8 ∷ 0x00 ∷ 0x05 ∷ []
+
+-- ten bytes that may follow a type field
+abbrev pub ten : List ℕ
+ten = 0 ∷ 0 ∷ 0 ∷ 0 ∷ 0 ∷ 0 ∷ 0 ∷ 0 ∷ 0 ∷ 0 ∷ []
+
+-- an Ethernet frame with TCP
+abbrev pub tcp_frame : List ℕ
+tcp_frame = frame_of (ip 0x45 0x40 0 6)
+
+-- the first fragment of a datagram
+abbrev pub fragment_frame : List ℕ
+fragment_frame = frame_of (ip 0x45 0x20 0 17)
+
+-- an IPv4 header with version 6
+abbrev pub broken_frame : List ℕ
+broken_frame = frame_of (ip 0x65 0x40 0 17)

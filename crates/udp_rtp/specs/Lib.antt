@@ -1,6 +1,7 @@
 -- definitions that the crate's clauses cite
 pub mod Awaited
 pub mod Carried
+pub mod Classes
 pub mod Flow
 pub mod Frames
 pub mod Numbers

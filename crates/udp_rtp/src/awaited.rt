@@ -99,7 +99,8 @@ impl Awaited {
     {
         match packet {
             Some(rtp) if !rtp.marker && rtp.pt < 128 => Awaited {
-                destination: u64::from(target.address.bits) * 0x1_0000_0000 + u64::from(target.port),
+                destination: u64::from(target.address.bits) * 0x1_0000_0000
+                    + u64::from(target.port),
                 timestamp: rtp.timestamp,
                 head: (0x8000 + u32::from(rtp.pt)) * 0x1_0000 + rtp.number % 0x1_0000,
                 rest: u64::from(rtp.timestamp % 0x1_0000) * 0x1_0000_0000_0000

@@ -1,17 +1,12 @@
 //! Ethernet, IPv4 and UDP headers.
 
 ghost use Rattle.std.specs.Prelude.{◌≡◌, ◌+◌, ◌≤◌, Some, IfSome, length};
-ghost use Rattle.udp_rtp.specs.Frames.{datagram_from, datagram_of, ip_place, is_udp_at, payload_at, udp_place};
+ghost use Rattle.udp_rtp.specs.Frames.{datagram_from, datagram_of, end_at, frame_reading, ip_place, is_udp_at, payload_at, stated_at, udp_place};
 
+use crate::class::{FrameClass, IPV4, TAG, class_of};
 use crate::udp::Datagram;
 use byteorder::{BigEndian, ByteOrder};
 use timing_base::{Address, Target};
-
-/// The type field of IPv4 (IEEE 802.3; RFC 894).
-const IPV4: u16 = 0x0800;
-
-/// The type field of a tag (IEEE 802.1Q).
-const TAG: u16 = 0x8100;
 
 /// The first byte of an IPv4 header without options: version 4, and an IHL of 5.
 const PLAIN: u8 = 0x45;
@@ -49,6 +44,35 @@ fn payload(frame: &[u8], udp: usize) -> &[u8]
     &data[..stated.saturating_sub(8).min(data.len())]
 }
 
+/// Returns the bytes of payload by the UDP length of the header at the place `udp`, or 0 if that
+/// length wasn't captured.
+#[inline(always)]
+fn stated(frame: &[u8], udp: usize) -> u16
+    requires { udp + 4 ≤ length frame.now }
+    ensures { result ≡ stated_at frame.now udp }
+{
+    if frame.len() < udp + 6 {
+        return 0;
+    }
+    BigEndian::read_u16(&frame[udp + 4..]).saturating_sub(8)
+}
+
+/// Returns the address at the place `at` of the IPv4 header, and the port at the place `port` of
+/// the UDP header.
+#[inline(always)]
+fn end_at(frame: &[u8], at: usize, port: usize) -> Target
+    requires address { at + 4 ≤ length frame.now }
+    requires port { port + 2 ≤ length frame.now }
+    ensures { result ≡ end_at frame.now at port }
+{
+    Target {
+        address: Address {
+            bits: BigEndian::read_u32(&frame[at..]),
+        },
+        port: BigEndian::read_u16(&frame[port..]),
+    }
+}
+
 /// Returns whether there is an IPv4 header of a UDP datagram at the place `ip`, and the ports were
 /// captured.
 #[inline(always)]
@@ -78,12 +102,10 @@ fn datagram_behind(frame: &[u8], ip: usize) -> Option<Datagram<'_>>
     }
     let udp = ip + 4 * usize::from(frame[ip] % 16);
     Some(Datagram {
-        target: Target {
-            address: Address {
-                bits: BigEndian::read_u32(&frame[ip + 16..]),
-            },
-            port: BigEndian::read_u16(&frame[udp + 2..]),
-        },
+        target: end_at(frame, ip + 16, udp + 2),
+        source: end_at(frame, ip + 12, udp),
+        length: BigEndian::read_u16(&frame[ip + 2..]),
+        stated: stated(frame, udp),
         payload: payload(frame, udp),
     })
 }
@@ -106,7 +128,8 @@ fn datagram_behind(frame: &[u8], ip: usize) -> Option<Datagram<'_>>
 /// 17 (UDP), the IHL at least 5, and the packet is no fragment (RFC 791, section 3.1). It is enough
 /// if the frame was captured up to its ports. The payload ends at the UDP length (RFC 768) or the
 /// end of the frame, whichever comes first, and is empty if that is before its start. Checksums,
-/// the IPv4 total length, padding after the datagram, and the tag's control are ignored.
+/// padding after the datagram, and the tag's control are ignored, and the IPv4 total length is only
+/// returned.
 #[inline(always)]
 pub fn datagram(frame: &[u8]) -> Option<Datagram<'_>>
     ensures { result ≡ datagram_of frame.now }
@@ -119,4 +142,16 @@ pub fn datagram(frame: &[u8]) -> Option<Datagram<'_>>
         return datagram_behind(frame, 14);
     }
     datagram_behind(frame, ip_header(frame)?)
+}
+
+/// Reads an Ethernet frame: its datagram, as [`datagram`] finds it, or the class of a frame that has
+/// none.
+#[inline(always)]
+pub fn read_frame(frame: &[u8]) -> Result<Datagram<'_>, FrameClass>
+    ensures { result ≡ frame_reading frame.now }
+{
+    match datagram(frame) {
+        Some(datagram) => Ok(datagram),
+        None => Err(class_of(frame)),
+    }
 }

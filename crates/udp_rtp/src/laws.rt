@@ -14,11 +14,14 @@ ghost use Rattle.udp_rtp.specs.Awaited.{awaited, awaited_after, awaited_of};
 ghost use Rattle.udp_rtp.specs.declared.awaited.Awaited.{Awaited};
 ghost use Rattle.udp_rtp.specs.Carried.{carries};
 ghost use Rattle.udp_rtp.specs.Numbers.{number16};
-ghost use Rattle.udp_rtp.specs.Frames.{datagram_of, payload_at};
+ghost use Rattle.udp_rtp.specs.Classes.{class_of};
+ghost use Rattle.udp_rtp.specs.declared.class.FrameClass.TheVariants.{Broken, Empty, Fragment, Ipv6, NotUdp, Other, Tags};
+ghost use Rattle.udp_rtp.specs.Frames.{Datagram, datagram_at, datagram_of, frame_reading, payload_at};
 ghost use Rattle.udp_rtp.specs.Reading.{reading};
 ghost use Rattle.udp_rtp.specs.Flow.{flow, flow_packet};
 ghost use Rattle.udp_rtp.specs.Examples.{macs, ip_type, tag, ip, plain_ip, udp, rtp, extended, source, extension};
-ghost use Rattle.udp_rtp.specs.Examples.{packet, plain_packet, frame_of, frame_with, group, to_group};
+ghost use Rattle.udp_rtp.specs.Examples.{packet, plain_packet, frame_of, frame_with, group, stating, to_group};
+ghost use Rattle.udp_rtp.specs.Examples.{arp_type, broken_frame, fragment_frame, ipv6_type, provider_tag, tcp_frame, ten};
 ghost use Rattle.udp_rtp.specs.TwoFlows.{next_port};
 
 /// One more packet record adds its packet to the end of the flow, or leaves the flow unchanged if
@@ -47,7 +50,7 @@ pub fn datagrams_by_hand()
     // The source port is another one, 5000.
     ensures other_source { datagram_of
         (macs ++ ip_type ++ plain_ip ++ (0x13 ∷ 0x88 ∷ drop 2 (udp 22)) ++ packet)
-        ≡ Some (to_group packet) }
+        ≡ Some (record (to_group packet) { source = record { address = ipv4 192 0 2 1; port = 5000 } }) }
 
     // One tag; one word of IPv4 options; without the flag DF; with the reserved flag.
     ensures tagged { datagram_of (macs ++ tag ++ ip_type ++ plain_ip ++ udp 22 ++ packet)
@@ -60,18 +63,20 @@ pub fn datagrams_by_hand()
     // The UDP length ends the payload after 12 bytes, and after none. Then it exceeds the captured
     // bytes.
     ensures twelve { datagram_of (macs ++ ip_type ++ plain_ip ++ udp 20 ++ packet)
-        ≡ Some (to_group (rtp 0x80 0x60)) }
+        ≡ Some (stating 12 (rtp 0x80 0x60)) }
     ensures eight { datagram_of (macs ++ ip_type ++ plain_ip ++ udp 8 ++ packet)
-        ≡ Some (to_group []) }
+        ≡ Some (stating 0 []) }
     ensures seven { datagram_of (macs ++ ip_type ++ plain_ip ++ udp 7 ++ packet)
-        ≡ Some (to_group []) }
+        ≡ Some (stating 0 []) }
     ensures cut_54 { datagram_of (take 54 (frame_of plain_ip)) ≡ Some (to_group (rtp 0x80 0x60)) }
 
-    // The frame ends in the UDP header, and right after its ports.
+    // The frame ends behind the UDP length, within it, and right after the ports.
     ensures cut_41 { datagram_of (take 41 (frame_of plain_ip)) ≡ Some (to_group []) }
-    ensures cut_38 { datagram_of (take 38 (frame_of plain_ip)) ≡ Some (to_group []) }
+    ensures cut_40 { datagram_of (take 40 (frame_of plain_ip)) ≡ Some (to_group []) }
+    ensures cut_39 { datagram_of (take 39 (frame_of plain_ip)) ≡ Some (stating 0 []) }
+    ensures cut_38 { datagram_of (take 38 (frame_of plain_ip)) ≡ Some (stating 0 []) }
     ensures tagged_42 { datagram_of (take 42 (macs ++ tag ++ ip_type ++ plain_ip ++ udp 22))
-        ≡ Some (to_group []) }
+        ≡ Some (stating 0 []) }
 {}
 
 /// Worked by hand: Ethernet frames without a datagram.
@@ -98,6 +103,56 @@ pub fn no_datagrams_by_hand()
     ensures first { datagram_of (frame_of (ip 0x45 0x20 0 17)) ≡ None }
     ensures later { datagram_of (frame_of (ip 0x45 0x00 1 17)) ≡ None }
     ensures last { datagram_of (frame_of (ip 0x45 0x10 0 17)) ≡ None }
+{}
+
+/// Worked by hand: Ethernet frames without a datagram, of each class, on both sides of its limits.
+pub fn classes_by_hand()
+    ensures empty { class_of [] ≡ Empty }
+
+    // Two tags, and the tag of a provider's bridge, alone and behind another tag.
+    ensures two_tags { class_of (macs ++ tag ++ tag ++ ip_type ++ plain_ip) ≡ Tags }
+    ensures provider { class_of (macs ++ provider_tag ++ ip_type ++ plain_ip) ≡ Tags }
+    ensures behind { class_of (macs ++ tag ++ provider_tag ++ ipv6_type) ≡ Tags }
+
+    // IPv6, also behind a tag, and with nothing behind its type.
+    ensures ipv6 { class_of (macs ++ ipv6_type ++ ten) ≡ Ipv6 }
+    ensures tagged_ipv6 { class_of (macs ++ tag ++ ipv6_type ++ ten) ≡ Ipv6 }
+    ensures type_alone { class_of (macs ++ ipv6_type) ≡ Ipv6 }
+
+    // Another type, also behind a tag; a frame that ends within its type, or within the type behind a tag.
+    ensures arp { class_of (macs ++ arp_type ++ ten) ≡ Other }
+    ensures tagged_arp { class_of (macs ++ tag ++ arp_type ++ ten) ≡ Other }
+    ensures short { class_of (take 13 (frame_of plain_ip)) ≡ Other }
+    ensures tagged_short { class_of (take 17 (macs ++ tag ++ ip_type)) ≡ Other }
+
+    // TCP; of a header with 19 captured bytes the protocol isn't read.
+    ensures tcp { class_of tcp_frame ≡ NotUdp }
+    ensures tagged_tcp { class_of (macs ++ tag ++ ip_type ++ ip 0x45 0x40 0 6) ≡ NotUdp }
+    ensures tcp_header { class_of (take 34 tcp_frame) ≡ NotUdp }
+    ensures tcp_cut { class_of (take 33 tcp_frame) ≡ Broken }
+
+    // The first fragment of several and a later one; a fragment of TCP counts as not UDP.
+    ensures first { class_of fragment_frame ≡ Fragment }
+    ensures later { class_of (frame_of (ip 0x45 0x00 1 17)) ≡ Fragment }
+    ensures tcp_fragment { class_of (frame_of (ip 0x45 0x20 0 6)) ≡ NotUdp }
+
+    // Version 6 in an IPv4 header, a header of four words, and a frame that ends before its ports.
+    ensures version { class_of broken_frame ≡ Broken }
+    ensures words { class_of (frame_of (ip 0x44 0x40 0 17)) ≡ Broken }
+    ensures cut { class_of (take 37 (frame_of plain_ip)) ≡ Broken }
+{}
+
+/// Worked by hand: the datagram of a frame, or the class of a frame that has none.
+pub fn frames_by_hand()
+    ensures datagram { frame_reading (frame_of plain_ip) ≡ Ok (to_group packet) }
+    ensures tcp { frame_reading tcp_frame ≡ Err NotUdp }
+    ensures empty { frame_reading [] ≡ Err Empty }
+{}
+
+/// A frame with a datagram is of class `Broken`, the last one. A class before it applies only to
+/// frames without a datagram.
+pub fn datagrams_are_no_class()
+    ensures { (frame : List ℕ) (d : Datagram) → datagram_of frame ≡ Some d → class_of frame ≡ Broken }
 {}
 
 /// Worked by hand: payloads with packet number 65,544, RTP timestamp 1800, source 1 and payload
@@ -159,7 +214,7 @@ pub fn flow_by_hand()
 /// flow of each media of this target.
 pub fn carried_is_read()
     ensures datagram { (target : Target) (p : Rtp) (frame : List ℕ) → carries target p frame ≡ true
-        → datagram_of frame ≡ Some (record { target = target; payload = payload_at frame 34 }) }
+        → datagram_of frame ≡ Some (record (datagram_at frame 14) { target = target; payload = payload_at frame 34 }) }
     ensures read { (target : Target) (p : Rtp) (frame : List ℕ) → carries target p frame ≡ true
         → reading (payload_at frame 34) ≡ Ok p }
     ensures packet { (media : Media) (p : Rtp) (r : Record)

@@ -1,7 +1,8 @@
 //! A reader of RTP packets of video in captured Ethernet frames.
 //!
-//! [`datagram`] finds the target and the payload of a frame, [`read_rtp`] reads a payload, and
-//! [`packet_of`] does both for the flow of one media. [`carries`] compares a frame with a packet
+//! [`read_frame`] finds the UDP datagram of a frame, or the class of a frame that has none, and
+//! [`datagram`] only the datagram. [`read_rtp`] reads a payload, and [`packet_of`] does both for the
+//! flow of one media. [`carries`] compares a frame with a packet
 //! that is known in advance, and [`Awaited`] holds such a packet as the numbers to compare. None of
 //! them allocates memory or loops over bytes.
 //!
@@ -10,6 +11,7 @@
 
 mod awaited;
 mod carried;
+mod class;
 mod flow;
 mod frame;
 pub mod laws;
@@ -18,7 +20,8 @@ mod udp;
 
 pub use awaited::Awaited;
 pub use carried::carries;
+pub use class::FrameClass;
 pub use flow::packet_of;
-pub use frame::datagram;
+pub use frame::{datagram, read_frame};
 pub use rtp::read_rtp;
 pub use udp::Datagram;

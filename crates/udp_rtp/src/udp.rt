@@ -3,11 +3,18 @@
 use std::marker::Model;
 use timing_base::Target;
 
-/// The target of a UDP datagram, and its payload.
+/// A UDP datagram over IPv4: where it goes and where it came from, its lengths, and its payload.
 #[derive(Debug, Drop)]
 pub struct Datagram<'a> {
     /// The destination address and port.
     pub target: Target,
+    /// The source address and port.
+    pub source: Target,
+    /// The total length of IPv4, in bytes.
+    pub length: u16,
+    /// The bytes of payload by the UDP length, whether or not they were captured; 0 if the UDP
+    /// length wasn't captured.
+    pub stated: u16,
     /// The UDP payload, as far as it was captured.
     pub payload: &'a [u8],
 }
@@ -17,5 +24,11 @@ impl<'a> Model for Datagram<'a> {
 
     ghost Value = { Seen };
 
-    ghost view = { λ d. record { target = d.target; payload = d.payload.now } };
+    ghost view = { λ d. record {
+      target = d.target;
+      source = d.source;
+      length = d.length;
+      stated = d.stated;
+      payload = d.payload.now;
+    } };
 }

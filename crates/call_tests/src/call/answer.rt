@@ -110,7 +110,10 @@ pub fn answered<R: AllocGlobal + Wait + Threads + Sync, H: Shelf, G: Gate>(
     sinks: Sinks,
     shelf: &mut H,
     gate: &G,
-) -> Result<Outcome, AllocError> {
+) -> Result<Outcome, AllocError>
+where
+    H::Source: Send,
+{
     let alloc = rt.alloc();
     let words = words_of(alloc, line)?;
     let mut out = sink_of(alloc, sinks)?;

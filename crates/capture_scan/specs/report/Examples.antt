@@ -3,7 +3,8 @@
 use Rattle.std.specs.Prelude.{ℕ, Bool, true, false, [], ◌∷◌, Some, None}
 use Rattle.timing_base.specs.Addresses.{ipv4}
 use Rattle.timing_base.specs.declared.target.Target.{Target}
-use Rattle.capture_scan.specs.Examples.{order_with, pace_with, sender}
+use Rattle.udp_rtp.specs.Examples.{sender}
+use Rattle.capture_scan.specs.Examples.{order_with, pace_with}
 use Rattle.capture_scan.specs.declared.found.PassedOver.{PassedOver}
 use Rattle.capture_scan.specs.declared.stream.Rate.{Rate}
 use Rattle.capture_scan.specs.declared.stream.Stream.{Stream}

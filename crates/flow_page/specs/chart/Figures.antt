@@ -1,6 +1,6 @@
 -- The start and the end of a picture: its title, the text beside it, and its size. There are wide pictures, and others
 -- in pairs, side by side. The title and the text beside a picture are also given for screen readers (SVG, `title` and
--- `desc`). This project's own format.
+-- `desc`). The text beside it is HTML. This project's own format.
 use Rattle.std.specs.Prelude.{ℕ, Bool, true, false, List, ◌++◌, codes}
 use Rattle.flow_page.specs.chart.Escapes.{escaped}
 
@@ -24,8 +24,8 @@ svg_open false =
 -- the start of a picture, up to its first mark
 abbrev pub figure_start : (wide : Bool) → (title detail : List ℕ) → List ℕ
 figure_start wide title detail =
-    told (figure_open wide) title ++ (told (codes " <span>") detail ++ (told (svg_open wide) title
-    ++ (told (codes "</title><desc>") detail ++ codes "</desc>")))
+    told (figure_open wide) title ++ (codes " <span>" ++ (detail ++ (told (svg_open wide) title
+    ++ (codes "</title><desc>" ++ (detail ++ codes "</desc>")))))
 
 -- the end of a picture
 abbrev pub figure_end : List ℕ

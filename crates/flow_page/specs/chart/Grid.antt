@@ -12,7 +12,8 @@ use Rattle.flow_page.specs.declared.chart.axis.Axis.{Axis}
 use Rattle.flow_page.specs.declared.chart.grid.Unit.{Unit}
 use Rattle.flow_page.specs.declared.chart.grid.Unit.TheVariants.{Packets, Nanoseconds, Ticks}
 use Rattle.flow_page.specs.declared.chart.grid.UnitAcross.{UnitAcross}
-use Rattle.flow_page.specs.declared.chart.grid.UnitAcross.TheVariants.{Packet, Place, Frame, Bucket, Buffer, Gap}
+use Rattle.flow_page.specs.declared.chart.grid.UnitAcross.TheVariants.{Packet, Place, FieldPlace, Frame, Field}
+use Rattle.flow_page.specs.declared.chart.grid.UnitAcross.TheVariants.{Bucket, Buffer, Gap}
 use Rattle.flow_page.specs.declared.chart.plot.Across.{Across}
 use Rattle.flow_page.specs.declared.chart.plot.Plot.{Plot}
 
@@ -40,7 +41,9 @@ unit_name Ticks step = codes "ticks of 90 kHz"
 abbrev pub across_name : UnitAcross → List ℕ
 across_name Packet = codes "judged packet"
 across_name Place = codes "place in the frame"
+across_name FieldPlace = codes "place in the field"
 across_name Frame = codes "frame"
+across_name Field = codes "field"
 across_name Bucket = codes "packets in the bucket"
 across_name Buffer = codes "packets in the buffer"
 across_name Gap = codes "ns from packet to packet"

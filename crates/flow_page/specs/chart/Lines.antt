@@ -20,7 +20,7 @@ label_text BothNarrow at = codes "N, NL " ++ signed_decimal at
 label_text Wide at = codes "W " ++ signed_decimal at
 label_text Empty at = codes "empty"
 label_text Offset at = codes "TR_OFFSET"
-label_text Period at = codes "frame ends"
+label_text Period at = codes "T_GROUP"
 
 -- the CSS class of a line: those of W are dotted, others dashed
 abbrev pub style_of : LineName → List ℕ

@@ -40,6 +40,7 @@ pub record AreCurves (m : Media) (n groups : ℕ) (stamps timestamps : List ℕ)
   pub linear : AreLevels n (length stamps) linear_at c.linear c.linear_eye
   -- the first and the last packet of each frame or field against the instant at which it begins
   pub first : AreCurve 1000 (since_at m (anchor_in m stamps) (firsts_of n (slice_index stamps))) groups c.first
+  pub drift : AreCurve 8 (since_at m (anchor_in m stamps) (firsts_of n (slice_index stamps))) groups c.drift
   pub last : AreCurve 1000 (since_at m (anchor_in m stamps) (lasts_of n (slice_index stamps))) groups c.last
   -- the RTP timestamp of each frame or field against the media clock at that instant, and against its first packet
   pub offset : AreCurve 1000 (offset_at m (anchor_in m stamps) (firsts_of n (slice_index timestamps))) groups c.offset

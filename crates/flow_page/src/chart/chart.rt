@@ -185,14 +185,14 @@ fn add_curve(
 }
 
 /// Returns the axis of columns and lines.
-fn curve_axis(lines: &[Limit], columns: &[Extremes]) -> Axis
+pub fn curve_axis(lines: &[Limit], columns: &[Extremes]) -> Axis
     ensures { result ≡ curve_axis lines.now columns.now }
 {
     axis_over(over_lines(over_columns(columns), lines))
 }
 
-/// Adds the picture of columns with its title, the text beside it, and the lines of limits. Its axis includes all
-/// columns and lines.
+/// Adds the picture of columns with its title, the text beside it, which is HTML, and the lines of limits. Its axis
+/// includes all columns and lines.
 pub fn add_curve_figure(
     text: &mut String,
     alloc: Global,
@@ -241,7 +241,7 @@ fn bars_panel(alloc: Global, axis: Axis) -> Result<Panel, OutOfMemory>
     Ok(panel_of(false, room))
 }
 
-/// Adds the picture of bars with its title and the text beside it. `total` is the count of all numbers.
+/// Adds the picture of bars with its title and the text beside it, which is HTML. `total` is the count of all numbers.
 pub fn add_bars_figure(
     text: &mut String,
     alloc: Global,

@@ -44,7 +44,8 @@ fn add_markup(text: &mut String, markup: &str) -> Result<(), OutOfMemory>
     text.push_str(markup)
 }
 
-/// Adds the start of a picture: its title, and the text beside it, both also in the SVG for screen readers.
+/// Adds the start of a picture: its title, and the text beside it, which is HTML, both also in the SVG for screen
+/// readers.
 pub(crate) fn add_figure_start(
     text: &mut String,
     wide: bool,
@@ -55,9 +56,11 @@ pub(crate) fn add_figure_start(
         ≡ string_bytes text.old ++ figure_start wide title.now detail.now) }
 {
     add_told(text, figure_open(wide), title)?;
-    add_told(text, " <span>", detail)?;
+    add_markup(text, " <span>")?;
+    add_markup(text, detail)?;
     add_told(text, svg_open(wide), title)?;
-    add_told(text, "</title><desc>", detail)?;
+    add_markup(text, "</title><desc>")?;
+    add_markup(text, detail)?;
     add_markup(text, "</desc>")
 }
 

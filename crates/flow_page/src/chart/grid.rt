@@ -2,7 +2,8 @@
 
 ghost use Rattle.std.specs.Prelude.{◌≡◌, ◌≤◌, ◌+◌, ◌++◌, ◌^◌, IfOk, pos, string_bytes};
 ghost use Rattle.flow_page.specs.chart.Grid.{across_name, frame_rule, frame_rules, grid_line, grid_text, mark_across};
-ghost use Rattle.flow_page.specs.chart.Grid.{mark_piece, marks_across, number_piece, rule_piece, scale_of, scale_of_ns};
+ghost use Rattle.flow_page.specs.chart.Grid.{mark_piece, marks_across, ns_name, number_piece, rule_piece, scale_of};
+ghost use Rattle.flow_page.specs.chart.Grid.{scale_of_ns};
 ghost use Rattle.flow_page.specs.chart.Grid.{shown, some_mark_across, step_across, tick_across, unit_name, units_piece};
 ghost use Rattle.flow_page.specs.chart.Grid.{units_text};
 
@@ -26,10 +27,14 @@ pub enum Unit {
 pub enum UnitAcross {
     /// Judged packets, from 0.
     Packet,
-    /// The packets of one frame or field, from 0.
+    /// The packets of one frame, from 0.
     Place,
-    /// Frames or fields, from 0.
+    /// The packets of one field, from 0.
+    FieldPlace,
+    /// Frames, from 0.
     Frame,
+    /// Fields, from 0.
+    Field,
     /// The packets in a bucket.
     Bucket,
     /// The packets in a buffer.
@@ -39,7 +44,7 @@ pub enum UnitAcross {
 }
 
 /// Returns the unit in which times are printed, in nanoseconds, for ticks `step` nanoseconds apart.
-fn scale_of_ns(step: u64) -> u32
+pub(crate) fn scale_of_ns(step: u64) -> u32
     ensures value { result ≡ scale_of_ns step }
     ensures some { 1 ≤ result }
 {
@@ -49,6 +54,19 @@ fn scale_of_ns(step: u64) -> u32
         1000
     } else {
         1
+    }
+}
+
+/// Returns the unit in which times are printed, in HTML, for ticks `step` nanoseconds apart.
+pub(crate) fn ns_name(step: u64) -> &'static str
+    ensures { result.now ≡ ns_name step }
+{
+    if step % 1_000_000 == 0 {
+        "ms"
+    } else if step % 1000 == 0 {
+        "&#181;s"
+    } else {
+        "ns"
     }
 }
 
@@ -71,15 +89,7 @@ impl Unit {
     {
         match self {
             Unit::Packets => "packets",
-            Unit::Nanoseconds => {
-                if step % 1_000_000 == 0 {
-                    "ms"
-                } else if step % 1000 == 0 {
-                    "&#181;s"
-                } else {
-                    "ns"
-                }
-            }
+            Unit::Nanoseconds => ns_name(step),
             Unit::Ticks => "ticks of 90 kHz",
         }
     }
@@ -93,7 +103,9 @@ impl UnitAcross {
         match self {
             UnitAcross::Packet => "judged packet",
             UnitAcross::Place => "place in the frame",
+            UnitAcross::FieldPlace => "place in the field",
             UnitAcross::Frame => "frame",
+            UnitAcross::Field => "field",
             UnitAcross::Bucket => "packets in the bucket",
             UnitAcross::Buffer => "packets in the buffer",
             UnitAcross::Gap => "ns from packet to packet",

@@ -52,7 +52,7 @@ impl fmt::Display for Limit {
             LineName::Wide => write!(f, "W {at}"),
             LineName::Empty => f.write_str("empty"),
             LineName::Offset => f.write_str("TR_OFFSET"),
-            LineName::Period => f.write_str("frame ends"),
+            LineName::Period => f.write_str("T_GROUP"),
         }
     }
 }

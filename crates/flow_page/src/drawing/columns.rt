@@ -108,6 +108,7 @@ impl RunColumns {
             gapped_eye: self.packets.gapped.eye(alloc)?,
             linear_eye: self.packets.linear.eye(alloc)?,
             first: self.groups.curves.first.finish(alloc)?,
+            drift: self.groups.curves.drift.finish(alloc)?,
             last: self.groups.curves.last.finish(alloc)?,
             offset: self.groups.curves.offset.finish(alloc)?,
             latency: self.groups.curves.latency.finish(alloc)?,

@@ -9,6 +9,9 @@ use flow_measure::{Curve, GroupWalk, latency_of, offset_of, since_start};
 use sender_params::Params;
 use std::alloc::{AllocError as OutOfMemory, Global};
 
+/// The greatest number of columns from which a drift is told.
+const DRIFT: u32 = 8;
+
 /// A frame or field: the capture timestamp of its first packet, and its RTP timestamp.
 #[derive(Clone, Copy)]
 pub struct Group {
@@ -26,6 +29,8 @@ pub struct GroupCurves {
     pub seen: u64,
     /// Nanoseconds from the instant at which each frame or field begins to its first packet.
     pub first: Curve<i128>,
+    /// The same numbers in at most eight columns.
+    pub drift: Curve<i128>,
     /// Nanoseconds from the instant at which each frame or field begins to its last packet.
     pub last: Curve<i128>,
     /// Ticks by which each RTP timestamp exceeds the media clock at the instant at which its frame or field begins.
@@ -33,10 +38,12 @@ pub struct GroupCurves {
     /// Ticks from each RTP timestamp to the first packet of its frame or field.
     pub latency: Curve<i128>,
     ghost first_is: { first.seen ≡ seen },
+    ghost drift_is: { drift.seen ≡ seen },
     ghost last_is: { last.seen ≡ seen },
     ghost offset_is: { offset.seen ≡ seen },
     ghost latency_is: { latency.seen ≡ seen },
     ghost first_most: { first.most ≡ 1000 },
+    ghost drift_most: { drift.most ≡ 8 },
     ghost last_most: { last.most ≡ 1000 },
     ghost offset_most: { offset.most ≡ 1000 },
     ghost latency_most: { latency.most ≡ 1000 },
@@ -54,6 +61,7 @@ impl GroupCurves {
         Ok(GroupCurves {
             seen: 0,
             first: Curve::new(alloc, CURVE)?,
+            drift: Curve::new(alloc, DRIFT)?,
             last: Curve::new(alloc, CURVE)?,
             offset: Curve::new(alloc, CURVE)?,
             latency: Curve::new(alloc, CURVE)?,
@@ -77,7 +85,9 @@ impl GroupCurves {
             → DrawsCurves params.now.media n0 self.new first last timestamp }
     {
         let k = self.seen;
-        self.first.feed(since_start(params, n0, k, group.first));
+        let first = since_start(params, n0, k, group.first);
+        self.first.feed(first);
+        self.drift.feed(first);
         self.last.feed(since_start(params, n0, k, at));
         self.offset.feed(offset_of(params, n0, k, group.timestamp));
         self.latency.feed(latency_of(group.first, group.timestamp));
@@ -94,6 +104,7 @@ impl GroupCurves {
             → DrawsCurves m anchor self.new first last timestamp }
     {
         self.first.keep(&other.first);
+        self.drift.keep(&other.drift);
         self.last.keep(&other.last);
         self.offset.keep(&other.offset);
         self.latency.keep(&other.latency);

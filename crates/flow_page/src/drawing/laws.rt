@@ -1,7 +1,12 @@
 //! Theorems about the definitions of drawings. Each function does nothing: its clauses are what is proved.
 
-ghost use Rattle.std.specs.Prelude.{◌≡◌};
-ghost use Rattle.flow_page.specs.drawing.Drawn.{AreLevels, count_around, start_around};
+ghost use Rattle.std.specs.Prelude.{◌≡◌, ℕ, ℤ, List, true, false};
+ghost use Rattle.timing_base.specs.Media.{Media};
+ghost use Rattle.timing_base.specs.declared.fail.Broken.TheVariants.{Bucket, Empty, Over};
+ghost use Rattle.timing_base.specs.declared.media.Kind.TheVariants.{N, NL, W};
+ghost use Rattle.flow_measure.specs.Metered.{AreBuckets};
+ghost use Rattle.flow_measure.specs.Occupancy.{AreOccupancies};
+ghost use Rattle.flow_page.specs.drawing.Drawn.{AreLevels, IsHeld, count_around, start_around};
 ghost use Rattle.flow_page.specs.drawing.Worked.{burst_proof, each_packet, held, later_proof, laid_over};
 
 /// The columns of two frames of two packets with the levels 1 and 2, and then 1 and 3. Each packet has a column of its
@@ -20,4 +25,19 @@ pub fn regions_by_hand()
     ensures later_start { start_around later_proof ≡ 651 }
     ensures later_count { count_around later_proof 2000 ≡ 400 }
     ensures at_the_end { count_around later_proof 1010 ≡ 359 }
+{}
+
+/// The level that is drawn around a violation: the bucket, or the buffer by the reads of the type. Those of N are gapped,
+/// those of NL and W linear.
+pub fn held_around_by_hand()
+    ensures bucket { (m : Media) (n : ℕ) (stamps : List ℕ) (at : ℕ → ℤ) → IsHeld m n stamps N Bucket at
+        → AreBuckets m n stamps at }
+    ensures narrow { (m : Media) (n : ℕ) (stamps : List ℕ) (at : ℕ → ℤ) → IsHeld m n stamps N Over at
+        → AreOccupancies m n stamps true at }
+    ensures linear { (m : Media) (n : ℕ) (stamps : List ℕ) (at : ℕ → ℤ) → IsHeld m n stamps NL Over at
+        → AreOccupancies m n stamps false at }
+    ensures empty { (m : Media) (n : ℕ) (stamps : List ℕ) (at : ℕ → ℤ) → IsHeld m n stamps N Empty at
+        → AreOccupancies m n stamps true at }
+    ensures wide { (m : Media) (n : ℕ) (stamps : List ℕ) (at : ℕ → ℤ) → IsHeld m n stamps W Empty at
+        → AreOccupancies m n stamps false at }
 {}

@@ -78,7 +78,7 @@ fn is_whole(note: FileNote) -> bool
 /// Runs the intakes and the workers in parallel. Returns `Err` if memory runs out.
 ///
 /// If no thread can be created, the intakes run first: `join` then runs its second closure first.
-fn run_threads<R: Threads + Wait + Sync, S: Source, G: Gate>(
+fn run_threads<R: Threads + Wait + Sync, S: Source + Send, G: Gate>(
     rt: &R,
     alloc: Global,
     run: &RunSetting<'_>,
@@ -218,7 +218,7 @@ fn found_whole(
 /// After a failed read the other files are read to their ends. If memory runs out in an intake, or after the intakes,
 /// the sources come back without results. Returns `Err` if memory runs out before; the sources are then gone. The call
 /// may wait; its contract holds if it returns.
-pub fn judge_files<R: Threads + Wait + Sync, S: Source, G: Gate>(
+pub fn judge_files<R: Threads + Wait + Sync, S: Source + Send, G: Gate>(
     rt: &R,
     alloc: Global,
     sources: Vec<S>,

@@ -38,7 +38,7 @@ fn read_one<R: Wait, S: Source, G: Gate>(
 
 /// Runs the intakes, each on a thread of its own if one can be created. Returns `Err` if memory runs out. The halt is
 /// then raised, since an intake that didn't run sends no end, and the workers of all lanes were woken for it.
-pub fn run_intakes<'h, R: Threads + Wait + Sync, S: Source, G: Gate>(
+pub fn run_intakes<'h, R: Threads + Wait + Sync, S: Source + Send, G: Gate>(
     rt: &R,
     alloc: Global,
     run: &RunSetting<'h>,

@@ -176,7 +176,13 @@ fn sdp_same_target(rt: HostRuntime) -> Result<(), AllocError> {
 #[test]
 fn sdp_dup_pair(rt: HostRuntime) -> Result<(), AllocError> {
     let first = video(7, Address::new(239, 0, 0, 1), 50_000, (1280, 720), Kind::NL);
-    let second = video(11, Address::new(239, 0, 1, 1), 50_000, (1280, 720), Kind::NL);
+    let second = video(
+        11,
+        Address::new(239, 0, 1, 1),
+        50_000,
+        (1280, 720),
+        Kind::NL,
+    );
     assert_joined_media(&rt, rt.alloc(), &[PAIR, PAIR_END], &[first, second])?;
     assert_extended(&rt, rt.alloc(), &[PAIR, "MAXUDP=8960;", PAIR_END])
 }

@@ -1,7 +1,7 @@
 -- The output and status of `page`, by the contents of its inputs: the report of a capture as one page (HTML Standard,
 -- with SVG 2 inside). The SDP is read first, then the capture. Capture timestamps are nanoseconds of TAI, with `--tai`
 -- added; media count from 0, and packet records from 1. This project's profile.
-use Rattle.std.specs.Prelude.{◌≡◌, ◌^◌, ◌&&◌, if◌then◌else◌, not, ℕ, Bool, List, Result}
+use Rattle.std.specs.Prelude.{◌≡◌, ◌&&◌, if◌then◌else◌, not, ℕ, Bool, List}
 use Rattle.std.specs.List.{list_any}
 use Rattle.timing_base.specs.Captures.{Record}
 use Rattle.timing_base.specs.Jobs.{CaptureJob}
@@ -9,19 +9,17 @@ use Rattle.timing_base.specs.Media.{Media}
 use Rattle.timing_base.specs.declared.capture.FileNote.{FileNote}
 use Rattle.flow_page.specs.Page.{page_of}
 use Rattle.flow_page.specs.declared.shown.FlowPage.{FlowPage}
-use Rattle.pcap_reader.specs.Records.{Records}
 use Rattle.capture_scan.specs.report.Contents.{Contents}
 use Rattle.capture_scan.specs.report.Text.{contents_text}
 use Rattle.timing_measure.specs.Each.{EachOf}
-use Rattle.timing_measure.specs.Measures.{MeasureInputRose, has_run, measure_ends}
-use Rattle.timing_reach.specs.Asked.{ReadsCapture}
+use Rattle.timing_measure.specs.Measures.{has_run}
 use Rattle.timing_reach.specs.Scanned.{contents}
 use Rattle.timing_report.specs.Outcomes.{is_refused}
-use Rattle.timing_report.specs.declared.status.Input.{Input}
 use Rattle.timing_report.specs.declared.status.Status.{Status}
 use Rattle.timing_report.specs.declared.status.Status.TheVariants as status
-use Rattle.timing_reach.specs.steps.Answers.{Answer, Gives, Inputs, ReadsSession, Yields}
-use Rattle.timing_reach.specs.declared.steps.failure.Failure.{Failure}
+use Rattle.timing_steps.specs.Answers.{Answer}
+use Rattle.timing_steps.specs.Flows.{capture_query}
+use Rattle.timing_steps.specs.Queries.{Query}
 use Rattle.udp_rtp.specs.Flow.{flow}
 use Rattle.timing_measure.specs.page.Shown.{IsFlowPage}
 
@@ -46,24 +44,13 @@ paged name note tai media pages c = record {
   status = page_status note pages;
 }
 
--- the answer of `page` for these media, over a classic capture with these contents
-pub record HasPage (job : CaptureJob) (media : List Media) (text : List ℕ) (answer : Answer) : Type 0 where
-  pub items : List Record
-  pub note : FileNote
-  pub records : Records text (2 ^ 40) items note
+-- the answer of `page` for these media, over the packet records of a capture that ends in this way
+pub record DefinesPage (job : CaptureJob) (media : List Media) (items : List Record) (note : FileNote)
+    (answer : Answer) : Type 0 where
   pub pages : List FlowPage
   pub are : ArePages job.tai media items pages
   pub answer_is : answer ≡ paged job.capture note job.tai media pages (contents items)
 
--- `page` reads the SDP, then the capture
-abbrev pub FollowsPage : CaptureJob → Inputs → Result Answer Failure → Type 0
-FollowsPage job i outcome = Yields outcome (ReadsSession i outcome job.sdp (λ media.
-    ReadsCapture i outcome job.capture (λ text. Gives outcome (HasPage job media text))))
-
--- the count of faults of the name of this input rose; the inputs are those of `measure`
-abbrev pub PageInputRose : CaptureJob → Inputs → Input → Type 0
-PageInputRose job i input = MeasureInputRose job i input
-
--- the statuses of the answers of `page`: 0, 3 or 4
-abbrev pub page_ends : Status → Bool
-page_ends ends = measure_ends ends
+-- what `page` asks: the answer is over all media of the SDP
+abbrev pub page_query : CaptureJob → Query
+page_query job = capture_query job (DefinesPage job)

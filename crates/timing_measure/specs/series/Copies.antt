@@ -7,9 +7,9 @@ use Rattle.timing_base.specs.declared.capture.FileNote.{FileNote}
 use Rattle.timing_outside.specs.Causes.{Rose}
 use Rattle.pcap_reader.specs.Readers.{GivesNote}
 use Rattle.pcap_reader.specs.Records.{Records}
-use Rattle.timing_reach.specs.steps.Ran.{Output}
-use Rattle.timing_reach.specs.declared.steps.failure.Failure.{Failure}
-use Rattle.timing_reach.specs.declared.steps.failure.Failure.TheVariants as failure
+use Rattle.timing_steps.specs.Ran.{Output}
+use Rattle.timing_steps.specs.declared.failure.Failure.{Failure}
+use Rattle.timing_steps.specs.declared.failure.Failure.TheVariants as failure
 use Rattle.timing_measure.specs.series.Stands.{HoldsText, StandsFor, text_of}
 use Rattle.timing_measure.specs.declared.series.flow.SeriesFlow.{SeriesFlow}
 

@@ -6,7 +6,7 @@ use Rattle.timing_base.specs.Media.{Media}
 use Rattle.timing_base.specs.declared.capture.FileNote.{FileNote}
 use Rattle.udp_rtp.specs.Flow.{flow}
 use Rattle.fail_interval.specs.Row.{verdict_of}
-use Rattle.timing_reach.specs.steps.Answers.{Answer}
+use Rattle.timing_steps.specs.Answers.{Answer}
 use Rattle.timing_measure.specs.series.Rows.{AreRowsOfFlow}
 use Rattle.timing_measure.specs.series.Series.{series_of}
 use Rattle.timing_measure.specs.series.Stands.{StandsFor}

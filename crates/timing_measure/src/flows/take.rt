@@ -6,8 +6,8 @@ ghost use Rattle.timing_outside.specs.Causes.{Rose};
 ghost use Rattle.timing_outside.specs.Shelves.{StaysAs};
 ghost use Rattle.pcap_reader.specs.Taken.{TakesFew};
 ghost use Rattle.pcapng_reader.specs.Classic.{classic_texts};
-ghost use Rattle.timing_reach.specs.steps.Answers.{OnReadFault};
-ghost use Rattle.timing_reach.specs.steps.Taken.{TakesText};
+ghost use Rattle.timing_steps.specs.Answers.{OnReadFault};
+ghost use Rattle.timing_steps.specs.Taken.{TakesText};
 ghost use Rattle.flow_demux.specs.Awaits.{AwaitsExpected};
 ghost use Rattle.timing_measure.specs.flows.Meters.{HasRoom, expected_next};
 ghost use Rattle.timing_measure.specs.flows.Taken.{AreMetered, AreTakenIn, AreTakenOf};
@@ -21,9 +21,8 @@ use run_meter::RunMeter;
 use std::alloc::{AllocError as OutOfMemory, Global};
 use timing_base::{CaptureJob, FileNote, Media};
 use timing_outside::Shelf;
-use timing_reach::judged::captures::take_capture;
-use timing_reach::steps::Failure;
 use timing_report::Input;
+use timing_steps::{Failure, take_capture};
 
 /// The flows of a capture at its end.
 #[derive(Drop)]

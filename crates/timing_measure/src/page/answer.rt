@@ -1,18 +1,19 @@
 //! The output of `page`, and its status.
 
-ghost use Rattle.std.specs.Prelude.{◌≡◌, IfOk, true};
+ghost use Rattle.std.specs.Prelude.{◌≡◌, IfOk, false, true};
 ghost use Rattle.std.specs.List.{list_any};
 ghost use Rattle.flow_page.specs.Media.{AreOfMedia};
 ghost use Rattle.capture_scan.specs.report.Contents.{contents_of};
-ghost use Rattle.timing_measure.specs.page.Pages.{is_judged, page_ends, page_status, paged};
+ghost use Rattle.timing_steps.specs.Queries.{judged_ends};
+ghost use Rattle.timing_measure.specs.page.Pages.{is_judged, page_status, paged};
 
 use crate::page::capture::PageCapture;
 use capture_scan::report::text_of;
 use flow_page::{FlowPage, page_text};
 use std::alloc::{AllocError as OutOfMemory, Global};
 use timing_base::{CaptureJob, FileNote, Session};
-use timing_reach::steps::Answer;
 use timing_report::{Status, any_refused};
+use timing_steps::Answer;
 
 /// Returns whether the flow has a judged run.
 fn is_judged(page: &FlowPage) -> bool
@@ -31,7 +32,7 @@ fn is_one_judged(pages: &[FlowPage]) -> bool
 /// Returns the status for these flows of a capture that ends in this way.
 fn status_of(note: FileNote, pages: &[FlowPage]) -> Status
     ensures status { result ≡ page_status note pages.now }
-    ensures ends { page_ends result ≡ true }
+    ensures ends { judged_ends false result ≡ true }
 {
     if !is_one_judged(pages) {
         return Status::NotAllJudged;
@@ -50,9 +51,10 @@ pub fn paged(
     capture: &PageCapture,
 ) -> Result<Answer, OutOfMemory>
     requires { AreOfMedia session.now capture.now.flows.items }
-    ensures { IfOk result (λ answer. answer
+    ensures answers { IfOk result (λ answer. answer
         ≡ paged job.now.capture capture.now.note job.now.tai session.now capture.now.flows.items
         (contents_of capture.now.found)) }
+    ensures ends { IfOk result (λ answer. judged_ends false answer.status ≡ true) }
 {
     let name = job.capture.as_str();
     let pages = capture.flows.as_slice();

@@ -4,7 +4,7 @@ ghost use Rattle.std.specs.Prelude.{◌≡◌, ◌≤◌, ℕ, List, Some, IfErr
 ghost use Rattle.timing_outside.specs.Causes.{Rose};
 ghost use Rattle.timing_outside.specs.Shelves.{StaysAs};
 ghost use Rattle.pcapng_reader.specs.Classic.{classic_texts};
-ghost use Rattle.timing_reach.specs.steps.Answers.{OnReadFault};
+ghost use Rattle.timing_steps.specs.Answers.{OnReadFault};
 ghost use Rattle.timing_measure.specs.page.Captures.{IsPageIn, IsPageOf};
 
 use crate::flows::take_flows;
@@ -17,8 +17,8 @@ use run_meter::Pair;
 use std::alloc::Global;
 use timing_base::{CaptureJob, FileNote, Media};
 use timing_outside::Shelf;
-use timing_reach::steps::Failure;
 use timing_report::Input;
+use timing_steps::Failure;
 
 /// The capture of a page, after it was read.
 #[derive(Drop)]

@@ -7,8 +7,9 @@ ghost use Rattle.timing_base.specs.Media.{IsMedia, Media};
 ghost use Rattle.timing_base.specs.declared.capture.FileNote.{FileNote};
 ghost use Rattle.pcap_reader.specs.Records.{Records};
 ghost use Rattle.run_meter.specs.Runs.{JudgedPart};
-ghost use Rattle.timing_reach.specs.steps.Answers.{Answer};
-ghost use Rattle.timing_measure.specs.page.Pages.{HasPage};
+ghost use Rattle.timing_steps.specs.Answers.{Answer};
+ghost use Rattle.timing_steps.specs.Queries.{HasAnswer};
+ghost use Rattle.timing_measure.specs.page.Pages.{page_query};
 ghost use Rattle.flow_page.specs.drawing.Told.{IsLongest};
 ghost use Rattle.timing_measure.specs.page.Worked.{part_of};
 
@@ -17,13 +18,14 @@ ghost use Rattle.timing_measure.specs.page.Worked.{part_of};
 pub fn some_page_answer()
     ensures { (job : CaptureJob) (media : List Media) (text : List ℕ) (items : List Record) (note : FileNote)
         → IsCaptureJob job → All IsMedia media → Records text (2 ^ 40) items note → length items < 2 ^ 41
-        → All (λ r. IsStamp r.stamp) items → (answer : Answer) × HasPage job media text answer }
+        → All (λ r. IsStamp r.stamp) items
+        → (answer : Answer) × HasAnswer (page_query job) media (text ∷ []) answer }
 {}
 
 /// The contents of the inputs of `page` don't have two answers.
 pub fn one_page_answer()
-    ensures { (job : CaptureJob) (media : List Media) (text : List ℕ) (a b : Answer)
-        → HasPage job media text a → HasPage job media text b → a ≡ b }
+    ensures { (job : CaptureJob) (media : List Media) (texts : List (List ℕ)) (a b : Answer)
+        → HasAnswer (page_query job) media texts a → HasAnswer (page_query job) media texts b → a ≡ b }
 {}
 
 /// If two judged runs are the longest, the first of them is shown.

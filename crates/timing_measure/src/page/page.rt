@@ -1,87 +1,67 @@
 //! `page`: prints the report of the capture of a job as one page.
 
-ghost use Rattle.std.specs.Prelude.{◌≡◌, IfErr, IfOk};
-ghost use Rattle.flow_page.specs.Media.{AreOfMedia};
+ghost use Rattle.std.specs.Prelude.{◌≡◌, ◌∷◌, [], ℕ, IfErr, IfOk, false, true};
 ghost use Rattle.timing_outside.specs.Shelves.{StaysAs};
-ghost use Rattle.timing_reach.specs.steps.Answers.{Gives, OnReadFault, Yields, seen_of};
-ghost use Rattle.timing_reach.specs.steps.Ends.{EndsWith, HasStatus};
-ghost use Rattle.timing_reach.specs.steps.Ran.{HasCause, Ran, output_of};
-ghost use Rattle.timing_reach.specs.Asked.{ReadsCapture};
-ghost use Rattle.capture_scan.specs.report.Contents.{contents_of};
-ghost use Rattle.timing_measure.specs.page.Pages.{FollowsPage, HasPage, PageInputRose, page_ends, paged};
+ghost use Rattle.timing_steps.specs.Answers.{CaptureRose, OnReadFault, seen_of};
+ghost use Rattle.timing_steps.specs.Queries.{FollowsCaptures, judged_ends};
+ghost use Rattle.timing_measure.specs.page.Pages.{page_query};
 
 use crate::page::answer::paged;
-use crate::page::capture::{PageCapture, read_pages};
-use std::alloc::Global;
-use timing_base::{CaptureJob, Session};
+use crate::page::capture::read_pages;
+use std::alloc::{AllocError as OutOfMemory, Global};
+use timing_base::{CaptureJob, FileName, Session};
 use timing_outside::{Shelf, Sink};
-use timing_reach::steps::{Answer, Failure, conclude, fetch_session};
-use timing_report::Status;
+use timing_report::Input;
+use timing_steps::{Answer, Command, Failure};
 
-/// Returns the answer for a capture that was read.
-fn answer_capture(
+/// Reads the capture of a job, and returns the answer over all media of a session.
+fn answer_page<H: Shelf>(
     alloc: Global,
     job: &CaptureJob,
     session: &Session,
-    capture: &PageCapture,
-) -> Result<Answer, Failure>
-    requires { AreOfMedia session.now capture.now.flows.items }
-    ensures answered { IfOk result (HasStatus page_ends) }
-    ensures answers { IfOk result (λ answer. answer
-        ≡ paged job.now.capture capture.now.note job.now.tai session.now capture.now.flows.items
-        (contents_of capture.now.found)) }
-    ensures cause { IfErr result (λ e. OnReadFault e (λ _. ⊥)) }
-{
-    Ok(paged(alloc, job, session, capture)?)
-}
-
-/// Returns the answer over a session.
-fn answer_over<H: Shelf>(
-    alloc: Global,
-    job: &CaptureJob,
     shelf: &mut H,
-    session: &Session,
 ) -> Result<Answer, Failure>
-    ensures follows { Yields result (ReadsCapture (seen_of H.Shelf shelf.old shelf.new)
-        result job.now.capture (λ text. Gives result (HasPage job.now session.now text))) }
-    ensures answers { IfOk result (HasStatus page_ends) }
-    ensures cause { HasCause result (PageInputRose job.now (seen_of H.Shelf shelf.old shelf.new)) }
+    ensures follows { FollowsCaptures (page_query job.now) session.now
+        (seen_of H.Shelf shelf.old shelf.new) result }
+    ensures ends { IfOk result (λ answer. judged_ends false answer.status ≡ true) }
+    ensures cause { IfErr result (λ e. OnReadFault e (λ i. (number : ℕ) × (i ≡ Input.Capture number)
+        × CaptureRose (H.faults shelf.old) (H.faults shelf.new) (job.now.capture ∷ []) number)) }
     ensures stays { StaysAs H.text H.lacks H.faults shelf.old shelf.new }
 {
     let capture = read_pages(alloc, job, shelf, session.media.as_slice())?;
-    answer_capture(alloc, job, session, &capture)
+    Ok(paged(alloc, job, session, &capture)?)
 }
 
-/// Returns the answer of a job, or the reason why there is none. If the SDP is invalid, no capture is opened.
-fn answer_page<H: Shelf>(alloc: Global, job: &CaptureJob, shelf: &mut H) -> Result<Answer, Failure>
-    ensures follows { FollowsPage job.now (seen_of H.Shelf shelf.old shelf.new) result }
-    ensures answers { IfOk result (HasStatus page_ends) }
-    ensures cause { HasCause result (PageInputRose job.now (seen_of H.Shelf shelf.old shelf.new)) }
-    ensures stays { StaysAs H.text H.lacks H.faults shelf.old shelf.new }
-{
-    match fetch_session(alloc, shelf, job.sdp.as_str())? {
-        Ok(session) => answer_over(alloc, job, shelf, &session),
-        Err(fault) => Ok(Answer::silent(alloc, Status::SdpRefused(fault))),
+/// The command `page`: prints the report of the capture of a job as one HTML page that needs no other file.
+#[derive(Drop)]
+pub struct PageCommand {
+    /// The capture.
+    pub job: CaptureJob,
+}
+
+impl Command for PageCommand {
+    ghost use Rattle.timing_measure.specs.page.Pages.{page_query};
+
+    ghost query = { λ command. page_query command.job };
+
+    ghost streams = { false };
+
+    fn sdp(&self) -> &FileName {
+        let job = &self.job;
+        &job.sdp
     }
-}
 
-/// Runs `page`: prints on `out` the report of the capture of a job as one HTML page that needs no other file. Prints on
-/// `err` the reason if there is no output.
-pub fn page_one<H: Shelf, K: Sink>(
-    alloc: Global,
-    job: &CaptureJob,
-    shelf: &mut H,
-    out: &mut K,
-    err: &mut K,
-) -> Status
-    ensures ran { Ran (FollowsPage job.now (seen_of H.Shelf shelf.old shelf.new))
-        (PageInputRose job.now (seen_of H.Shelf shelf.old shelf.new))
-        (output_of K.Sink out.old out.new)
-        (output_of K.Sink err.old err.new)
-        result }
-    ensures ends { EndsWith page_ends (output_of K.Sink out.old out.new) result }
-    ensures stays { StaysAs H.text H.lacks H.faults shelf.old shelf.new }
-{
-    let outcome = answer_page(alloc, job, shelf);
-    conclude(out, err, outcome)
+    fn early(&self, _alloc: Global, _session: &Session) -> Result<Option<Answer>, OutOfMemory> {
+        Ok(None)
+    }
+
+    fn answer<H: Shelf, K: Sink>(
+        &self,
+        alloc: Global,
+        session: &Session,
+        shelf: &mut H,
+        _out: &mut K,
+    ) -> Result<Answer, Failure> {
+        answer_page(alloc, &self.job, session, shelf)
+    }
 }

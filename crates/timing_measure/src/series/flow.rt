@@ -5,7 +5,7 @@ ghost use Rattle.std.specs.Io.KnownBytes.{Appends};
 ghost use Rattle.timing_base.specs.Captures.{IsStamp};
 ghost use Rattle.timing_outside.specs.Causes.{Rose};
 ghost use Rattle.timing_outside.specs.Written.{AppendsFront};
-ghost use Rattle.timing_reach.specs.declared.steps.failure.Failure.TheVariants as failure;
+ghost use Rattle.timing_steps.specs.declared.failure.Failure.TheVariants as failure;
 
 use fail_interval::Metered;
 use flow_demux::MediaFlow;
@@ -14,8 +14,8 @@ use std::alloc::{AllocError as OutOfMemory, Global};
 use timing_base::{FileNote, FlowKey, Media, Verdict};
 use timing_outside::{Sink, put_all};
 use timing_reach::judged::words::not_judged;
-use timing_reach::steps::{Answer, Failure};
 use timing_report::{Status, any_refused};
+use timing_steps::{Answer, Failure};
 
 /// The flow of a job, which is judged while it is read, with the rows of its judged runs that aren't written yet.
 #[derive(Drop)]

@@ -1,96 +1,78 @@
 //! `series`: prints the rows of the judged runs of the flow of a job.
 
-ghost use Rattle.std.specs.Prelude.{◌≡◌, ◌≤◌, ◌⊎◌, [], ℕ, List, Some, IfErr, IfOk};
-ghost use Rattle.std.specs.Prelude.{Err};
-ghost use Rattle.timing_outside.specs.Causes.{Rose};
+ghost use Rattle.std.specs.Prelude.{◌≡◌, ◌≤◌, ◌∷◌, [], ℕ, IfErr, IfOk, None, false, slice_get, true};
 ghost use Rattle.timing_outside.specs.Shelves.{StaysAs};
-ghost use Rattle.pcapng_reader.specs.Classic.{classic_texts};
-ghost use Rattle.timing_report.specs.declared.status.Input.TheVariants as input;
-ghost use Rattle.timing_reach.specs.steps.Answers.{Gives, Yields, seen_of};
-ghost use Rattle.timing_reach.specs.steps.Ran.{Appended, output_of};
-ghost use Rattle.timing_reach.specs.declared.steps.failure.Failure.TheVariants as failure;
-ghost use Rattle.timing_reach.specs.Asked.{FlowInputRose, ReadsCapture};
-ghost use Rattle.timing_measure.specs.series.Series.{BeginsIn, BeginsSeries, FollowsSeries, HasSeries};
-ghost use Rattle.timing_measure.specs.series.Streams.{HasRestStatus, OnFailure, Rests, StreamEnds, Streams};
+ghost use Rattle.timing_steps.specs.Answers.{CaptureRose, seen_of};
+ghost use Rattle.timing_steps.specs.Flows.{no_media};
+ghost use Rattle.timing_steps.specs.Queries.{BeginsCaptures, FollowsCaptures, judged_ends};
+ghost use Rattle.timing_steps.specs.Ran.{output_of};
+ghost use Rattle.timing_steps.specs.Streams.{OnFailure, Rests};
+ghost use Rattle.timing_measure.specs.series.Series.{series_query};
 
 use crate::series::flow::SeriesFlow;
 use crate::series::stream::copy_capture;
-use std::alloc::Global;
-use timing_base::{Media, SeriesJob};
+use std::alloc::{AllocError as OutOfMemory, Global};
+use timing_base::{FileName, SeriesJob, Session};
 use timing_outside::{Shelf, Sink};
-use timing_reach::judged::find_media;
-use timing_reach::steps::{Answer, Failure, conclude};
-use timing_report::{Input, Status};
+use timing_report::Input;
+use timing_steps::{Answer, Command, Failure, early_of_media, media_of};
 
-/// Returns the rest of the answer for the flow of this media, behind what was written of it.
-fn answer_flow<H: Shelf, K: Sink>(
+/// Reads the capture of a job, and prints the rows of its flow meanwhile. Returns the rest of the answer that isn't
+/// printed yet, or the reason why there is no answer, or not the whole.
+fn answer_series<H: Shelf, K: Sink>(
     alloc: Global,
     job: &SeriesJob,
+    session: &Session,
     shelf: &mut H,
-    media: &Media,
     out: &mut K,
 ) -> Result<Answer, Failure>
-    ensures rests { Rests (output_of K.Sink out.old out.new) (λ outcome. Yields outcome
-        (ReadsCapture (seen_of H.Shelf shelf.old shelf.new) outcome job.now.flow.capture (λ text.
-        Gives outcome (HasSeries job.now.frames job.now.flow.tai media.now text))))
-        (λ front. (text : List ℕ) → classic_texts (H.text shelf.old) job.now.flow.capture
-        ≡ Some text → (front ≡ [])
-        ⊎ BeginsIn job.now.frames job.now.flow.tai media.now text front) result }
-    ensures answers { IfOk result (HasRestStatus (output_of K.Sink out.old out.new)) }
+    requires { no_media (slice_get session.now job.now.flow.media) ≡ None }
+    ensures rests { Rests (output_of K.Sink out.old out.new)
+        (FollowsCaptures (series_query job.now) session.now (seen_of H.Shelf shelf.old shelf.new))
+        (BeginsCaptures (series_query job.now) session.now (seen_of H.Shelf shelf.old shelf.new)) result }
+    ensures ends { IfOk result (λ rest. judged_ends false rest.status ≡ true) }
     ensures cause { IfErr result (λ e. OnFailure (output_of K.Sink out.old out.new) e (λ i.
-        (i ≡ Input.Capture 0) × Rose (H.faults shelf.old job.now.flow.capture)
-        (H.faults shelf.new job.now.flow.capture))) }
+        (number : ℕ) × (i ≡ Input.Capture number) × CaptureRose (H.faults shelf.old)
+        (H.faults shelf.new) (job.now.flow.capture ∷ []) number)) }
     ensures later { K.faults out.old ≤ K.faults out.new }
     ensures stays { StaysAs H.text H.lacks H.faults shelf.old shelf.new }
 {
+    let media = media_of(session, job.flow.media);
     let mut flow = SeriesFlow::new(alloc, media, job.flow.media, job.flow.tai, job.frames)?;
     let note = copy_capture(alloc, shelf, job.flow.capture.as_str(), &mut flow, out)?;
     Ok(flow.finish(alloc, note)?)
 }
 
-/// Returns the rest of the answer of a job that isn't written yet, or the reason why there is no answer, or not the
-/// whole.
-fn answer_series<H: Shelf, K: Sink>(
-    alloc: Global,
-    job: &SeriesJob,
-    shelf: &mut H,
-    out: &mut K,
-) -> Result<Answer, Failure>
-    ensures rests { Rests (output_of K.Sink out.old out.new)
-        (FollowsSeries job.now (seen_of H.Shelf shelf.old shelf.new))
-        (BeginsSeries job.now (seen_of H.Shelf shelf.old shelf.new)) result }
-    ensures answers { IfOk result (HasRestStatus (output_of K.Sink out.old out.new)) }
-    ensures cause { IfErr result (λ e. OnFailure (output_of K.Sink out.old out.new) e
-        (FlowInputRose job.now.flow (seen_of H.Shelf shelf.old shelf.new))) }
-    ensures silent { result ≡ Err (failure.ReadFault input.Sdp)
-        → Appended (output_of K.Sink out.old out.new) [] }
-    ensures later { K.faults out.old ≤ K.faults out.new }
-    ensures stays { StaysAs H.text H.lacks H.faults shelf.old shelf.new }
-{
-    match find_media(alloc, &job.flow, shelf)? {
-        Ok(media) => answer_flow(alloc, job, shelf, &media, out),
-        Err(answer) => Ok(answer),
-    }
+/// The command `series`: prints the rows of the judged runs of the flow of a job, while they are made.
+#[derive(Drop)]
+pub struct SeriesCommand {
+    /// The flow, and whether there is a row for each packet or for each frame or field.
+    pub job: SeriesJob,
 }
 
-/// Runs `series`: prints on `out` the rows of the judged runs of the flow of a job, while they are made. Prints on
-/// `err` the reason if there are no rows, or not all.
-pub fn series_one<H: Shelf, K: Sink>(
-    alloc: Global,
-    job: &SeriesJob,
-    shelf: &mut H,
-    out: &mut K,
-    err: &mut K,
-) -> Status
-    ensures ran { Streams (FollowsSeries job.now (seen_of H.Shelf shelf.old shelf.new))
-        (BeginsSeries job.now (seen_of H.Shelf shelf.old shelf.new))
-        (FlowInputRose job.now.flow (seen_of H.Shelf shelf.old shelf.new))
-        (output_of K.Sink out.old out.new)
-        (output_of K.Sink err.old err.new)
-        result }
-    ensures ends { StreamEnds (output_of K.Sink out.old out.new) result }
-    ensures stays { StaysAs H.text H.lacks H.faults shelf.old shelf.new }
-{
-    let outcome = answer_series(alloc, job, shelf, out);
-    conclude(out, err, outcome)
+impl Command for SeriesCommand {
+    ghost use Rattle.timing_measure.specs.series.Series.{series_query};
+
+    ghost query = { λ command. series_query command.job };
+
+    ghost streams = { true };
+
+    fn sdp(&self) -> &FileName {
+        let flow = &self.job.flow;
+        &flow.sdp
+    }
+
+    fn early(&self, alloc: Global, session: &Session) -> Result<Option<Answer>, OutOfMemory> {
+        early_of_media(alloc, session, self.job.flow.media)
+    }
+
+    fn answer<H: Shelf, K: Sink>(
+        &self,
+        alloc: Global,
+        session: &Session,
+        shelf: &mut H,
+        out: &mut K,
+    ) -> Result<Answer, Failure> {
+        answer_series(alloc, &self.job, session, shelf, out)
+    }
 }

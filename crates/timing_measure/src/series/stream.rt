@@ -9,19 +9,19 @@ ghost use Rattle.timing_outside.specs.Shelves.{StaysAs};
 ghost use Rattle.pcap_reader.specs.Readers.{WillGive, end_note, frame_count, most_of, under};
 ghost use Rattle.pcap_reader.specs.Records.{Records};
 ghost use Rattle.pcapng_reader.specs.Classic.{classic_texts};
-ghost use Rattle.timing_reach.specs.steps.Ran.{Appended, output_of};
-ghost use Rattle.timing_reach.specs.declared.steps.failure.Failure.TheVariants as failure;
+ghost use Rattle.timing_steps.specs.Ran.{Appended, output_of};
+ghost use Rattle.timing_steps.specs.declared.failure.Failure.TheVariants as failure;
 ghost use Rattle.timing_measure.specs.series.Stands.{HasRoom};
 ghost use Rattle.timing_measure.specs.series.Copies.{Copied, CopiesIn, CopiesSome, Stopped, StopsAt};
-ghost use Rattle.timing_measure.specs.series.Streams.{OnFailure};
+ghost use Rattle.timing_steps.specs.Streams.{OnFailure};
 
 use crate::series::flow::SeriesFlow;
 use pcap_reader::{MOST, PcapReader, Step};
 use std::alloc::Global;
 use timing_base::{FileNote, PcapFault};
 use timing_outside::{Shelf, Sink, Source};
-use timing_reach::steps::{Failure, fetch_classic, give_back};
 use timing_report::Input;
+use timing_steps::{Failure, fetch_classic, give_back};
 
 /// Takes the packet records of a reader from its start, and writes their rows. Returns how the records end, also if a
 /// read failed. Returns `Err` if memory runs out or a write fails.

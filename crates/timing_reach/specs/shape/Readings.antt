@@ -1,5 +1,6 @@
 -- The reading of a flow that is kept while it is judged.
-use Rattle.std.specs.Prelude.{◌≡◌, ◌≤◌, ◌+◌, ◌^◌, ℕ, Bool, if◌then◌else◌, List, [], ◌∷◌, ◌++◌, All, Option, None, is_some}
+use Rattle.std.specs.Prelude.{◌≡◌, ◌≤◌, ◌+◌, ◌^◌, ℕ, Bool, if◌then◌else◌, List, [], ◌∷◌, ◌++◌, All, Option, None}
+use Rattle.std.specs.Prelude.{is_some}
 use Rattle.std.specs.List.{cons_option}
 use Rattle.std.proofs.Common.{arith, sym, subst, append-nil, append_assoc, ap, ◌∙◌}
 use Rattle.std.proofs.lemmas.List.Elements.{filter-append, filter_map-append}
@@ -16,7 +17,7 @@ use Rattle.fail_interval.specs.Stands.{StandsFor, count_fed}
 use Rattle.pcap_reader.specs.Records.{Records}
 use Rattle.udp_rtp.specs.Flow.{flow, flow_packet}
 use Rattle.timing_reach.specs.ShapedAgain.{CanBeHeld}
-use Rattle.timing_reach.specs.steps.Answers.{Answer}
+use Rattle.timing_steps.specs.Answers.{Answer}
 use Rattle.timing_reach.specs.Asked.{OnRun}
 use Rattle.timing_reach.specs.Shapes.{HasShape, flow_records}
 use Rattle.timing_reach.specs.shape.Keeping.{AreKept}
@@ -112,4 +113,5 @@ pub record IsRead (m : Media) (tai : ℕ) (list : Bool) (f : KeptFlow) : Type 0 
 -- the answer of `shape` is that for the flow of this media in some packet records
 pub record AnswersSome (job : ShapeJob) (m : Media) (answer : Answer) : Type 0 where
   pub items : List Record
-  pub on_run : OnRun m (HasShape job.list job.flow.tai job.kind m items) (judged (flow items m) m.pt job.flow.tai) answer
+  pub on_run : OnRun m (HasShape job.list job.flow.tai job.kind m items)
+      (judged (flow items m) m.pt job.flow.tai) answer

@@ -11,7 +11,7 @@ use Rattle.timing_base.specs.Media.{Media}
 use Rattle.timing_base.specs.Verdicts.{Judged}
 use Rattle.timing_base.specs.declared.media.Kind.{Kind}
 use Rattle.timing_report.specs.declared.status.Status.TheVariants as status
-use Rattle.timing_reach.specs.steps.Answers.{Answer}
+use Rattle.timing_steps.specs.Answers.{Answer}
 use Rattle.timing_reach.specs.shape.Keeping.{stamps_of}
 use Rattle.timing_reach.specs.shape.Leaving.{HasLet, IsFit, Part}
 use Rattle.timing_reach.specs.shape.Readings.{IsKept}

@@ -6,16 +6,15 @@ ghost use Rattle.timing_outside.specs.Causes.{Rose};
 ghost use Rattle.timing_outside.specs.Shelves.{StaysAs};
 ghost use Rattle.pcap_reader.specs.Taken.{TakesFew};
 ghost use Rattle.pcapng_reader.specs.Classic.{classic_texts};
-ghost use Rattle.timing_reach.specs.steps.Answers.{OnReadFault};
+ghost use Rattle.timing_steps.specs.Answers.{OnReadFault};
 ghost use Rattle.timing_reach.specs.judged.Flows.{TakesIn};
 
-use crate::judged::captures::take_capture;
-use crate::steps::Failure;
 use flow_demux::{FlowTaker, MediaFlow};
 use std::alloc::Global;
 use timing_base::Media;
 use timing_outside::Shelf;
 use timing_report::Input;
+use timing_steps::{Failure, take_capture};
 
 /// Opens the one capture of a job, gives the taker the flow of a media in it, and gives the source back to the shelf.
 pub fn take_flow<H: Shelf, F: FlowTaker>(

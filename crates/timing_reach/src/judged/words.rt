@@ -1,22 +1,12 @@
-//! The answers of the commands for a flow that they can't measure.
+//! The answer of the commands for a flow that they can't measure.
 
 ghost use Rattle.std.specs.Prelude.{◌≡◌, IfOk};
-ghost use Rattle.timing_reach.specs.Asked.{no_such_media, not_judged};
+ghost use Rattle.timing_reach.specs.Asked.{not_judged};
 
-use crate::steps::Answer;
 use std::alloc::{AllocError as OutOfMemory, Global};
 use timing_base::{Media, Verdict};
 use timing_report::{Status, verdict_of};
-
-/// Returns the answer if the SDP doesn't have the media. Returns `Err` if memory runs out.
-pub fn no_such_media(alloc: Global) -> Result<Answer, OutOfMemory>
-    ensures { IfOk result (λ answer. answer ≡ no_such_media) }
-{
-    Ok(Answer {
-        text: String::from_str(alloc, "no such media\n")?.into_bytes(),
-        status: Status::NotAllJudged,
-    })
-}
+use timing_steps::Answer;
 
 /// Returns the answer for a flow that isn't judged in one run. Returns `Err` if memory runs out.
 pub fn not_judged(alloc: Global, media: &Media, verdict: &Verdict) -> Result<Answer, OutOfMemory>

@@ -1,7 +1,8 @@
 //! Laws of the definitions of `shape`. Each function is a theorem: its clauses are proved.
 
-ghost use Rattle.std.specs.Prelude.{◌≡◌, ◌≤◌, ◌^◌, ◌++◌, ◌∷◌, [], ℕ, List, All, Bool, true, false, codes, length};
+ghost use Rattle.std.specs.Prelude.{◌≡◌, ◌≤◌, ◌^◌, ◌++◌, ◌∷◌, [], ℕ, List, All, Bool, None, true, false, codes, length};
 ghost use Rattle.timing_base.specs.Captures.{Record};
+ghost use Rattle.timing_base.specs.Jobs.{ShapeJob};
 ghost use Rattle.timing_base.specs.Judged.{JudgedRun, in_one_run, judged, whole_frames};
 ghost use Rattle.timing_base.specs.Media.{IsMedia, Media};
 ghost use Rattle.timing_base.specs.declared.media.Kind.{Kind};
@@ -9,16 +10,28 @@ ghost use Rattle.timing_base.specs.declared.media.Kind.TheVariants.{N};
 ghost use Rattle.pcap_reader.specs.WrittenHeads.{file_head};
 ghost use Rattle.sender_params.specs.Worked.{at_once, hd_50};
 ghost use Rattle.timing_report.specs.declared.status.Status.TheVariants as status;
-ghost use Rattle.timing_reach.specs.steps.Answers.{Answer};
+ghost use Rattle.timing_steps.specs.Answers.{Answer};
 ghost use Rattle.udp_rtp.specs.Flow.{flow};
+ghost use Rattle.timing_steps.specs.Queries.{HasAnswer};
+ghost use Rattle.timing_reach.specs.Shaped.{shape_query};
 ghost use Rattle.timing_reach.specs.ShapedAgain.{CanBeHeld, IsJudgedAs, came_at};
 ghost use Rattle.timing_reach.specs.Shapes.{HasPlan, HasShape, shaped_capture};
 ghost use Rattle.timing_reach.specs.WorkedShapes.{five_records, last_nanosecond, run_of_stamps, two_departures};
 
 use flow_shaper::laws::burst_by_hand;
 
-/// A judged run has exactly one answer of `shape`, if its frames or fields have 1 to 262,144 packets.
+/// The capture of `shape` has exactly one answer, if the SDP has the media, and its media are within the limits of a
+/// media.
 pub fn one_shape_answer()
+    ensures some { (job : ShapeJob) (media : List Media) (texts : List (List ℕ)) → All IsMedia media
+        → (shape_query job).early media ≡ None
+        → (answer : Answer) × HasAnswer (shape_query job) media texts answer }
+    ensures once { (job : ShapeJob) (media : List Media) (texts : List (List ℕ)) (a b : Answer)
+        → HasAnswer (shape_query job) media texts a → HasAnswer (shape_query job) media texts b → a ≡ b }
+{}
+
+/// A judged run has exactly one answer of `shape`, if its frames or fields have 1 to 262,144 packets.
+pub fn one_answer_of_run()
     ensures some { (list : Bool) (tai : ℕ) (kind : Kind) (m : Media) (items : List Record)
         (run : JudgedRun) → IsMedia m → 1 ≤ run.n → run.n ≤ 262144
         → (answer : Answer) × HasShape list tai kind m items run answer }

@@ -6,12 +6,12 @@ ghost use Rattle.capture_scan.specs.report.Draft.{videos_of};
 ghost use Rattle.timing_reach.specs.Scanned.{drafted, scan_ends, scan_status, scanned};
 
 use crate::scan::Scanned;
-use crate::steps::Answer;
 use capture_scan::Found;
 use capture_scan::report::{Draft, json_of, text_of};
 use std::alloc::{AllocError as OutOfMemory, Global};
 use timing_base::{FileNote, ScanForm, ScanJob};
 use timing_report::{Status, any_refused};
+use timing_steps::Answer;
 
 /// Returns the status for this many streams, or videos of a draft, of a capture that ends in this way.
 fn status_of(note: FileNote, told: usize) -> Status

@@ -5,10 +5,10 @@ ghost use Rattle.timing_report.specs.declared.status.Status.TheVariants as statu
 ghost use Rattle.timing_reach.specs.Shapes.{delays_line, packet_line};
 
 use crate::shape::words::{add_delays, add_packet};
-use crate::steps::Answer;
 use flow_shaper::Bound;
 use std::alloc::{AllocError as OutOfMemory, Global};
 use timing_report::Status;
+use timing_steps::Answer;
 
 /// The delays of the packets so far.
 #[derive(Drop)]

@@ -1,8 +1,8 @@
 //! Lets the judged packets of a kept flow leave as planned, and makes the output.
 
-ghost use Rattle.std.specs.Prelude.{◌≡◌, ◌≤◌, ◌+◌, ◌*◌, ◌^◌, [], List, All, IfOk, length};
+ghost use Rattle.std.specs.Prelude.{◌≡◌, ◌≤◌, ◌+◌, ◌*◌, ◌^◌, [], List, All, IfOk, false, length, true};
 ghost use Rattle.timing_base.specs.Captures.{IsStamp};
-ghost use Rattle.timing_reach.specs.steps.Ends.{HasStatus, look_ends};
+ghost use Rattle.timing_steps.specs.Queries.{judged_ends};
 ghost use Rattle.timing_reach.specs.Shapes.{HasShape};
 ghost use Rattle.timing_reach.specs.shape.Leaving.{HasLet, IsFit, Part, count_left};
 ghost use Rattle.timing_reach.specs.shape.Shaping.{CanShape, Departs, IsShapeOf, ListsSo, in_tai};
@@ -14,11 +14,11 @@ use crate::shape::kept::Kept;
 use crate::shape::leaver::Leaver;
 use crate::shape::walk::Walk;
 use crate::shape::words::not_shaped;
-use crate::steps::Answer;
 use flow_shaper::Late;
 use std::alloc::{AllocError as OutOfMemory, Global};
 use timing_base::{Judged, Kind, Media};
 use timing_report::Status;
+use timing_steps::Answer;
 
 /// Returns the answer with the list of the delayed packets. `stamps` are the capture timestamps of the judged packets
 /// in nanoseconds, as they stand in the capture.
@@ -26,7 +26,7 @@ fn list_delays(alloc: Global, mut leaver: Leaver, stamps: &[u64]) -> Result<Answ
     requires none { count_left leaver ≡ 0 }
     requires stamps { All IsStamp stamps.now }
     requires few { length stamps.now ≤ 2 ^ 41 }
-    ensures answered { IfOk result (HasStatus look_ends) }
+    ensures ends { IfOk result (λ answer. judged_ends false answer.status ≡ true) }
     ensures lists { IfOk result (λ answer. (w : Part) → HasLet w leaver [] []
         → IsFit w.origin (in_tai w.tai stamps.now)
         → ListsSo w (in_tai w.tai stamps.now) answer) }
@@ -76,7 +76,7 @@ fn shape_list(
 ) -> Result<Answer, OutOfMemory>
     requires tai { tai ≤ 1000 }
     requires can { CanShape media.now tai judged.now (Stamps stamps) }
-    ensures answered { IfOk result (HasStatus look_ends) }
+    ensures ends { IfOk result (λ answer. judged_ends false answer.status ≡ true) }
     ensures shape { IfOk result (λ answer. IsShapeOf media.now kind tai judged.now (Stamps stamps) answer) }
 {
     let head = judged.head as usize;
@@ -96,7 +96,7 @@ fn shape_capture(
 ) -> Result<Answer, OutOfMemory>
     requires tai { tai ≤ 1000 }
     requires can { CanShape media.now tai judged.now (Capture bytes) }
-    ensures answered { IfOk result (HasStatus look_ends) }
+    ensures ends { IfOk result (λ answer. judged_ends false answer.status ≡ true) }
     ensures shape { IfOk result (λ answer. IsShapeOf media.now kind tai judged.now (Capture bytes) answer) }
 {
     let mut walk = Walk::new(bytes);
@@ -123,7 +123,7 @@ pub fn shape_kept(
 ) -> Result<Answer, OutOfMemory>
     requires tai { tai ≤ 1000 }
     requires can { CanShape media.now tai judged.now packets }
-    ensures answered { IfOk result (HasStatus look_ends) }
+    ensures ends { IfOk result (λ answer. judged_ends false answer.status ≡ true) }
     ensures shape { IfOk result (λ answer. IsShapeOf media.now kind tai judged.now packets answer) }
 {
     match packets {

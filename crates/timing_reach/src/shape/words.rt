@@ -3,11 +3,11 @@
 ghost use Rattle.std.specs.Prelude.{◌≡◌, ◌++◌, IfOk, string_bytes};
 ghost use Rattle.timing_reach.specs.Shapes.{delays_line, not_shaped, packet_line, delayed_line};
 
-use crate::steps::Answer;
 use flow_shaper::Bound;
 use std::alloc::{AllocError as OutOfMemory, Global};
 use std::fmt;
 use timing_report::Status;
+use timing_steps::Answer;
 
 /// The limit that holds a packet back, as a line has it.
 #[derive(Clone, Copy)]

@@ -5,19 +5,19 @@ ghost use Rattle.timing_outside.specs.Causes.{Rose};
 ghost use Rattle.timing_outside.specs.Shelves.{StaysAs};
 ghost use Rattle.pcapng_reader.specs.Classic.{classic_texts};
 ghost use Rattle.pcapng_reader.specs.Sources.{faults_of, left_of, name_of};
-ghost use Rattle.timing_reach.specs.steps.Answers.{AreThere, AreTold, CaptureRose, OnReadFault};
-ghost use Rattle.timing_reach.specs.steps.Fetched.{AreFetched};
+ghost use Rattle.timing_steps.specs.Answers.{AreThere, AreTold, CaptureRose, OnReadFault};
+ghost use Rattle.timing_steps.specs.Fetched.{AreFetched};
 ghost use Rattle.timing_reach.specs.skew.Comparing.{ComparesNext, IsComparedIn};
 ghost use Rattle.timing_reach.specs.skew.Pairs.{pair_given};
 
 use crate::skew::pairing::Pairing;
-use crate::steps::{Failure, fetch_captures, give_back, take_source};
 use path_skew::SkewRow;
 use pcapng_reader::Classic;
 use std::alloc::Global;
 use timing_base::{FileNote, Media, SkewJob};
 use timing_outside::{Shelf, Source};
 use timing_report::Input;
+use timing_steps::{Failure, fetch_captures, give_back, take_source};
 
 /// The result of comparing two flows in the captures of a job.
 #[derive(Drop)]

@@ -6,11 +6,11 @@ ghost use Rattle.timing_report.specs.Outcomes.{is_refused};
 ghost use Rattle.timing_reach.specs.Skewed.{counts_text, extreme_line, pair_head, row_text, skew_status, skewed};
 
 use crate::skew::compare::Compared;
-use crate::steps::Answer;
 use path_skew::{Extreme, SkewRow};
 use std::alloc::{AllocError as OutOfMemory, Global};
 use timing_base::SkewJob;
 use timing_report::{Status, add_files, any_refused};
+use timing_steps::Answer;
 
 /// Adds the line of a pair up to its counts.
 fn add_head(text: &mut String, job: &SkewJob) -> Result<(), OutOfMemory>

@@ -4,12 +4,12 @@ ghost use Rattle.std.specs.Prelude.{◌≡◌, ◌++◌, IfOk, string_bytes};
 ghost use Rattle.timing_report.specs.declared.status.Status.TheVariants as status;
 ghost use Rattle.timing_reach.specs.Windows.{window_line, windows_text};
 
-use crate::steps::Answer;
 use offset_window::{Window, WindowEnd};
 use std::alloc::{AllocError as OutOfMemory, Global};
 use std::fmt;
 use timing_base::Kind;
 use timing_report::{Status, kind_name};
+use timing_steps::Answer;
 
 /// The offsets with which the receiver buffer would neither underflow nor overflow, for each sender type, in
 /// microseconds.

@@ -1,7 +1,8 @@
 -- The output and status of `verify` and of `verify-report`, by the contents of their inputs, in the order in which
 -- these are read.
-use Rattle.std.specs.Prelude.{◌≡◌, ◌⊎◌, ℕ, nat_lt, if◌then◌else◌, Bool, false, List, [], ◌∷◌, length, map, slice_get}
-use Rattle.std.specs.Prelude.{slice_index_or, All, Contains, Option, Some, None, Result, Ok, Err}
+use Rattle.std.specs.Prelude.{◌≡◌, ◌⊎◌, ℕ, nat_lt, if◌then◌else◌, Bool, true, false, List, [], ◌∷◌, length, map}
+use Rattle.std.specs.Prelude.{slice_get, slice_index_or, All, Contains, Option, Some, None, Result, Ok, Err}
+use Rattle.timing_base.specs.Captures.{Record}
 use Rattle.timing_base.specs.Jobs.{ReportJob, VerifyJob}
 use Rattle.timing_base.specs.Media.{Media}
 use Rattle.timing_base.specs.declared.key.FlowKey.{FlowKey}
@@ -12,11 +13,13 @@ use Rattle.timing_report.specs.declared.json_report.reading.ReportProof.{ReportP
 use Rattle.timing_report.specs.declared.status.Input.{Input}
 use Rattle.timing_report.specs.declared.status.Input.TheVariants as input
 use Rattle.timing_report.specs.declared.status.Status.TheVariants as status
-use Rattle.timing_reach.specs.steps.Answers.{Answer, AreThere, CaptureRose, Gives, HasRisen, Inputs, ReadsCaptures}
-use Rattle.timing_reach.specs.steps.Answers.{ReadsSession, Yields, silent}
-use Rattle.timing_reach.specs.declared.steps.failure.Failure.{Failure}
-use Rattle.timing_reach.specs.declared.steps.failure.Failure.TheVariants as failure
-use Rattle.timing_top.specs.verify.Findings.{Finds}
+use Rattle.timing_steps.specs.Answers.{Answer, AreThere, CaptureRose, Gives, HasRisen, Inputs, ReadsSession}
+use Rattle.timing_steps.specs.Answers.{Yields, silent}
+use Rattle.timing_steps.specs.Flows.{OnMedia}
+use Rattle.timing_steps.specs.Queries.{Query}
+use Rattle.timing_steps.specs.declared.failure.Failure.{Failure}
+use Rattle.timing_steps.specs.declared.failure.Failure.TheVariants as failure
+use Rattle.timing_top.specs.verify.Findings.{Finds, FindsIn}
 use Rattle.timing_top.specs.verify.Verified.{reported, verified}
 use Rattle.timing_top.specs.declared.verify.checked.Checked.{Checked}
 
@@ -24,28 +27,27 @@ use Rattle.timing_top.specs.declared.verify.checked.Checked.{Checked}
 abbrev pub claim_of : VerifyJob → ReportProof
 claim_of job = record { key = record { file = 0; media = job.media }; run = 0; kind = job.kind; proof = job.proof }
 
--- the answer of `verify` for this media, over captures with these contents
-pub record HasVerified (job : VerifyJob) (media : Media) (texts : List (List ℕ)) (answer : Answer) : Type 0 where
-  pub finding : Result Bool Unjudged
-  pub finds : Finds media (claim_of job) job.tai texts finding
-  pub answer_is : answer ≡ verified finding
+-- the answer of `verify` for this media, over the packet records of each capture, as one capture
+pub record DefinesVerified (job : VerifyJob) (media : Media) (files : List (List Record)) (answer : Answer) : Type 0
+  where
+    pub finding : Result Bool Unjudged
+    pub finds : FindsIn media (claim_of job) job.tai files finding
+    pub answer_is : answer ≡ verified finding
 
--- if the SDP doesn't have the media, the violation is not confirmed, and no capture is read; else the captures are read
-abbrev pub ReadsMedia : Inputs → Result Answer Failure → VerifyJob → Option Media → Type 0
-ReadsMedia i outcome job None = Gives outcome (λ answer. answer ≡ verified (Ok false))
-ReadsMedia i outcome job (Some media) = ReadsCaptures i outcome job.captures
-    (λ texts. Gives outcome (HasVerified job media texts))
+-- if the SDP doesn't have the media, the violation is not confirmed, and no capture is read
+abbrev pub not_there : Option Media → Option Answer
+not_there None = Some (verified (Ok false))
+not_there (Some media) = None
 
--- `verify` reads the SDP, then the captures
-abbrev pub FollowsVerify : VerifyJob → Inputs → Result Answer Failure → Type 0
-FollowsVerify job i outcome =
-    Yields outcome (ReadsSession i outcome job.sdp (λ media. ReadsMedia i outcome job (slice_get media job.media)))
-
--- the count of faults of the name of this input of `verify` rose
-abbrev pub VerifyInputRose : VerifyJob → Inputs → Input → Type 0
-VerifyInputRose job i input.Sdp = HasRisen i job.sdp
-VerifyInputRose job i input.Report = ⊥
-VerifyInputRose job i (input.Capture number) = CaptureRose i.before i.now job.captures number
+-- what `verify` asks: its answer may have status 1
+abbrev pub verify_query : VerifyJob → Query
+verify_query job = record {
+  sdp = job.sdp;
+  captures = job.captures;
+  early = λ media. not_there (slice_get media job.media);
+  Defines = λ media files notes answer. OnMedia (slice_get media job.media) (λ m. DefinesVerified job m files answer);
+  checks = true;
+}
 
 -- the number of files that flows of the job can belong to; joined captures are one file
 abbrev pub file_count : ReportJob → ℕ

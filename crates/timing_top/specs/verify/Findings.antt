@@ -11,11 +11,17 @@ use Rattle.udp_rtp.specs.Flow.{flow}
 use Rattle.interval_checker.specs.Checked.{Says}
 use Rattle.timing_report.specs.declared.json_report.reading.ReportProof.{ReportProof}
 
--- captures with these contents, as one capture, have this finding on a violation that is claimed of a media; `tai` is
+-- the packet records of captures, as one capture, have this finding on a violation that is claimed of a media; `tai` is
 -- in seconds
+abbrev pub FindsIn : (media : Media) → (claim : ReportProof) → (tai : ℕ) → List (List Record) → Result Bool Unjudged
+    → Type 0
+FindsIn media claim tai files finding =
+    Says media claim.kind claim.proof claim.run (judged (flow (joined files) media) media.pt tai) finding
+
+-- captures with these contents, as one capture, have this finding on a violation that is claimed of a media
 pub record Finds (media : Media) (claim : ReportProof) (tai : ℕ) (texts : List (List ℕ))
     (finding : Result Bool Unjudged) : Type 0 where
   pub files : List (List Record)
   pub notes : List FileNote
   pub records : AreRecords texts files notes
-  pub says : Says media claim.kind claim.proof claim.run (judged (flow (joined files) media) media.pt tai) finding
+  pub says : FindsIn media claim tai files finding

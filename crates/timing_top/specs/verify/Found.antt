@@ -17,9 +17,9 @@ use Rattle.interval_checker.specs.declared.fault.CheckFault.TheVariants as check
 use Rattle.interval_checker.specs.declared.reading.Reading.{Reading}
 use Rattle.timing_report.specs.declared.json_report.reading.ReportProof.{ReportProof}
 use Rattle.timing_report.specs.declared.status.Input.TheVariants as input
-use Rattle.timing_reach.specs.steps.Answers.{AreThere, CaptureRose, Inputs, OnReadFault}
-use Rattle.timing_reach.specs.declared.steps.failure.Failure.{Failure}
-use Rattle.timing_reach.specs.declared.steps.failure.Failure.TheVariants as failure
+use Rattle.timing_steps.specs.Answers.{AreThere, CaptureRose, Inputs, OnReadFault}
+use Rattle.timing_steps.specs.declared.failure.Failure.{Failure}
+use Rattle.timing_steps.specs.declared.failure.Failure.TheVariants as failure
 use Rattle.timing_top.specs.verify.Asked.{AreTexts, FindsOf, captures_of, media_for, needed}
 use Rattle.timing_top.specs.verify.Findings.{Finds}
 use Rattle.timing_top.specs.declared.verify.checked.Checked.{Checked}

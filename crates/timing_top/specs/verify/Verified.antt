@@ -9,7 +9,7 @@ use Rattle.timing_report.specs.Verdict.{unjudged_text}
 use Rattle.timing_report.specs.Words.{kind_name}
 use Rattle.timing_report.specs.declared.status.Status.{Status}
 use Rattle.timing_report.specs.declared.status.Status.TheVariants as status
-use Rattle.timing_reach.specs.steps.Answers.{Answer}
+use Rattle.timing_steps.specs.Answers.{Answer}
 use Rattle.timing_top.specs.declared.verify.checked.Checked.{Checked}
 
 -- `confirmed`, `not confirmed` or `not judged: VERDICT`, with the newline
@@ -69,3 +69,12 @@ checked_text checked =
 -- the answer of `verify-report`
 abbrev pub reported : List Checked → Answer
 reported checked = record { text = checked_text checked; status = status_of checked }
+
+-- the statuses of the answers of `verify-report`: 0, 1, 3, 4 or 9
+abbrev pub report_ends : Status → Bool
+report_ends status.Pass = true
+report_ends status.Fail = true
+report_ends (status.SdpRefused fault) = true
+report_ends status.NotAllJudged = true
+report_ends status.ReportRefused = true
+report_ends ends = false

@@ -3,7 +3,7 @@
 ghost use Rattle.std.specs.Prelude.{◌≡◌, ◌≤◌, ℕ, List, IfOk, IfErr, length};
 ghost use Rattle.timing_outside.specs.Shelves.{StaysAs};
 ghost use Rattle.pcapng_reader.specs.Classic.{classic_texts};
-ghost use Rattle.timing_reach.specs.steps.Answers.{AreThere, AreTold};
+ghost use Rattle.timing_steps.specs.Answers.{AreThere, AreTold};
 ghost use Rattle.timing_top.specs.verify.Findings.{Finds};
 ghost use Rattle.timing_top.specs.verify.Found.{FailedAmong};
 
@@ -13,8 +13,8 @@ use interval_checker::{Asked, Reading};
 use std::alloc::Global;
 use timing_base::{FileName, Media};
 use timing_outside::Shelf;
-use timing_reach::steps::Failure;
 use timing_report::json_report::ReportProof;
+use timing_steps::Failure;
 
 /// Returns the finding on a claim, in the captures with these names as one classic capture. The captures are opened in
 /// order, and their sources go back to the shelf. `ReadFault` names a capture that couldn't be read by its number among

@@ -1,13 +1,14 @@
 //! Laws of the definitions. Each function is a theorem: it does nothing, and its clauses are proved.
 
-ghost use Rattle.std.specs.Prelude.{◌≡◌, ℕ, Bool, List, All, Ok, Result, true, map};
+ghost use Rattle.std.specs.Prelude.{◌≡◌, ℕ, Bool, List, All, None, Ok, Result, true, map, slice_get};
 ghost use Rattle.timing_base.specs.Jobs.{ReportJob, VerifyJob};
 ghost use Rattle.timing_base.specs.Media.{Media};
 ghost use Rattle.timing_base.specs.declared.row.Unjudged.{Unjudged};
 ghost use Rattle.timing_report.specs.declared.json_report.reading.ReportProof.{ReportProof};
 ghost use Rattle.timing_report.specs.declared.status.Status.TheVariants as status;
-ghost use Rattle.timing_reach.specs.steps.Answers.{Answer};
-ghost use Rattle.timing_top.specs.verify.Asked.{FindsOf, HasReported, HasVerified, media_for};
+ghost use Rattle.timing_steps.specs.Answers.{Answer};
+ghost use Rattle.timing_steps.specs.Queries.{HasAnswer};
+ghost use Rattle.timing_top.specs.verify.Asked.{FindsOf, HasReported, media_for, not_there, verify_query};
 ghost use Rattle.timing_top.specs.verify.Findings.{Finds};
 ghost use Rattle.timing_top.specs.verify.Verified.{reported};
 
@@ -20,12 +21,14 @@ pub fn one_finding()
         → Finds media claim tai texts a → Finds media claim tai texts b → a ≡ b }
 {}
 
-/// The contents of the inputs of `verify` have exactly one answer.
+/// The contents of the inputs of `verify` have exactly one answer, if the SDP has the media.
 pub fn one_verified()
-    ensures some { (job : VerifyJob) (media : Media) (texts : List (List ℕ))
-        → (answer : Answer) × HasVerified job media texts answer }
-    ensures once { (job : VerifyJob) (media : Media) (texts : List (List ℕ)) (a b : Answer)
-        → HasVerified job media texts a → HasVerified job media texts b → a ≡ b }
+    ensures some { (job : VerifyJob) (media : List Media) (texts : List (List ℕ))
+        → not_there (slice_get media job.media) ≡ None
+        → (answer : Answer) × HasAnswer (verify_query job) media texts answer }
+    ensures once { (job : VerifyJob) (media : List Media) (texts : List (List ℕ)) (a b : Answer)
+        → HasAnswer (verify_query job) media texts a
+        → HasAnswer (verify_query job) media texts b → a ≡ b }
 {}
 
 /// The contents of the inputs of `verify-report` have exactly one answer.

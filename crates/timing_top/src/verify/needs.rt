@@ -6,7 +6,7 @@ ghost use Rattle.pcapng_reader.specs.Classic.{classic_texts};
 ghost use Rattle.timing_base.specs.Jobs.{ReportJob as JobValue};
 ghost use Rattle.timing_base.specs.Media.{Media as MediaValue};
 ghost use Rattle.timing_report.specs.declared.json_report.reading.ReportProof.{ReportProof as Claim};
-ghost use Rattle.timing_reach.specs.steps.Answers.{OnReadFault, seen_of};
+ghost use Rattle.timing_steps.specs.Answers.{OnReadFault, seen_of};
 ghost use Rattle.timing_top.specs.verify.Asked.{NeededRose, captures_of, file_count, media_for, needed};
 ghost use Rattle.timing_top.specs.verify.Findings.{Finds};
 ghost use Rattle.timing_top.specs.verify.Found.{AreServed, FailedNeeded, IsChecked, IsFound, Serves};
@@ -16,9 +16,9 @@ use crate::verify::read::{FileRead, answer_of, read_file};
 use std::alloc::Global;
 use timing_base::{FlowKey, Media, ReportJob};
 use timing_outside::Shelf;
-use timing_reach::steps::Failure;
 use timing_report::Input;
 use timing_report::json_report::ReportProof;
+use timing_steps::Failure;
 
 /// Returns the number of files that flows of a job can belong to. Joined captures are one file.
 fn file_count(job: &ReportJob) -> usize

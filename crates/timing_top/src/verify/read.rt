@@ -7,7 +7,7 @@ ghost use Rattle.timing_outside.specs.Shelves.{StaysAs};
 ghost use Rattle.pcap_reader.specs.Records.{AreRecords};
 ghost use Rattle.pcapng_reader.specs.Classic.{classic_texts};
 ghost use Rattle.interval_checker.specs.Readings.{AreSame, HaveRead, HaveRoom};
-ghost use Rattle.timing_reach.specs.steps.Answers.{AreThere, AreTold, seen_of};
+ghost use Rattle.timing_steps.specs.Answers.{AreThere, AreTold, seen_of};
 ghost use Rattle.timing_top.specs.verify.Asked.{captures_of, file_count};
 ghost use Rattle.timing_top.specs.verify.Findings.{Finds};
 ghost use Rattle.timing_top.specs.verify.Found.{FailedAmong, IsReadFor, ReadAs, Serves, Tells, failure_of, key_at, numbered};
@@ -18,9 +18,9 @@ use interval_checker::{CheckFault, Reading, read_sources};
 use std::alloc::Global;
 use timing_base::{FileName, Media, ReportJob};
 use timing_outside::Shelf;
-use timing_reach::steps::{Failure, fetch_captures, give_back_all};
 use timing_report::Input;
 use timing_report::json_report::ReportProof;
+use timing_steps::{Failure, fetch_captures, give_back_all};
 
 /// Returns the failure for a fault of reading captures. A capture that couldn't be read has its number among them.
 fn failure_of(fault: CheckFault) -> Failure

@@ -5,19 +5,20 @@ ghost use Rattle.timing_report.specs.json_report.Reading.{IsReport};
 ghost use Rattle.timing_report.specs.declared.json_report.reading.ReportProof.{ReportProof as Claim};
 ghost use Rattle.timing_outside.specs.Causes.{Rose};
 ghost use Rattle.timing_outside.specs.Shelves.{StaysAs};
-ghost use Rattle.timing_reach.specs.steps.Answers.{Gives, OnReadFault, Yields, seen_of};
-ghost use Rattle.timing_reach.specs.steps.Ends.{EndsWith, HasStatus, report_ends};
-ghost use Rattle.timing_reach.specs.steps.Ran.{HasCause, Ran, output_of};
+ghost use Rattle.timing_steps.specs.Answers.{Gives, OnReadFault, Yields, seen_of};
+ghost use Rattle.timing_steps.specs.Ends.{EndsWith, HasStatus};
+ghost use Rattle.timing_steps.specs.Ran.{HasCause, Ran, output_of};
 ghost use Rattle.timing_top.specs.verify.Asked.{FollowsReport, HasReported, ReadsNeeded, ReadsReport, ReportInputRose};
+ghost use Rattle.timing_top.specs.verify.Verified.{report_ends};
 
 use crate::verify::needs::check_each;
 use crate::verify::words::reported;
 use std::alloc::Global;
 use timing_base::{Media, ReportJob};
 use timing_outside::{Shelf, Sink};
-use timing_reach::steps::{Answer, Failure, conclude, fetch_front, fetch_session};
 use timing_report::json_report::{ReportError, ReportProof, read_json};
 use timing_report::{Input, Status};
+use timing_steps::{Answer, Failure, conclude, fetch_front, fetch_session};
 
 /// The greatest number of bytes that are read of a report: one more than a report may have.
 const REPORT_MOST: usize = 16_777_217;

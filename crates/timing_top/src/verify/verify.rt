@@ -1,20 +1,19 @@
 //! `verify`: checks one violation from the captures alone.
 
-ghost use Rattle.std.specs.Prelude.{◌≡◌, IfOk, slice_get};
+ghost use Rattle.std.specs.Prelude.{◌≡◌, ℕ, IfErr, IfOk, IfSome, None, false, slice_get, true};
 ghost use Rattle.timing_outside.specs.Shelves.{StaysAs};
-ghost use Rattle.timing_reach.specs.steps.Answers.{Gives, ReadsCaptures, Yields, seen_of};
-ghost use Rattle.timing_reach.specs.steps.Ends.{EndsWith, HasStatus, check_ends};
-ghost use Rattle.timing_reach.specs.steps.Ran.{HasCause, Ran, output_of};
-ghost use Rattle.timing_top.specs.verify.Asked.{FollowsVerify, HasVerified, ReadsMedia, VerifyInputRose, claim_of};
+ghost use Rattle.timing_steps.specs.Answers.{CaptureRose, OnReadFault, seen_of};
+ghost use Rattle.timing_steps.specs.Queries.{FollowsCaptures, judged_ends};
+ghost use Rattle.timing_top.specs.verify.Asked.{claim_of, not_there, verify_query};
 
 use crate::verify::find::find;
 use crate::verify::words::{unconfirmed, verified};
-use std::alloc::Global;
-use timing_base::{FlowKey, Media, VerifyJob};
+use std::alloc::{AllocError as OutOfMemory, Global};
+use timing_base::{FileName, FlowKey, Session, VerifyJob};
 use timing_outside::{Shelf, Sink};
-use timing_reach::steps::{Answer, Failure, conclude, fetch_session};
-use timing_report::Status;
+use timing_report::Input;
 use timing_report::json_report::ReportProof;
+use timing_steps::{Answer, Command, Failure, media_of};
 
 /// Returns the violation that a job asks about: one of run 0 of its media in file 0.
 fn claim_of(job: &VerifyJob) -> ReportProof
@@ -31,73 +30,76 @@ fn claim_of(job: &VerifyJob) -> ReportProof
     }
 }
 
-/// Returns the answer for this media.
-fn answer_on<H: Shelf>(
+/// Returns the answer if a session doesn't have the media with this number, counted from 0, or `None` if it has it: then
+/// the violation is not confirmed. Returns `Err` if memory runs out.
+fn early_of_claim(
+    alloc: Global,
+    session: &Session,
+    number: u32,
+) -> Result<Option<Answer>, OutOfMemory>
+    ensures early { IfOk result (λ found. found ≡ not_there (slice_get session.now number)) }
+    ensures ends { IfOk result (λ found. IfSome found (λ answer.
+        judged_ends true answer.status ≡ true)) }
+{
+    match session.media.as_slice().get(number as usize) {
+        Some(_) => Ok(None),
+        None => Ok(Some(unconfirmed(alloc)?)),
+    }
+}
+
+/// Returns the answer over a session that has the media of a job, or the reason why there is none.
+fn answer_verify<H: Shelf>(
     alloc: Global,
     job: &VerifyJob,
+    session: &Session,
     shelf: &mut H,
-    media: &Media,
 ) -> Result<Answer, Failure>
-    ensures follows { Yields result (ReadsCaptures (seen_of H.Shelf shelf.old shelf.new) result job.now.captures (λ texts. Gives result (HasVerified job.now media.now texts))) }
-    ensures answers { IfOk result (HasStatus check_ends) }
-    ensures cause { HasCause result (VerifyInputRose job.now (seen_of H.Shelf shelf.old shelf.new)) }
+    requires { not_there (slice_get session.now job.now.media) ≡ None }
+    ensures follows { FollowsCaptures (verify_query job.now) session.now
+        (seen_of H.Shelf shelf.old shelf.new) result }
+    ensures ends { IfOk result (λ answer. judged_ends true answer.status ≡ true) }
+    ensures cause { IfErr result (λ e. OnReadFault e (λ i. (number : ℕ) × (i ≡ Input.Capture number)
+        × CaptureRose (H.faults shelf.old) (H.faults shelf.new) job.now.captures number)) }
     ensures stays { StaysAs H.text H.lacks H.faults shelf.old shelf.new }
 {
+    let media = media_of(session, job.media);
     let claim = claim_of(job);
     let names = job.captures.as_slice();
     let finding = find(alloc, shelf, names, media, &claim, job.tai)?;
     Ok(verified(alloc, media, finding)?)
 }
 
-/// Returns the answer over a session of these media.
-fn answer_over<H: Shelf>(
-    alloc: Global,
-    job: &VerifyJob,
-    shelf: &mut H,
-    media: &[Media],
-) -> Result<Answer, Failure>
-    ensures follows { Yields result (ReadsMedia (seen_of H.Shelf shelf.old shelf.new) result job.now (slice_get media.now job.now.media)) }
-    ensures answers { IfOk result (HasStatus check_ends) }
-    ensures cause { HasCause result (VerifyInputRose job.now (seen_of H.Shelf shelf.old shelf.new)) }
-    ensures stays { StaysAs H.text H.lacks H.faults shelf.old shelf.new }
-{
-    match media.get(job.media as usize) {
-        Some(media) => answer_on(alloc, job, shelf, media),
-        None => Ok(unconfirmed(alloc)?),
-    }
+/// The command `verify`: checks a violation, and prints whether the captures confirm it. If the SDP doesn't have the
+/// media, the violation is not confirmed, and no capture is read.
+#[derive(Drop)]
+pub struct VerifyCommand {
+    /// The violation, and the captures that are to confirm it.
+    pub job: VerifyJob,
 }
 
-/// Returns the answer of a job, or the reason why there is none. If the SDP doesn't have the media, the violation is
-/// not confirmed, and no capture is read.
-fn answer_verify<H: Shelf>(alloc: Global, job: &VerifyJob, shelf: &mut H) -> Result<Answer, Failure>
-    ensures follows { FollowsVerify job.now (seen_of H.Shelf shelf.old shelf.new) result }
-    ensures answers { IfOk result (HasStatus check_ends) }
-    ensures cause { HasCause result (VerifyInputRose job.now (seen_of H.Shelf shelf.old shelf.new)) }
-    ensures stays { StaysAs H.text H.lacks H.faults shelf.old shelf.new }
-{
-    match fetch_session(alloc, shelf, job.sdp.as_str())? {
-        Ok(session) => answer_over(alloc, job, shelf, session.media.as_slice()),
-        Err(fault) => Ok(Answer::silent(alloc, Status::SdpRefused(fault))),
-    }
-}
+impl Command for VerifyCommand {
+    ghost use Rattle.timing_top.specs.verify.Asked.{verify_query};
 
-/// Runs `verify`: checks the violation, and prints on `out` whether the captures confirm it. Prints on `err` the reason
-/// if there is no output.
-pub fn verify_one<H: Shelf, K: Sink>(
-    alloc: Global,
-    job: &VerifyJob,
-    shelf: &mut H,
-    out: &mut K,
-    err: &mut K,
-) -> Status
-    ensures ran { Ran (FollowsVerify job.now (seen_of H.Shelf shelf.old shelf.new))
-        (VerifyInputRose job.now (seen_of H.Shelf shelf.old shelf.new))
-        (output_of K.Sink out.old out.new)
-        (output_of K.Sink err.old err.new)
-        result }
-    ensures ends { EndsWith check_ends (output_of K.Sink out.old out.new) result }
-    ensures stays { StaysAs H.text H.lacks H.faults shelf.old shelf.new }
-{
-    let outcome = answer_verify(alloc, job, shelf);
-    conclude(out, err, outcome)
+    ghost query = { λ command. verify_query command.job };
+
+    ghost streams = { false };
+
+    fn sdp(&self) -> &FileName {
+        let job = &self.job;
+        &job.sdp
+    }
+
+    fn early(&self, alloc: Global, session: &Session) -> Result<Option<Answer>, OutOfMemory> {
+        early_of_claim(alloc, session, self.job.media)
+    }
+
+    fn answer<H: Shelf, K: Sink>(
+        &self,
+        alloc: Global,
+        session: &Session,
+        shelf: &mut H,
+        _out: &mut K,
+    ) -> Result<Answer, Failure> {
+        answer_verify(alloc, &self.job, session, shelf)
+    }
 }

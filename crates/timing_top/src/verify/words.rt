@@ -8,8 +8,8 @@ use crate::verify::checked::{Checked, Finding};
 use std::alloc::{AllocError as OutOfMemory, Global};
 use std::fmt;
 use timing_base::{Media, Unjudged, Verdict};
-use timing_reach::steps::Answer;
 use timing_report::{Status, kind_name, verdict_of};
+use timing_steps::Answer;
 
 /// Returns the status for one violation.
 fn finding_status(finding: Finding) -> Status

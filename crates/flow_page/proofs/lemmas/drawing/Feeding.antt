@@ -108,6 +108,7 @@ curve-none c numbers none = record {
 pub curves-none : (m : Media) (anchor : ℤ) (c : GroupCurves) (first last timestamp : ℕ → ℕ) → c.seen ≡ 0 → DrawsCurves m anchor c first last timestamp
 curves-none m anchor c first last timestamp none = record {
   first_draws = curve-none c.first _ (c.first_is ∙ none);
+  drift_draws = curve-none c.drift _ (c.drift_is ∙ none);
   last_draws = curve-none c.last _ (c.last_is ∙ none);
   offset_draws = curve-none c.offset _ (c.offset_is ∙ none);
   latency_draws = curve-none c.latency _ (c.latency_is ∙ none);

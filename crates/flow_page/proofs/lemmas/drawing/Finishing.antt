@@ -27,10 +27,10 @@ levels-are n count c level curve eye is_curve is_eye h same seen = record {
 }
 
 -- the curve of all groups
-pub curve-of : (groups seen most : ℕ) (numbers : ℕ → ℤ) (list : List Extremes) → AreCurve most numbers seen list → most ≡ 1000 → seen ≡ groups
-    → AreCurve 1000 numbers groups list
-curve-of groups seen most numbers list is most_is all =
-    subst (λ k. AreCurve 1000 numbers k list) all (subst (λ m. AreCurve m numbers seen list) most_is is)
+pub curve-of : (columns groups seen most : ℕ) (numbers : ℕ → ℤ) (list : List Extremes) → AreCurve most numbers seen list → most ≡ columns
+    → seen ≡ groups → AreCurve columns numbers groups list
+curve-of columns groups seen most numbers list is most_is all =
+    subst (λ k. AreCurve columns numbers k list) all (subst (λ m. AreCurve m numbers seen list) most_is is)
 
 -- the groups that have come, where all are whole
 pub groups-came : (n groups : ℕ) (g : GroupColumns) → g.walk.n ≡ n → g.walk.seen ≡ n * groups → g.curves.seen ≡ groups

@@ -5,4 +5,5 @@ use Rattle.flow_page.proofs.often.add_often.Given as goal
 
 abbrev pub invariant-loop-place : goal.invariant-loop-place
 invariant-loop-place l =
-    string_bytes l.text ++ often_from l.place (drop l.place l.kinds) ≡ string_bytes l.fn.text ++ often_from 0 l.kinds
+    string_bytes l.text ++ often_from l.numbers l.place (drop l.place l.kinds)
+    ≡ string_bytes l.fn.text ++ often_from l.numbers 0 l.kinds

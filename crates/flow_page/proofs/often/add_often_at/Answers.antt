@@ -8,4 +8,4 @@ use Rattle.flow_page.proofs.often.add_often_at.Goals as goal
 pub returns : goal.returns
 returns c =
     added_ok c.add_often_kind.result (string_bytes c.args.text.now) _ _ _ c.add_often_kind.ensures
-    (ap (λ (kind : Kind). often_kind kind c.args.k.now) c.kind_at.ensures)
+    (ap (λ (kind : Kind). often_kind c.args.numbers.now kind c.args.k.now) c.kind_at.ensures)

@@ -14,14 +14,15 @@ pub returns : goal.returns
 unfolding run_grid
 returns c =
     let r = c.add_markup-2.result in
+    let m = c.args.media.now in
     let s = c.args.shown.now in
     let types = c.args.types.now in
-    let timings : ℕ → List ℕ = λ period. timing_figures period s in
+    let timings : ℕ → List ℕ = λ period. timing_figures m period s in
     let start : List ℕ = codes "<div class=\"grid\">\n" in
-    let a : List ℕ = level_figures s types WholeRun in
-    let b : List ℕ = level_figures s types Eye in
-    let d : List ℕ = timings (period_of c.args.media.now) in
-    let e : List ℕ = often_from 0 s.run.numbers.kinds in
+    let a : List ℕ = level_figures m s types WholeRun in
+    let b : List ℕ = level_figures m s types Eye in
+    let d : List ℕ = timings (period_of m) in
+    let e : List ℕ = often_from s.run.numbers 0 s.run.numbers.kinds in
     let f : List ℕ = gap_figure s.run.numbers.gap in
     let g : List ℕ = around_figures types s.regions in
     let end : List ℕ = codes "</div>\n" in

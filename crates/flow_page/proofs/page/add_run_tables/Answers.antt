@@ -9,8 +9,9 @@ pub returns : goal.returns
 unfolding run_tables
 returns c =
     let r = c.add_runs_table.result in
-    let a : List ℕ = numbers_table c.args.shown.now.run.numbers in
-    let b : List ℕ = types_table c.args.types.now in
-    let d : List ℕ = runs_table c.args.runs.now in
+    let m = c.args.media.now in
+    let a : List ℕ = numbers_table m c.args.shown.now.run.numbers in
+    let b : List ℕ = types_table m c.args.types.now in
+    let d : List ℕ = runs_table m c.args.runs.now in
     two_ok r (string_bytes c.args.text.now) a (b ++ d) _ _ c.in_ok-add_numbers_table.ensures
     (two_ok r _ b d _ _ c.in_ok-add_types_table.ensures c.add_runs_table.ensures)

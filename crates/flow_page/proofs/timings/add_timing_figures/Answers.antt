@@ -9,7 +9,7 @@ use Rattle.flow_page.proofs.timings.add_timing_figures.Goals as goal
 pub returns : goal.returns
 returns c =
     let r = c.add_timing_figure-4.result in
-    let piece : Timing → List ℕ = timing_figure c.args.period c.args.shown.now in
+    let piece : Timing → List ℕ = timing_figure c.args.media.now c.args.period c.args.shown.now in
     let a : List ℕ = piece First in
     let b : List ℕ = piece Last in
     let d : List ℕ = piece Offset in

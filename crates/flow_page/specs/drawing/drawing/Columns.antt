@@ -32,6 +32,7 @@ pub record DrawsPackets (m : Media) (n : ℕ) (c : PacketColumns) (stamps : List
 -- RTP timestamps
 pub record DrawsCurves (m : Media) (anchor : ℤ) (c : GroupCurves) (first last timestamp : ℕ → ℕ) : Type 0 where
   pub first_draws : DrawsCurve (λ x. x) c.first (since_at m anchor first)
+  pub drift_draws : DrawsCurve (λ x. x) c.drift (since_at m anchor first)
   pub last_draws : DrawsCurve (λ x. x) c.last (since_at m anchor last)
   pub offset_draws : DrawsCurve (λ x. x) c.offset (offset_at m anchor timestamp)
   pub latency_draws : DrawsCurve (λ x. x) c.latency (latency_at first timestamp)

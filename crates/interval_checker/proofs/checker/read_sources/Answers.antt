@@ -31,13 +31,13 @@ pub overflow_cast-number : goal.overflow_cast-number
 overflow_cast-number g c = omega (arith, c.len-number.ensures, c.loop-source.invariant.count, c.requires.few)
 
 pub read_source-source-requires-clause-before : goal.read_source-source-requires-clause-before
-read_source-source-requires-clause-before g c = λ κs outlives.
+read_source-source-requires-clause-before g c =
     let more = cons-length c.loop-source.source-iterator.rest.items c.in-Some.source c.next.new.self.rest.items c.in-Some.ensures.steps.0 in
     before-few c.loop-source.outcome (vec_len c.loop-source.back) (omega (arith, more, c.loop-source.invariant.count, c.requires.few))
     c.loop-source.invariant.before
 
 pub read_source-source-requires-clause-few : goal.read_source-source-requires-clause-few
-read_source-source-requires-clause-few g c = λ κs outlives.
+read_source-source-requires-clause-few g c =
     let more = cons-length c.loop-source.source-iterator.rest.items c.in-Some.source c.next.new.self.rest.items c.in-Some.ensures.steps.0 in
     let low : vec_len c.loop-source.back < 16 = omega (arith, more, c.loop-source.invariant.count, c.requires.few) in
     room-if c.loop-source.checking.readings.items _ _ c.loop-source.outcome (omega (arith, low)) c.loop-source.invariant.few

@@ -18,7 +18,7 @@ loop-note-init g c = record {
 }
 
 pub take_next-requires-clause-room : goal.take_next-requires-clause-room
-take_next-requires-clause-room g c = λ κs outlives few.
+take_next-requires-clause-room g c = λ few.
     let count = 2 ^ 36 - frame_count c.loop-note.reader in
     let taker = c.loop-note.taker in
     let all = room-same g.T.Taker.room _ _ _ (frame_count c.loop-note.reader + count) c.args.taker.now refl (omega (arith, few)) c.requires.room in
@@ -26,7 +26,7 @@ take_next-requires-clause-room g c = λ κs outlives few.
     g.met.T.Taker.less _ 1 count taker (omega (arith, few)) (room-same g.T.Taker.room _ _ _ count taker (omega arith) refl now)
 
 pub take_held-requires-clause-room : goal.take_held-requires-clause-room
-take_held-requires-clause-room g c = λ κs outlives count few.
+take_held-requires-clause-room g c = λ count few.
     let old = frame_count c.loop-note.reader in
     let one : frame_count c.take_next.new.reader ≡ old + 1 = search rules in
     let left = 2 ^ 36 - frame_count c.take_next.new.reader in

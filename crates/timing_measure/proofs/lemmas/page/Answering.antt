@@ -1,29 +1,20 @@
 -- What follows for `page` from what the readings of its capture came to.
-use Rattle.std.specs.Prelude.{◌&&◌, ◌<◌, All, Result, Ok, if◌then◌else◌, not}
-use Rattle.std.specs.List.{list_any}
-use Rattle.std.proofs.Common.{◌≡◌, ◌+◌, ℕ, Bool, true, false, List, [], ◌∷◌, length, Some, refl, ap, ◌∙◌, sym, subst, arith}
+use Rattle.std.specs.Prelude.{◌<◌, All}
+use Rattle.std.proofs.Common.{◌≡◌, ◌+◌, ℕ, List, [], ◌∷◌, length, ap, ◌∙◌, arith}
 use Rattle.std.proofs.lemmas.List.Elements.{All-cons, All-nil, All-weaker}
 use Rattle.timing_base.specs.Captures.{Record}
 use Rattle.timing_base.specs.Jobs.{CaptureJob}
 use Rattle.timing_base.specs.Media.{Media}
-use Rattle.timing_base.specs.declared.capture.FileNote.{FileNote}
 use Rattle.flow_page.specs.Media.{AreOfMedia}
 use Rattle.flow_page.specs.declared.shown.FlowPage.{FlowPage}
-use Rattle.capture_scan.specs.report.Contents.{Contents, contents_of}
-use Rattle.sdp_reader.specs.Session.{session}
-use Rattle.timing_report.specs.Outcomes.{is_refused}
-use Rattle.timing_report.specs.declared.status.Status.TheVariants as status
-use Rattle.timing_reach.specs.steps.Answers.{Answer, Gives, Inputs, Yields}
-use Rattle.timing_reach.specs.steps.Ends.{HasStatus}
-use Rattle.timing_reach.specs.declared.steps.failure.Failure.{Failure}
-use Rattle.timing_reach.proofs.lemmas.steps.Seeing.{Sees, follows-session, yields-on}
-use Rattle.timing_reach.specs.Asked.{ReadsCapture}
-use Rattle.timing_reach.proofs.Following.{capture-seen}
+use Rattle.capture_scan.specs.report.Contents.{contents_of}
+use Rattle.timing_steps.specs.Answers.{Answer}
+use Rattle.timing_steps.specs.Queries.{HasAnswer}
 use Rattle.timing_reach.proofs.Scannings.{found-contents}
 use Rattle.udp_rtp.specs.Flow.{flow}
 use Rattle.timing_measure.specs.Each.{EachOf}
 use Rattle.timing_measure.specs.page.Shown.{IsFlowPage}
-use Rattle.timing_measure.specs.page.Pages.{ArePages, FollowsPage, HasPage, is_judged, page_ends, paged}
+use Rattle.timing_measure.specs.page.Pages.{page_query, paged}
 use Rattle.timing_measure.specs.page.Captures.{IsPageIn, IsPageOf}
 use Rattle.timing_measure.specs.declared.page.capture.PageCapture.{PageCapture}
 
@@ -47,32 +38,14 @@ of-media tai media r h =
 
 -- the answer on what was read
 pub has-page : (job : CaptureJob) (media : List Media) (text : List ℕ) (r : PageCapture) (answer : Answer) → IsPageIn job.tai media text r
-    → answer ≡ paged job.capture r.note job.tai media r.flows.items (contents_of r.found) → HasPage job media text answer
+    → answer ≡ paged job.capture r.note job.tai media r.flows.items (contents_of r.found) → HasAnswer (page_query job) media (text ∷ []) answer
 has-page job media text r answer h e = record {
-  items = h.items;
-  note = r.note;
-  records = h.records;
-  pages = r.flows.items;
-  are = h.are;
-  answer_is = e ∙ ap (paged job.capture r.note job.tai media r.flows.items) (found-contents h.items r.found h.found_is);
+  files = h.items ∷ [];
+  notes = r.note ∷ [];
+  records = (h.records, tt);
+  defined = record {
+    pages = r.flows.items;
+    are = h.are;
+    answer_is = e ∙ ap (paged job.capture r.note job.tai media r.flows.items) (found-contents h.items r.found h.found_is);
+  };
 }
-
--- each answer has one of the statuses
-pub page-ends : (name : List ℕ) (note : FileNote) (tai : ℕ) (media : List Media) (pages : List FlowPage) (c : Contents) (answer : Answer)
-    → answer ≡ paged name note tai media pages c → HasStatus page_ends answer
-page-ends name note tai media pages c answer is =
-    subst (HasStatus page_ends) (sym is) (go (paged name note tai media pages c).text (list_any is_judged pages && not (is_refused note)))
-  where
-    go : (text : List ℕ) (b : Bool) → HasStatus page_ends (record { text = text; status = if b then status.Pass else status.NotAllJudged })
-    go text true = (refl, tt)
-    go text false = (refl, tt)
-
--- the session of a description that was read, and what follows for it was seen later
-pub page-follows : (i j : Inputs) (job : CaptureJob) (outcome : Result Answer Failure) (media : List Media) → Sees i j → ¬ i.lacks job.sdp
-    → ((text : List ℕ) → i.texts job.sdp ≡ Some text → session text ≡ Ok media)
-    → Yields outcome (ReadsCapture j outcome job.capture (λ text. Gives outcome (HasPage job media text))) → FollowsPage job i outcome
-page-follows i j job outcome media s there told h =
-    let answers : List ℕ → Type 0 = λ text. Gives outcome (HasPage job media text) in
-    follows-session i outcome job.sdp media (λ media. ReadsCapture i outcome job.capture (λ text. Gives outcome (HasPage job media text))) there told
-    (yields-on outcome (ReadsCapture j outcome job.capture answers) (ReadsCapture i outcome job.capture answers)
-    (λ read. capture-seen i j outcome job.capture answers s read) h)

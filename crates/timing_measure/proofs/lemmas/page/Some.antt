@@ -1,4 +1,4 @@
--- The texts of `page` have an answer.
+-- The packet records of a capture have an answer of `page`.
 use Rattle.std.proofs.Common.{◌≡◌, ◌≤◌, ◌<◌, ◌+◌, ◌-◌, ◌*◌, ◌^◌, ◌++◌, ℕ, ℤ, inl, inr, Bool, true, false}
 use Rattle.std.proofs.Common.{List, [], ◌∷◌, length, Option, Some, None, refl, sym, ap, subst, arith}
 use Rattle.std.specs.Prelude.{All, slice_index}
@@ -29,7 +29,9 @@ use Rattle.flow_page.specs.declared.shown.FlowPage.{FlowPage}
 use Rattle.flow_page.specs.declared.shown.Region.{Region}
 use Rattle.flow_page.specs.declared.shown.ShownRun.{ShownRun}
 use Rattle.pcap_reader.specs.Records.{Records}
-use Rattle.timing_reach.specs.steps.Answers.{Answer}
+use Rattle.timing_steps.specs.Answers.{Answer}
+use Rattle.timing_steps.specs.Queries.{HasAnswer, only_file, only_note}
+use Rattle.timing_steps.proofs.Onces.{DefinesSome}
 use Rattle.timing_reach.specs.Scanned.{contents}
 use Rattle.udp_rtp.specs.Flow.{flow}
 use Rattle.timing_measure.specs.Each.{EachOf}
@@ -39,8 +41,9 @@ use Rattle.flow_measure.specs.Measured.{AreMeasured, HasNumbers, IsMeasuredRun}
 use Rattle.flow_measure.specs.Packets.{timestamps_of}
 use Rattle.flow_page.specs.drawing.Told.{IsLongest}
 use Rattle.timing_measure.specs.Measured.{IsMeasuredFlow}
-use Rattle.timing_measure.proofs.Some.{some-measure-answer}
-use Rattle.timing_measure.specs.page.Pages.{HasPage, paged}
+use Rattle.timing_measure.proofs.Held.{AreHeld, HaveStamps}
+use Rattle.timing_measure.proofs.Some.{measure-defined}
+use Rattle.timing_measure.specs.page.Pages.{DefinesPage, page_query, paged}
 use Rattle.timing_measure.specs.page.Shown.{IsFlowPage, IsShownRun, Shows}
 use Rattle.timing_measure.proofs.lemmas.page.Columns.{some-curve, some-eye}
 
@@ -82,6 +85,7 @@ some-curves m n groups stamps records timestamps named x h =
     let gapped = some-levels n count h.gapped_at some fits in
     let linear = some-levels n count h.linear_at some fits in
     let first = some-curve 1000 (since_at m anchor (firsts_of n stamp)) groups (omega arith) in
+    let drift = some-curve 8 (since_at m anchor (firsts_of n stamp)) groups (omega arith) in
     let last = some-curve 1000 (since_at m anchor (lasts_of n stamp)) groups (omega arith) in
     let offset = some-curve 1000 (offset_at m anchor (firsts_of n ticks)) groups (omega arith) in
     let latency = some-curve 1000 (latency_at (firsts_of n stamp) (firsts_of n ticks)) groups (omega arith) in (
@@ -93,6 +97,7 @@ some-curves m n groups stamps records timestamps named x h =
         gapped_eye = gapped.1;
         linear_eye = linear.1;
         first = first.0;
+        drift = drift.0;
         last = last.0;
         offset = offset.0;
         latency = latency.0;
@@ -106,6 +111,7 @@ some-curves m n groups stamps records timestamps named x h =
         gapped = gapped.2;
         linear = linear.2;
         first = first.1;
+        drift = drift.1;
         last = last.1;
         offset = offset.1;
         latency = latency.1;
@@ -232,12 +238,22 @@ some-pages tai items number (m ∷ media) (f ∷ flows) h =
     let later = some-pages tai items (number + 1) media flows h.1 in
     (record { flow = f; shown = s.0 } ∷ later.0, (record { flow_is = h.0; shows = s.1 }, later.1))
 
+-- the answer over packet records of a capture
+page-defined : (job : CaptureJob) (media : List Media) (items : List Record) (note : FileNote) → IsCaptureJob job → All IsMedia media → AreHeld items
+    → (answer : Answer) × DefinesPage job media items note answer
+page-defined job media items note is all held =
+    let measure = (measure-defined job media items note is all held).1 in
+    let pages = some-pages job.tai items 0 media measure.flows measure.are in
+    (paged job.capture note job.tai media pages.0 (contents items), record { pages = pages.0; are = pages.1; answer_is = refl })
+
+pub some-page : (job : CaptureJob) (texts : List (List ℕ)) → IsCaptureJob job → HaveStamps texts → DefinesSome (page_query job) texts
+some-page job texts is held media files notes are unsettled records =
+    page-defined job media (only_file files) (only_note notes) is are (held files notes records)
+
+-- over a capture with these contents
 pub some-page-answer : (job : CaptureJob) (media : List Media) (text : List ℕ) (items : List Record) (note : FileNote) → IsCaptureJob job
     → All IsMedia media → Records text (2 ^ 40) items note → length items < 2 ^ 41 → All (λ (r : Record). IsStamp r.stamp) items
-    → (answer : Answer) × HasPage job media text answer
-some-page-answer job media text items note is all records few held =
-    let measure = (some-measure-answer job media text items note is all records few held).1 in
-    let pages = some-pages job.tai measure.items 0 media measure.flows measure.are in (
-      paged job.capture measure.note job.tai media pages.0 (contents measure.items),
-      record { items = measure.items; note = measure.note; records = measure.records; pages = pages.0; are = pages.1; answer_is = refl },
-    )
+    → (answer : Answer) × HasAnswer (page_query job) media (text ∷ []) answer
+some-page-answer job media text items note is all records few stamps =
+    let made = page-defined job media items note is all (record { few = few; stamps = stamps }) in
+    (made.0, record { files = items ∷ []; notes = note ∷ []; records = (records, tt); defined = made.1 })

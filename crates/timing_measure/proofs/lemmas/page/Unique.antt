@@ -1,20 +1,19 @@
--- The texts of `page` have one answer.
-use Rattle.std.proofs.Common.{◌≡◌, ◌^◌, ◌∷◌, ℕ, List, [], length, Option, Some, None, refl, ap, ◌∙◌, sym, subst, arith, length-append}
+-- The packet records of a capture have one answer of `page`.
+use Rattle.std.proofs.Common.{◌≡◌, ◌∷◌, ℕ, List, [], length, Option, Some, None, refl, ap, ◌∙◌, sym, subst, arith, length-append}
 use Rattle.timing_base.specs.Jobs.{CaptureJob}
 use Rattle.timing_base.specs.Media.{Media}
 use Rattle.timing_base.specs.declared.packet.FlowPacket.{FlowPacket}
 use Rattle.flow_page.specs.declared.shown.FlowPage.{FlowPage}
 use Rattle.flow_page.specs.declared.shown.ShownRun.{ShownRun}
-use Rattle.pcap_reader.specs.Header.{header}
-use Rattle.pcap_reader.proofs.Lists.{only_by}
 use Rattle.run_meter.specs.Runs.{JudgedPart, stamps_of}
 use Rattle.fail_interval.specs.Parts.{judged_parts}
 use Rattle.flow_measure.specs.Packets.{timestamps_of}
 use Rattle.flow_page.specs.drawing.Told.{IsLongest}
 use Rattle.timing_reach.specs.Scanned.{contents}
-use Rattle.timing_reach.specs.steps.Answers.{Answer}
+use Rattle.timing_steps.specs.Queries.{only_file, only_note}
+use Rattle.timing_steps.proofs.Onces.{DefinesOnce}
 use Rattle.udp_rtp.specs.Flow.{flow}
-use Rattle.timing_measure.specs.page.Pages.{ArePages, HasPage, paged}
+use Rattle.timing_measure.specs.page.Pages.{page_query, paged}
 use Rattle.timing_measure.specs.page.Shown.{IsFlowPage, IsShownRun, Shows}
 use Rattle.timing_measure.proofs.lemmas.page.Drawings.{curves-once, regions-once}
 use Rattle.timing_measure.proofs.Eaches.{each-once}
@@ -54,11 +53,10 @@ page-once m number tai packets p q h k =
     let shown = shows-once m tai (judged_parts m packets tai) p.shown q.shown h.shows k.shows in
     λ i. record { flow = flow_same i; shown = shown i }
 
--- texts have no two answers
-pub once-page : (job : CaptureJob) (media : List Media) (text : List ℕ) (a b : Answer) → HasPage job media text a → HasPage job media text b → a ≡ b
-once-page job media text a b h k =
-    let (items, note) = only_by (header text) (2 ^ 40) text h.items k.items h.note k.note h.records k.records in
-    let pages =
-    each-once (λ n m page. IsFlowPage m n job.tai (flow k.items m) page) (λ n m. page-once m n job.tai (flow k.items m)) 0 media h.pages k.pages
-    (subst (λ l. ArePages job.tai media l h.pages) items h.are) k.are in
-    h.answer_is ∙ (λ i. paged job.capture (note i) job.tai media (pages i) (contents (items i))) ∙ sym k.answer_is
+-- no media and packet records have two answers
+pub once-page : (job : CaptureJob) → DefinesOnce (page_query job)
+once-page job media files notes a b h k =
+    let items = only_file files in
+    let pages : h.pages ≡ k.pages =
+    each-once (λ n m page. IsFlowPage m n job.tai (flow items m) page) (λ n m. page-once m n job.tai (flow items m)) 0 media h.pages k.pages h.are k.are in
+    h.answer_is ∙ ap (λ pages. paged job.capture (only_note notes) job.tai media pages (contents items)) pages ∙ sym k.answer_is

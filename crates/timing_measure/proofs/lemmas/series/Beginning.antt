@@ -1,5 +1,5 @@
 -- What stands where `series` stops before the end of a capture is a prefix of the text of an answer.
-use Rattle.std.proofs.Common.{◌≡◌, ◌≤◌, ◌<◌, ◌+◌, ◌^◌, ℕ, List, [], ◌∷◌, ◌++◌, length, drop, take, Bool, Option, Some, None, inl, inr, refl, ap, ◌∙◌, sym}
+use Rattle.std.proofs.Common.{◌≡◌, ◌≤◌, ◌<◌, ◌+◌, ℕ, List, [], ◌∷◌, ◌++◌, length, drop, take, Bool, Option, Some, None, inl, inr, refl, ap, ◌∙◌, sym}
 use Rattle.std.proofs.Common.{subst, arith, append-nil, append_assoc, length-append, take-append-drop}
 use Rattle.std.specs.Prelude.{◌⊎◌}
 use Rattle.std.proofs.lemmas.List.Elements.{filter_map-append}
@@ -13,7 +13,6 @@ use Rattle.timing_base.specs.declared.row.Run.{Run}
 use Rattle.timing_base.specs.declared.row.Verdict.{Verdict}
 use Rattle.timing_base.proofs.FirstFaults.{fault-kept}
 use Rattle.udp_rtp.specs.Flow.{flow, flow_packet}
-use Rattle.pcap_reader.specs.Records.{Records}
 use Rattle.fail_interval.specs.Flowing.{OpensAt}
 use Rattle.fail_interval.specs.Measured.{StateTells}
 use Rattle.fail_interval.specs.Parts.{open_before, parts_before, sound_before}
@@ -29,10 +28,11 @@ use Rattle.flow_measure.specs.rows.Told.{PastRows, Tells}
 use Rattle.flow_measure.specs.rows.making.Meters.{StandsFor as RowsStandsFor}
 use Rattle.flow_measure.specs.declared.rows.meter.RowsMeter.{RowsMeter}
 use Rattle.flow_measure.specs.declared.rows.rows.Rows.{Rows}
-use Rattle.timing_reach.specs.steps.Ran.{Appended, Output}
+use Rattle.timing_steps.specs.Queries.{IsFrontOf}
+use Rattle.timing_steps.specs.Ran.{Appended, Output}
 use Rattle.timing_measure.specs.series.Copies.{Stopped}
 use Rattle.timing_measure.specs.series.Rows.{AreRowsOfFlow, AreRowsUpTo}
-use Rattle.timing_measure.specs.series.Series.{BeginsIn, series_of}
+use Rattle.timing_measure.specs.series.Series.{DefinesSeries, series_of}
 use Rattle.timing_measure.specs.series.Stands.{StandsFor, Waits, past_of, text_of}
 use Rattle.timing_measure.specs.declared.series.flow.SeriesFlow.{SeriesFlow}
 use Rattle.timing_measure.proofs.lemmas.series.Ending.{some-put}
@@ -119,18 +119,18 @@ pieces gone text put more header count is =
     ∙ append_assoc (gone ++ take count text) (drop count text) more
 
 -- a prefix of what was made so far is one of the answer's text, if a row was made
-begins-some : (frames : Bool) (m : Media) (tai : ℕ) (text : List ℕ) (items : List Record) (note : FileNote) (gone made : List ℕ) (count : ℕ)
-    → Records text (2 ^ 40) items note → AreBegun frames m tai (flow items m) gone made
+begins-some : (frames : Bool) (m : Media) (tai : ℕ) (items : List Record) (note : FileNote) (gone made : List ℕ) (count : ℕ)
+    → AreBegun frames m tai (flow items m) gone made
     → length (header_text frames) < length gone + length made
-    → BeginsIn frames tai m text (gone ++ take count made)
-begins-some frames m tai text items note gone made count records begun more =
+    → IsFrontOf (DefinesSeries frames tai m items note) (gone ++ take count made)
+begins-some frames m tai items note gone made count begun more =
     let rows = begun.put ++ begun.more in
     let v = verdict_of m (judged (flow items m) m.pt tai) in
     let put : 0 < length begun.put = some-put (header_text frames) begun.put gone made begun.text_is more in
     let some : 0 < length rows = omega (arith, put, length-append begun.put begun.more) in
     record {
       answer = series_of frames m note v rows;
-      has = record { items = items; note = note; records = records; rows = rows; are = begun.are; answer_is = refl };
+      has = record { rows = rows; are = begun.are; answer_is = refl };
       rest = drop count made ++ begun.more;
       whole = text-of-rows frames m note v rows some ∙ pieces gone made begun.put begun.more (header_text frames) count begun.text_is;
     }
@@ -146,36 +146,36 @@ rows-held : (frames : Bool) (gone made : List ℕ) (waiting : ℕ) → Waits fra
 rows-held frames gone made waiting (inl w) some = omega (arith, w.1, some)
 rows-held frames gone made waiting (inr w) some = omega (arith, w.1)
 
-begins-none : (frames : Bool) (m : Media) (tai : ℕ) (text : List ℕ) (items : List Record) (note : FileNote) (gone made : List ℕ)
-    → Records text (2 ^ 40) items note → AreBegun frames m tai (flow items m) gone made
+begins-none : (frames : Bool) (m : Media) (tai : ℕ) (items : List Record) (note : FileNote) (gone made : List ℕ)
+    → AreBegun frames m tai (flow items m) gone made
     → (gone ≡ []) ⊎ (length (header_text frames) < length gone + length made)
-    → (gone ≡ []) ⊎ BeginsIn frames tai m text gone
-begins-none frames m tai text items note gone made records begun (inl none) = inl none
-begins-none frames m tai text items note gone made records begun (inr more) =
-    inr (subst (BeginsIn frames tai m text) (append-nil gone) (begins-some frames m tai text items note gone made 0 records begun more))
+    → (gone ≡ []) ⊎ IsFrontOf (DefinesSeries frames tai m items note) gone
+begins-none frames m tai items note gone made begun (inl none) = inl none
+begins-none frames m tai items note gone made begun (inr more) =
+    inr (subst (IsFrontOf (DefinesSeries frames tai m items note)) (append-nil gone) (begins-some frames m tai items note gone made 0 begun more))
 
 -- what was written where it stopped
-stopped-case : (frames : Bool) (m : Media) (tai : ℕ) (text : List ℕ) (items : List Record) (note : FileNote) (gone made : List ℕ) (waiting count : ℕ)
-    → Records text (2 ^ 40) items note → AreBegun frames m tai (flow items m) gone made → Waits frames gone waiting
+stopped-case : (frames : Bool) (m : Media) (tai : ℕ) (items : List Record) (note : FileNote) (gone made : List ℕ) (waiting count : ℕ)
+    → AreBegun frames m tai (flow items m) gone made → Waits frames gone waiting
     → (count ≡ 0) ⊎ (waiting < length made)
-    → (gone ++ take count made ≡ []) ⊎ BeginsIn frames tai m text (gone ++ take count made)
-stopped-case frames m tai text items note gone made waiting count records begun waits (inl none) =
+    → (gone ++ take count made ≡ []) ⊎ IsFrontOf (DefinesSeries frames tai m items note) (gone ++ take count made)
+stopped-case frames m tai items note gone made waiting count begun waits (inl none) =
     let same : gone ≡ gone ++ take count made = sym (ap (λ k. gone ++ take k made) none ∙ append-nil gone) in
-    subst (λ l. (l ≡ []) ⊎ BeginsIn frames tai m text l) same
-    (begins-none frames m tai text items note gone made records begun (rows-gone frames gone made waiting waits))
-stopped-case frames m tai text items note gone made waiting count records begun waits (inr some) =
-    inr (begins-some frames m tai text items note gone made count records begun (rows-held frames gone made waiting waits some))
+    subst (λ l. (l ≡ []) ⊎ IsFrontOf (DefinesSeries frames tai m items note) l) same
+    (begins-none frames m tai items note gone made begun (rows-gone frames gone made waiting waits))
+stopped-case frames m tai items note gone made waiting count begun waits (inr some) =
+    inr (begins-some frames m tai items note gone made count begun (rows-held frames gone made waiting waits some))
 
 -- what `series` has written where it stopped is nothing, or a prefix of the answer's text
-pub stopped-begins : (frames : Bool) (m : Media) (number tai : ℕ) (text : List ℕ) (items : List Record) (note : FileNote) (o : Output) (old : SeriesFlow)
-    → IsMedia m → Records text (2 ^ 40) items note → StandsFor frames m number tai [] old [] → Stopped o old items
-    → (front : List ℕ) × Appended o front × ((front ≡ []) ⊎ BeginsIn frames tai m text front)
-stopped-begins frames m number tai text items note o old is records fresh s =
+pub stopped-begins : (frames : Bool) (m : Media) (number tai : ℕ) (items : List Record) (note : FileNote) (o : Output) (old : SeriesFlow)
+    → IsMedia m → StandsFor frames m number tai [] old [] → Stopped o old items
+    → (front : List ℕ) × Appended o front × ((front ≡ []) ⊎ IsFrontOf (DefinesSeries frames tai m items note) front)
+stopped-begins frames m number tai items note o old is fresh s =
     let stands : StandsFor frames m number tai s.written s.stood s.taken = s.goes frames m number tai [] [] fresh in
     let begun : AreBegun frames m tai (flow items m) s.written (text_of s.stood) =
     subst (λ l. AreBegun frames m tai (flow l m) s.written (text_of s.stood)) (sym s.whole)
     (series-begun frames m number tai s.written s.stood s.taken s.rest is stands) in (
       s.written ++ take s.count (text_of s.stood),
       s.appended,
-      stopped-case frames m tai text items note s.written (text_of s.stood) s.stood.waiting s.count records begun stands.waits s.some,
+      stopped-case frames m tai items note s.written (text_of s.stood) s.stood.waiting s.count begun stands.waits s.some,
     )

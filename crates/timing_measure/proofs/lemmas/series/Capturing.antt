@@ -11,8 +11,8 @@ use Rattle.timing_outside.specs.Written.{AppendsFront}
 use Rattle.pcap_reader.specs.Header.{header}
 use Rattle.pcap_reader.specs.Records.{Records, UnlessReadFault}
 use Rattle.pcap_reader.proofs.Lists.{some_by}
-use Rattle.timing_reach.specs.steps.Ran.{Appended, Output}
-use Rattle.timing_reach.specs.declared.steps.failure.Failure.{Failure}
+use Rattle.timing_steps.specs.Ran.{Appended, Output}
+use Rattle.timing_steps.specs.declared.failure.Failure.{Failure}
 use Rattle.timing_measure.specs.series.Copies.{Copied, CopiesIn, CopiesSome, Stopped}
 use Rattle.timing_measure.specs.declared.series.flow.SeriesFlow.{SeriesFlow}
 use Rattle.timing_measure.proofs.lemmas.series.Copying.{appends-same, copies-none, stopped-here}

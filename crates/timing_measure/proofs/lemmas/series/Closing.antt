@@ -1,8 +1,8 @@
 -- The rest of the answer of a flow, behind what was written.
-use Rattle.std.proofs.Common.{◌≡◌, ◌^◌, ℕ, Bool, true, false, List, [], ◌∷◌, refl, ap, sym, ◌∙◌, append-nil, subst}
-use Rattle.std.specs.Prelude.{◌⊎◌, ◌||◌, if◌then◌else◌}
-use Rattle.std.proofs.lemmas.Bool.{false≢true}
+use Rattle.std.proofs.Common.{◌≡◌, ◌^◌, ℕ, Bool, true, false, List, [], ◌∷◌, ◌++◌, Some, inl, inr, refl, ap, sym, append-nil, subst}
+use Rattle.std.specs.Prelude.{◌⊎◌, ◌||◌, if◌then◌else◌, slice_get}
 use Rattle.timing_base.specs.Captures.{Record}
+use Rattle.timing_base.specs.Jobs.{SeriesJob}
 use Rattle.timing_base.specs.Judged.{judged}
 use Rattle.timing_base.specs.Media.{IsMedia, Media}
 use Rattle.timing_base.specs.declared.capture.FileNote.{FileNote}
@@ -14,71 +14,99 @@ use Rattle.pcap_reader.proofs.Lists.{some_by}
 use Rattle.timing_report.specs.Outcomes.{is_refused}
 use Rattle.timing_report.specs.declared.status.Status.{Status}
 use Rattle.timing_report.specs.declared.status.Status.TheVariants as status
-use Rattle.timing_reach.specs.steps.Answers.{Answer}
-use Rattle.timing_reach.specs.steps.Ends.{look_ends}
-use Rattle.timing_reach.specs.steps.Ran.{Output}
+use Rattle.timing_steps.specs.Answers.{Answer}
+use Rattle.timing_steps.specs.Flows.{OnMedia}
+use Rattle.timing_steps.specs.Queries.{HasAnswer, IsFrontOf, judged_ends}
+use Rattle.timing_steps.specs.Ran.{Output}
+use Rattle.timing_steps.specs.Streams.{HasBegun, HasRest}
 use Rattle.udp_rtp.specs.Flow.{flow}
 use Rattle.timing_measure.specs.series.Copies.{CopiesIn, CopiesSome, Stopped}
 use Rattle.timing_measure.specs.series.Ends.{EndsSeries}
-use Rattle.timing_measure.specs.series.Series.{BeginsIn, HasSeries, series_of}
+use Rattle.timing_measure.specs.series.Series.{DefinesSeries, series_of, series_query}
 use Rattle.timing_measure.specs.series.Stands.{StandsFor}
 use Rattle.timing_measure.specs.series.Status.{is_unjudged}
-use Rattle.timing_measure.specs.series.Streams.{HasBegun, HasRest, HasRestStatus, is_silent_stream}
 use Rattle.timing_measure.specs.declared.series.flow.SeriesFlow.{SeriesFlow}
 use Rattle.timing_measure.proofs.lemmas.series.Beginning.{stopped-begins}
 use Rattle.timing_measure.proofs.lemmas.series.Copying.{stopped-here}
 
--- what `series` may write where it stops: nothing, or a prefix of the answer's text
-abbrev pub BeginsOr : (frames : Bool) → (tai : ℕ) → Media → (text front : List ℕ) → Type 0
-BeginsOr frames tai m text front = (front ≡ []) ⊎ BeginsIn frames tai m text front
+-- what may be written where the capture isn't copied to its end: nothing, or a prefix of the answer's text
+abbrev pub BeginsOr : SeriesJob → List Media → (text front : List ℕ) → Type 0
+BeginsOr job media text front = (front ≡ []) ⊎ IsFrontOf (HasAnswer (series_query job) media (text ∷ [])) front
+
+-- nothing was taken yet of the flow of the job
+abbrev pub IsFresh : SeriesJob → Media → SeriesFlow → Type 0
+IsFresh job m old = StandsFor job.frames m job.flow.media job.flow.tai [] old []
+
+-- the answer over the packet records of the capture
+pub has-series : (job : SeriesJob) (media : List Media) (m : Media) (text : List ℕ) (items : List Record) (note : FileNote) (answer : Answer)
+    → slice_get media job.flow.media ≡ Some m → Records text (2 ^ 40) items note → DefinesSeries job.frames job.flow.tai m items note answer
+    → HasAnswer (series_query job) media (text ∷ []) answer
+has-series job media m text items note answer found records h = record {
+  files = items ∷ [];
+  notes = note ∷ [];
+  records = (records, tt);
+  defined = subst (λ o. OnMedia o (λ x. DefinesSeries job.frames job.flow.tai x items note answer)) (sym found) h;
+}
+
+begins-or : (job : SeriesJob) (media : List Media) (m : Media) (text : List ℕ) (items : List Record) (note : FileNote) (front : List ℕ)
+    → slice_get media job.flow.media ≡ Some m → Records text (2 ^ 40) items note
+    → (front ≡ []) ⊎ IsFrontOf (DefinesSeries job.frames job.flow.tai m items note) front → BeginsOr job media text front
+begins-or job media m text items note front found records (inl none) = inl none
+begins-or job media m text items note front found records (inr f) =
+    inr (record { answer = f.answer; has = has-series job media m text items note f.answer found records f.has; rest = f.rest; whole = f.whole })
+
+-- it stopped among the packet records of the capture
+stopped-at : (job : SeriesJob) (media : List Media) (m : Media) (o : Output) (old : SeriesFlow) (text : List ℕ) (items : List Record) (note : FileNote)
+    → slice_get media job.flow.media ≡ Some m → IsMedia m → IsFresh job m old → Records text (2 ^ 40) items note → Stopped o old items
+    → HasBegun o (BeginsOr job media text)
+stopped-at job media m o old text items note found is fresh records stopped =
+    let s = stopped-begins job.frames m job.flow.media job.flow.tai items note o old is fresh stopped in
+    (s.0, s.1, begins-or job media m text items note s.0 found records s.2)
 
 -- it stopped while it read a capture
-pub begun-stopped : (frames : Bool) (m : Media) (number tai : ℕ) (o : Output) (old : SeriesFlow) (text : List ℕ) → IsMedia m
-    → StandsFor frames m number tai [] old []
+pub begun-stopped : (job : SeriesJob) (media : List Media) (m : Media) (o : Output) (old : SeriesFlow) (text : List ℕ)
+    → slice_get media job.flow.media ≡ Some m → IsMedia m → IsFresh job m old
     → ((items : List Record) (end : FileNote) → Records text (2 ^ 40) items end → Stopped o old items)
-    → HasBegun o (BeginsOr frames tai m text)
-begun-stopped frames m number tai o old text is fresh stopped =
+    → HasBegun o (BeginsOr job media text)
+begun-stopped job media m o old text found is fresh stopped =
     let all = some_by (header text) (2 ^ 40) text in
-    stopped-begins frames m number tai text all.0 all.1 o old is all.2 fresh (stopped all.0 all.1 all.2)
+    stopped-at job media m o old text all.0 all.1 found is fresh all.2 (stopped all.0 all.1 all.2)
 
 -- it stopped at the end of the capture
-pub begun-whole : (frames : Bool) (m : Media) (number tai : ℕ) (o : Output) (old new : SeriesFlow) (text : List ℕ) (note : FileNote) → IsMedia m
-    → StandsFor frames m number tai [] old [] → CopiesIn o old new text note
-    → HasBegun o (BeginsOr frames tai m text)
-begun-whole frames m number tai o old new text note is fresh c =
-    stopped-begins frames m number tai text c.items note o old is c.records fresh
+pub begun-whole : (job : SeriesJob) (media : List Media) (m : Media) (o : Output) (old new : SeriesFlow) (text : List ℕ) (note : FileNote)
+    → slice_get media job.flow.media ≡ Some m → IsMedia m → IsFresh job m old → CopiesIn o old new text note
+    → HasBegun o (BeginsOr job media text)
+begun-whole job media m o old new text note found is fresh c =
+    stopped-at job media m o old text c.items note found is fresh c.records
     (stopped-here o old new c.items [] c.items (sym (append-nil c.items)) c.copies)
 
 -- the capture was read to its end, and what was written and the rest are the answer
-pub rest-of-flow : (frames : Bool) (m : Media) (number tai : ℕ) (o : Output) (old new : SeriesFlow) (text : List ℕ) (note : FileNote) (rest : Answer)
-    → StandsFor frames m number tai [] old [] → CopiesIn o old new text note → EndsSeries note new rest
-    → HasRest o (HasSeries frames tai m text) rest
-rest-of-flow frames m number tai o old new text note rest fresh c ends =
+pub rest-of-flow : (job : SeriesJob) (media : List Media) (m : Media) (o : Output) (old new : SeriesFlow) (text : List ℕ) (note : FileNote) (rest : Answer)
+    → slice_get media job.flow.media ≡ Some m → IsFresh job m old → CopiesIn o old new text note → EndsSeries note new rest
+    → HasRest o (HasAnswer (series_query job) media (text ∷ [])) rest
+rest-of-flow job media m o old new text note rest found fresh c ends =
     let written = c.copies.written in
-    let r = ends frames m number tai written c.items (c.copies.goes frames m number tai [] [] fresh) in (
+    let r = ends job.frames m job.flow.media job.flow.tai written c.items (c.copies.goes job.frames m job.flow.media job.flow.tai [] [] fresh) in (
       written,
       c.copies.appended,
-      record { items = c.items; note = note; records = c.records; rows = r.rows; are = r.are; answer_is = r.whole },
+      has-series job media m text c.items note (record { text = written ++ rest.text; status = rest.status }) found c.records
+          (record { rows = r.rows; are = r.are; answer_is = r.whole }),
     )
 
 -- a status of rows
-abbrev IsRowStatus : Status → Type 0
-IsRowStatus ends = (look_ends ends ≡ true) × (is_silent_stream ends ≡ false)
+row-status : (unjudged : Bool) → judged_ends false (if unjudged then status.NotAllJudged else status.Pass) ≡ true
+row-status true = refl
+row-status false = refl
 
-row-status : (unjudged : Bool) → IsRowStatus (if unjudged then status.NotAllJudged else status.Pass)
-row-status true = (refl, refl)
-row-status false = (refl, refl)
-
-of-rows : (frames : Bool) (m : Media) (note : FileNote) (v : Verdict) (rows : List ℕ) → IsRowStatus (series_of frames m note v rows).status
-of-rows frames m note v [] = (refl, refl)
+of-rows : (frames : Bool) (m : Media) (note : FileNote) (v : Verdict) (rows : List ℕ) → judged_ends false (series_of frames m note v rows).status ≡ true
+of-rows frames m note v [] = refl
 of-rows frames m note v (byte ∷ rows) = row-status (is_refused note || is_unjudged v)
 
 -- the status of the rest, whatever the capture
-pub rest-status : (frames : Bool) (m : Media) (number tai : ℕ) (o : Output) (old new : SeriesFlow) (note : FileNote) (rest : Answer)
-    → StandsFor frames m number tai [] old [] → CopiesSome o old new → EndsSeries note new rest → HasRestStatus o rest
-rest-status frames m number tai o old new note rest fresh c ends =
-    let written = c.1.written in
-    let r = ends frames m number tai written c.0 (c.1.goes frames m number tai [] [] fresh) in
-    let v = verdict_of m (judged (flow c.0 m) m.pt tai) in
-    let is : IsRowStatus rest.status = subst IsRowStatus (sym (ap (λ (a : Answer). a.status) r.whole)) (of-rows frames m note v r.rows) in
-    record { ends = is.0; silent = λ quiet. absurd (false≢true (sym is.1 ∙ quiet)) }
+pub rest-status : (job : SeriesJob) (m : Media) (o : Output) (old new : SeriesFlow) (note : FileNote) (rest : Answer)
+    → IsFresh job m old → CopiesSome o old new → EndsSeries note new rest → judged_ends false rest.status ≡ true
+rest-status job m o old new note rest fresh c ends =
+    let r =
+    ends job.frames m job.flow.media job.flow.tai c.1.written c.0 (c.1.goes job.frames m job.flow.media job.flow.tai [] [] fresh) in
+    let v = verdict_of m (judged (flow c.0 m) m.pt job.flow.tai) in
+    subst (λ (s : Status). judged_ends false s ≡ true) (sym (ap (λ (a : Answer). a.status) r.whole)) (of-rows job.frames m note v r.rows)

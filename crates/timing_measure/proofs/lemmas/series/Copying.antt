@@ -12,7 +12,7 @@ use Rattle.pcap_reader.specs.declared.reader.PcapReader.{PcapReader}
 use Rattle.pcap_reader.specs.declared.reader.Step.{Step}
 use Rattle.pcap_reader.specs.declared.reader.Step.TheVariants as step
 use Rattle.timing_outside.specs.Written.{AppendsFront}
-use Rattle.timing_reach.specs.steps.Ran.{Output}
+use Rattle.timing_steps.specs.Ran.{Output}
 use Rattle.timing_measure.specs.series.Copies.{Copies, IsCopying, Stopped}
 use Rattle.timing_measure.specs.series.Stands.{HoldsText, PoursOn, StandsFor, TakesOn, text_of}
 use Rattle.timing_measure.specs.declared.series.flow.SeriesFlow.{SeriesFlow}

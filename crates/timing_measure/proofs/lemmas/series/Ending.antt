@@ -21,7 +21,7 @@ use Rattle.flow_measure.specs.rows.Told.{PastRows, Tells}
 use Rattle.flow_measure.specs.rows.making.Meters.{StandsFor as RowsStandsFor}
 use Rattle.flow_measure.specs.declared.rows.rows.Rows.{Rows}
 use Rattle.timing_reach.specs.Asked.{not_judged}
-use Rattle.timing_reach.specs.steps.Answers.{Answer}
+use Rattle.timing_steps.specs.Answers.{Answer}
 use Rattle.timing_measure.specs.series.Ends.{EndsSeries, IsRestOf}
 use Rattle.timing_measure.specs.series.Rows.{AreRowsOfFlow, AreRowsUpTo}
 use Rattle.timing_measure.specs.series.Series.{series_of}

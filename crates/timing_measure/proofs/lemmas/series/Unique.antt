@@ -1,7 +1,8 @@
--- The texts of `series` have one answer.
+-- The packet records of a capture have one answer of `series`.
 use Rattle.std.proofs.Common.{◌≡◌, ◌≤◌, ◌-◌, ◌+◌, ◌*◌, ◌/◌, ◌%◌, ◌^◌, ◌++◌, ◌∷◌, ℕ, ℤ, zero, suc, pos, Bool, true, false, List, [], length, Option, Some}
 use Rattle.std.proofs.Common.{None, refl, ap, ap₂}
 use Rattle.std.proofs.Common.{◌∙◌, sym, subst, arith, length-append}
+use Rattle.std.specs.Prelude.{slice_get}
 use Rattle.std.proofs.Math.Nat.{suc-mul}
 use Rattle.std.proofs.lemmas.Bool.{eqb-true}
 use Rattle.std.proofs.lemmas.Int.{ints}
@@ -9,6 +10,7 @@ use Rattle.std.proofs.lemmas.List.{length-map}
 use Rattle.std.proofs.lemmas.Nat.{div-add-mod'}
 use Rattle.timing_base.specs.Flows.{FirstFault, first_fault}
 use Rattle.timing_base.specs.Judged.{judged, stamp_of}
+use Rattle.timing_base.specs.Jobs.{SeriesJob}
 use Rattle.timing_base.specs.Media.{Media}
 use Rattle.timing_base.specs.declared.packet.FlowPacket.{FlowPacket}
 use Rattle.fail_interval.specs.Row.{verdict_of}
@@ -22,13 +24,14 @@ use Rattle.flow_measure.specs.declared.report.rows.PacketRow.{PacketRow}
 use Rattle.run_meter.specs.Runs.{JudgedPart, OpenPart, stamps_of}
 use Rattle.flow_measure.specs.rows.Told.{AreRowsSoFar}
 use Rattle.flow_measure.specs.rows.Rows.{Adds, AddsGroup, AreRows, AreRowsOf, IsHeld, IsOfGroup, IsPacketRow, IsRowOf, ends_group}
-use Rattle.pcap_reader.specs.Header.{header}
-use Rattle.pcap_reader.proofs.Lists.{only_by}
 use Rattle.fail_interval.specs.Parts.{judged_parts, open_before, parts_before}
-use Rattle.timing_reach.specs.steps.Answers.{Answer}
+use Rattle.timing_steps.specs.Answers.{Answer}
+use Rattle.timing_steps.specs.Flows.{OnMedia}
+use Rattle.timing_steps.specs.Queries.{only_file, only_note}
+use Rattle.timing_steps.proofs.Onces.{DefinesOnce}
 use Rattle.udp_rtp.specs.Flow.{flow}
-use Rattle.timing_measure.specs.series.Rows.{AreRowsOfFlow, AreRowsUpTo}
-use Rattle.timing_measure.specs.series.Series.{HasSeries, series_of}
+use Rattle.timing_measure.specs.series.Rows.{AreRowsUpTo}
+use Rattle.timing_measure.specs.series.Series.{DefinesSeries, series_of, series_query}
 
 -- a packet has one row
 packet-once : (m : Media) (tai number n : ℕ) (before : List FlowPacket) (p : FlowPacket) (r s : PacketRow) → IsPacketRow m tai number n before p r
@@ -169,15 +172,16 @@ up-to-once frames m tai packets None a b h k = so-far-once frames m tai (judged_
 up-to-once frames m tai packets (Some first) a b h k =
     so-far-once frames m tai (parts_before m packets tai first.index) (open_before packets tai first.index) a b h k
 
--- texts have no two answers
-pub once-series : (frames : Bool) (tai : ℕ) (m : Media) (text : List ℕ) (a b : Answer) → HasSeries frames tai m text a → HasSeries frames tai m text b
-    → a ≡ b
-once-series frames tai m text a b h k =
-    let (items, note) = only_by (header text) (2 ^ 40) text h.items k.items h.note k.note h.records k.records in
-    let packets = flow k.items m in
-    let rows : h.rows ≡ k.rows =
-    up-to-once frames m tai packets (first_fault packets m.pt) h.rows k.rows
-    (subst (λ l. AreRowsOfFlow frames m tai (flow l m) h.rows) items h.are) k.are in
-    h.answer_is
-    ∙ (λ i. series_of frames m (note i) (verdict_of m (judged (flow (items i) m) m.pt tai)) (rows i))
-    ∙ sym k.answer_is
+-- no media and packet records have two answers
+pub once-series : (job : SeriesJob) → DefinesOnce (series_query job)
+once-series job media files notes a b h k = of-media (slice_get media job.flow.media) h k
+  where
+    Answers : Media → Answer → Type 0
+    Answers m answer = DefinesSeries job.frames job.flow.tai m (only_file files) (only_note notes) answer
+
+    of-media : (found : Option Media) → OnMedia found (λ m. Answers m a) → OnMedia found (λ m. Answers m b) → a ≡ b
+    of-media None h k = absurd h
+    of-media (Some m) h k =
+        let packets = flow (only_file files) m in
+        let rows : h.rows ≡ k.rows = up-to-once job.frames m job.flow.tai packets (first_fault packets m.pt) h.rows k.rows h.are k.are in
+        h.answer_is ∙ ap (series_of job.frames m (only_note notes) (verdict_of m (judged packets m.pt job.flow.tai))) rows ∙ sym k.answer_is

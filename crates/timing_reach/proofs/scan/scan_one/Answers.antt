@@ -1,4 +1,4 @@
-use Rattle.timing_reach.proofs.lemmas.steps.Endings.{ends-by}
+use Rattle.timing_steps.proofs.Endings.{ends-by}
 use Rattle.timing_reach.proofs.scan.scan_one.Goals as goal
 
 pub returns-clause-ends : goal.returns-clause-ends

@@ -5,7 +5,21 @@ use Rattle.udp_rtp.specs.Flow.{flow}
 use Rattle.timing_reach.specs.Asked.{OnRun}
 use Rattle.timing_reach.specs.Shapes.{HasShape}
 use Rattle.timing_reach.specs.shape.Readings.{IsKeptFlow}
+use Rattle.timing_reach.proofs.Takings.{if-ok}
 use Rattle.timing_reach.proofs.shape.answer_kept.Goals as goal
+
+pub returns-clause-answers : goal.returns-clause-answers
+returns-clause-answers c =
+    let job = c.args.job.now in
+    let m = c.args.media.now in
+    let seconds : c.flow.inside.tai ≡ job.flow.tai = search rules in
+    let same : c.job.inside.kind ≡ job.kind = search rules in
+    if-ok c.told_of.result
+    (λ answer answers items h.
+    subst (λ (k : Kind). OnRun m (HasShape job.list job.flow.tai k m items) (judged (flow items m) m.pt job.flow.tai) answer) same
+    (subst (λ (x : ℕ). OnRun m (HasShape job.list x c.job.inside.kind m items) (judged (flow items m) m.pt x) answer) seconds
+    (answers job.list items (subst (λ (x : ℕ). IsKeptFlow m x job.list items c.args.kept) (sym seconds) h))))
+    c.told_of.ensures.answers
 
 pub returns-clause-some : goal.returns-clause-some
 returns-clause-some c =
@@ -14,10 +28,11 @@ returns-clause-some c =
     let items = c.requires.items in
     let seconds : c.flow.inside.tai ≡ job.flow.tai = search rules in
     let same : c.job.inside.kind ≡ job.kind = search rules in
-    record {
+    if-ok c.told_of.result
+    (λ answer answers. record {
       items = items;
-      on_run = subst (λ (k : Kind). OnRun m (HasShape job.list job.flow.tai k m items) (judged (flow items m) m.pt job.flow.tai) c.in_ok-told_of.field-0) same
-          (subst (λ (x : ℕ). OnRun m (HasShape job.list x c.job.inside.kind m items) (judged (flow items m) m.pt x) c.in_ok-told_of.field-0) seconds
-          (c.in_ok-told_of.ensures.answers job.list items
-          (subst (λ (x : ℕ). IsKeptFlow m x job.list items c.args.kept) (sym seconds) c.requires.flow_is)));
-    }
+      on_run = subst (λ (k : Kind). OnRun m (HasShape job.list job.flow.tai k m items) (judged (flow items m) m.pt job.flow.tai) answer) same
+          (subst (λ (x : ℕ). OnRun m (HasShape job.list x c.job.inside.kind m items) (judged (flow items m) m.pt x) answer) seconds
+          (answers job.list items (subst (λ (x : ℕ). IsKeptFlow m x job.list items c.args.kept) (sym seconds) c.requires.flow_is)));
+    })
+    c.told_of.ensures.answers

@@ -1,7 +1,8 @@
-use Rattle.std.proofs.Common.{ap, refl, sym, subst, ◌∙◌}
+use Rattle.std.proofs.Common.{ap, false, refl, sym, subst, true, ◌≡◌, ◌∙◌}
 use Rattle.timing_base.specs.Judged.{judged}
 use Rattle.udp_rtp.specs.Flow.{flow}
-use Rattle.timing_reach.specs.steps.Ends.{HasStatus, look_ends}
+use Rattle.timing_steps.specs.Answers.{Answer}
+use Rattle.timing_steps.specs.Queries.{judged_ends}
 use Rattle.timing_reach.specs.Asked.{OnRun, not_judged}
 use Rattle.timing_reach.specs.Shapes.{HasShape}
 use Rattle.timing_reach.proofs.Keepings.{can-shape, run-kept}
@@ -28,7 +29,7 @@ returns c =
     let m = c.args.media.now in
     let tai = c.args.tai in
     record {
-      answered = if-ok c.not_judged.result (λ answer is. subst (HasStatus look_ends) (sym is) (refl, tt)) c.not_judged.ensures;
+      ends = if-ok c.not_judged.result (λ answer is. subst (λ (a : Answer). judged_ends false a.status ≡ true) (sym is) refl) c.not_judged.ensures;
       answers = if-ok c.not_judged.result
           (λ answer is list items h. not-run m (HasShape list tai c.args.kind m items) (judged (flow items m) m.pt tai) answer
           (λ j s. c.in_default.not-Judged j (h.verdict_is ∙ s)) (is ∙ ap (not_judged m) h.verdict_is))

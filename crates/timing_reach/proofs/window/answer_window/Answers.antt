@@ -1,48 +1,15 @@
-use Rattle.std.proofs.Common.{subst, Result}
-use Rattle.std.specs.Prelude.{IfErr}
-use Rattle.timing_reach.specs.Asked.{HasWindow}
-use Rattle.sdp_reader.specs.Session.{session}
-use Rattle.timing_base.specs.Media.{Media}
-use Rattle.timing_reach.specs.steps.Answers.{Answer, seen_of}
-use Rattle.timing_reach.specs.steps.Ends.{HasStatus, look_ends}
-use Rattle.timing_reach.proofs.lemmas.steps.Endings.{look-answered}
-use Rattle.timing_reach.proofs.lemmas.steps.Seeing.{sees-rest, stays-then}
-use Rattle.timing_reach.specs.judged.Found.{IsFound}
-use Rattle.timing_reach.proofs.Following.{cause-seen, found-follows, none-follows}
+use Rattle.std.proofs.Common.{refl, rules, Some, ◌≡◌}
+use Rattle.std.specs.Prelude.{slice_get}
+use Rattle.timing_steps.specs.Answers.{seen_of}
+use Rattle.timing_steps.proofs.Capturing.{reads-one}
+use Rattle.timing_reach.specs.Windows.{window_query}
+use Rattle.timing_reach.proofs.Windowing.{has-window}
 use Rattle.timing_reach.proofs.window.answer_window.Goals as goal
 
-pub returns-in-Ok-clause-follows : goal.returns-in-Ok-clause-follows
-returns-in-Ok-clause-follows g c =
-    found-follows
-    (seen_of g.H.Shelf c.args.shelf.now c.answer_on.new.shelf)
-    (seen_of g.H.Shelf c.find_media.new.shelf c.answer_on.new.shelf)
-    c.args.job.now (HasWindow c.args.job.now.tai) c.answer_on.result c.in-Ok.media
-    (sees-rest g.H.Shelf.text g.H.Shelf.lacks g.H.Shelf.faults c.args.shelf.now c.find_media.new.shelf c.answer_on.new.shelf c.find_media.ensures.stays)
-    c.in_ok-media.ensures.there
-    (λ text t. subst (IsFound (session text) c.args.job.now.media) c.in-Ok.is (c.in_ok-media.ensures.told text t)) c.answer_on.ensures.follows
-
-pub returns-in-Ok-clause-cause : goal.returns-in-Ok-clause-cause
-returns-in-Ok-clause-cause g c =
-    cause-seen
-    (seen_of g.H.Shelf c.args.shelf.now c.answer_on.new.shelf)
-    (seen_of g.H.Shelf c.find_media.new.shelf c.answer_on.new.shelf)
-    c.answer_on.result c.args.job.now
-    (sees-rest g.H.Shelf.text g.H.Shelf.lacks g.H.Shelf.faults c.args.shelf.now c.find_media.new.shelf c.answer_on.new.shelf c.find_media.ensures.stays)
-    c.answer_on.ensures.cause
-
-pub returns-in-Ok-clause-stays : goal.returns-in-Ok-clause-stays
-returns-in-Ok-clause-stays g c =
-    stays-then g.H.Shelf.text g.H.Shelf.lacks g.H.Shelf.faults c.args.shelf.now c.find_media.new.shelf c.answer_on.new.shelf c.find_media.ensures.stays
-    c.answer_on.ensures.stays
-
-pub returns-in-Err-clause-follows : goal.returns-in-Err-clause-follows
-returns-in-Err-clause-follows g c =
-    none-follows
-    (seen_of g.H.Shelf c.args.shelf.now c.find_media.new.shelf)
-    c.args.job.now (HasWindow c.args.job.now.tai) c.in-Err.answer c.in_ok-media.ensures.there
-    (λ text t. subst (IsFound (session text) c.args.job.now.media) c.in-Err.is (c.in_ok-media.ensures.told text t))
-
-pub returns-in-Err-clause-cause : goal.returns-in-Err-clause-cause
-returns-in-Err-clause-cause g c =
-    look-answered c.in-Err.answer
-    (subst (λ (f : Result Media Answer). IfErr f (HasStatus look_ends)) c.in-Err.is c.in_ok-media.ensures.answered)
+pub returns-clause-follows : goal.returns-clause-follows
+returns-clause-follows g c =
+    let found : slice_get c.args.session.now c.args.job.now.media ≡ Some c.media_of-media.result.now = search rules in
+    reads-one (window_query c.args.job.now) c.args.session.now (seen_of g.H.Shelf c.args.shelf.now c.measure.new.shelf) c.args.job.now.capture _ refl
+    c.in_ok-measured.ensures.there
+    (λ text t. has-window c.args.job.now c.args.session.now c.media_of-media.result.now text c.in_ok-measured.measured c.in_ok-told_of.field-0
+    found c.in_ok-told_of.ensures.answers (c.in_ok-measured.ensures.told text t)) tt

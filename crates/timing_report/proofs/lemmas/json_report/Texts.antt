@@ -1,6 +1,6 @@
 -- The texts of a report are UTF-8 where the names of the captures are.
-use Rattle.std.proofs.Common.{◌≡◌, ◌<◌, ◌+◌, ◌/◌, ◌%◌, ◌==◌, ℕ, zero, suc, List, [], ◌∷◌, ◌++◌, Bool, true, false, cond, ◌&&◌, Option, Some, None, Ordering}
-use Rattle.std.proofs.Common.{Less, Equal, Greater, nat_cmp, refl, sym, ap, subst, arith, lt-ltb}
+use Rattle.std.proofs.Common.{◌≡◌, ◌<◌, ◌+◌, ◌/◌, ◌%◌, ◌^◌, ◌==◌, ℕ, zero, suc, List, [], ◌∷◌, ◌++◌, Bool, true, false, cond, ◌&&◌, Option, Some, None}
+use Rattle.std.proofs.Common.{Ordering, Less, Equal, Greater, nat_cmp, refl, sym, ap, subst, arith, lt-ltb}
 use Rattle.std.specs.Prelude.{IsUtf8, codes, if◌then◌else◌, ⊤}
 use Rattle.std.specs.Cmp.Lexicographic.{slice_cmp}
 use Rattle.std.specs.Ordering.{match_ordering}
@@ -11,7 +11,9 @@ use Rattle.json.specs.Print.{quoted}
 use Rattle.serde_json.specs.Data.{Num, unsigned, negative, float, Data, null, boolean, number, string, array, object, Items, no_items, item, Members}
 use Rattle.serde_json.specs.Data.{no_members, member, put}
 use Rattle.serde_json.specs.Written.{number_text, comma_if, compact_text, items_text, members_text}
+use Rattle.timing_base.specs.Addresses.{address_text}
 use Rattle.timing_base.specs.Targets.{target_text}
+use Rattle.timing_base.specs.declared.address.Address.{Address}
 use Rattle.timing_base.specs.declared.capture.FileNote.{FileNote}
 use Rattle.timing_base.specs.declared.capture.FileNote.TheVariants as note
 use Rattle.timing_base.specs.declared.capture.PcapFault.{PcapFault}
@@ -110,10 +112,14 @@ note_utf8 note.End = ascii (codes "end") refl
 note_utf8 (note.Cut at) = lead (codes "cut at ") _ refl (decimal_utf8 at)
 note_utf8 (note.Refused fault) = lead (codes "refused ") _ refl (pcap_fault_utf8 fault)
 
+address_utf8 : (address : Address) → IsUtf8 (address_text address)
+address_utf8 address =
+    counted _ _ (lead (codes ".") _ refl (counted _ _ (lead (codes ".") _ refl (counted _ _ (lead (codes ".") _ refl (decimal_utf8 (address.bits % 2 ^ 8)))))))
+
 pub target_utf8 : (target : Target) → IsUtf8 (target_text target)
 target_utf8 target =
-    counted _ _ (lead (codes ".") _ refl (counted _ _ (lead (codes ".") _ refl
-    (counted _ _ (lead (codes ".") _ refl (counted _ _ (lead (codes ":") _ refl (decimal_utf8 target.port))))))))
+    IsUtf8-append (address_text target.address) (codes ":" ++ decimal target.port) (address_utf8 target.address)
+    (lead (codes ":") _ refl (decimal_utf8 target.port))
 
 -- ---- values whose texts and keys are UTF-8
 

@@ -1,32 +1,23 @@
-use Rattle.std.proofs.Common.{rules, ◌≡◌, Err, sym, subst}
-use Rattle.timing_reach.specs.steps.Answers.{seen_of}
-use Rattle.timing_top.specs.Check.{AnswersCheck}
-use Rattle.timing_top.specs.Found.{Opens}
-use Rattle.timing_top.proofs.Begun.{failed-follows, failed-rose, report-follows}
+use Rattle.std.proofs.Common.{rules, false}
+use Rattle.timing_steps.specs.Answers.{seen_of}
+use Rattle.timing_steps.proofs.Commanded.{before-read, before-settled, before-unread}
+use Rattle.timing_steps.proofs.Seeing.{sees-rest}
+use Rattle.timing_top.specs.Report.{check_query}
 use Rattle.timing_top.proofs.check.answer_check.Goals as goal
 
-pub returns-in_err-found-in-Ok-clause-answers : goal.returns-in_err-found-in-Ok-clause-answers
-returns-in_err-found-in-Ok-clause-answers g c =
-    let opened : Opens c.args.job.now g.H.Shelf g.H.Source.Source c.args.shelf.now c.open.new.shelf c.in-Ok.field-0.session c.in-Ok.field-0.sources.items =
-    search rules in
-    let failed : c.from_residual-in_err-found-in-Ok.result ≡ Err c.in_err-found-in-Ok.field-0.0 = search rules in
-    subst (AnswersCheck c.args.job.now (seen_of g.H.Shelf c.args.shelf.now c.judge.new.shelf)) (sym failed)
-    (record {
-      follows = failed-follows g.H.Shelf g.H.Source.Source c.args.job.now c.args.shelf.now c.open.new.shelf c.judge.new.shelf _ _ _ _ _ opened
-          c.open.ensures.stays c.judge.ensures.judged _ c.in_err-found-in-Ok.was;
-      status = tt;
-      cause = failed-rose g.H.Shelf g.H.Source.Source c.args.job.now c.args.shelf.now c.open.new.shelf c.judge.new.shelf _ _ _ _ _ opened
-          c.open.ensures.stays c.judge.ensures.judged _ c.in_err-found-in-Ok.was;
-    })
+pub returns-in-Ok-clause-stands : goal.returns-in-Ok-clause-stands
+returns-in-Ok-clause-stands g c = λ o kept.
+    before-read false (check_query c.args.command.now.job) (seen_of g.H.Shelf c.args.shelf.now c.answer_many.new.shelf)
+    (seen_of g.H.Shelf c.begin.new.shelf c.answer_many.new.shelf) c.in-Ok.session o c.answer_many.result
+    (sees-rest g.H.Shelf.text g.H.Shelf.lacks g.H.Shelf.faults c.args.shelf.now c.begin.new.shelf c.answer_many.new.shelf c.begin.ensures.stays)
+    (search rules) (kept, search rules) (search rules) (search rules)
 
-pub returns-in_ok-found-in-Ok-clause-answers : goal.returns-in_ok-found-in-Ok-clause-answers
-returns-in_ok-found-in-Ok-clause-answers g c =
-    let opened : Opens c.args.job.now g.H.Shelf g.H.Source.Source c.args.shelf.now c.open.new.shelf c.in-Ok.field-0.session c.in-Ok.field-0.sources.items =
-    search rules in
-    record {
-      follows = report-follows g.H.Shelf g.H.Source.Source c.args.job.now c.args.shelf.now c.open.new.shelf c.judge.new.shelf _ _ _ _ _ opened
-          c.open.ensures.stays c.judge.ensures.judged c.report_on.result c.in_ok-found-in-Ok.found c.in_ok-found-in-Ok.was (search rules)
-          c.report_on.ensures.text c.report_on.ensures.status c.report_on.ensures.memory;
-      status = c.report_on.ensures.answers;
-      cause = search rules;
-    }
+pub returns-in-Err-clause-stands : goal.returns-in-Err-clause-stands
+returns-in-Err-clause-stands g c = λ o kept.
+    before-settled false (check_query c.args.command.now.job) (seen_of g.H.Shelf c.args.shelf.now c.begin.new.shelf) o c.in-Err.answer kept
+    (search rules)
+
+pub returns-in_err-session-clause-stands : goal.returns-in_err-session-clause-stands
+returns-in_err-session-clause-stands g c = λ o kept.
+    before-unread false (check_query c.args.command.now.job) (seen_of g.H.Shelf c.args.shelf.now c.begin.new.shelf) o c.from_residual.result kept
+    (search rules) (search rules)

@@ -1,4 +1,4 @@
-use Rattle.timing_reach.specs.steps.Answers.{seen_of}
+use Rattle.timing_steps.specs.Answers.{seen_of}
 use Rattle.timing_top.proofs.Headlines.{headline, no-request}
 use Rattle.timing_top.proofs.laws.headline.Goals as goal
 

@@ -1,5 +1,5 @@
 use Rattle.timing_top.specs.Asked.{seen}
-use Rattle.timing_top.proofs.Answering.{are-there}
+use Rattle.timing_steps.proofs.Onces.{are-there}
 use Rattle.timing_top.proofs.Asking.{answer-failed, only-answer, some-answer}
 use Rattle.timing_top.proofs.laws.one_answer.Goals as goal
 

@@ -1,4 +1,4 @@
-use Rattle.timing_reach.specs.steps.Answers.{seen_of}
+use Rattle.timing_steps.specs.Answers.{seen_of}
 use Rattle.timing_top.proofs.Headlines.{same-follows, same-report}
 use Rattle.timing_top.proofs.laws.same_for_all_workers.Goals as goal
 

@@ -1,4 +1,4 @@
-use Rattle.timing_reach.specs.steps.Answers.{seen_of}
+use Rattle.timing_steps.specs.Answers.{seen_of}
 use Rattle.timing_top.proofs.Serving.{runs-whole}
 use Rattle.timing_top.proofs.laws.whole_or_nothing.Goals as goal
 

@@ -7,7 +7,7 @@ use Rattle.timing_base.specs.Media.{Media}
 use Rattle.timing_base.specs.declared.key.FlowKey.{FlowKey}
 use Rattle.timing_base.specs.declared.row.Unjudged.{Unjudged}
 use Rattle.timing_report.specs.declared.json_report.reading.ReportProof.{ReportProof}
-use Rattle.timing_reach.specs.steps.Answers.{Answer, AreTold}
+use Rattle.timing_steps.specs.Answers.{Answer, AreTold}
 use Rattle.timing_top.specs.verify.Asked.{AreTexts, FindsOf, HasReported, captures_for, captures_of, file_count, media_for, needed}
 use Rattle.timing_top.specs.verify.Findings.{Finds}
 use Rattle.timing_top.specs.declared.verify.checked.Checked.{Checked}

@@ -19,9 +19,9 @@ use Rattle.interval_checker.specs.declared.fault.CheckFault.TheVariants as check
 use Rattle.interval_checker.specs.declared.reading.Reading.{Reading}
 use Rattle.interval_checker.proofs.Asks.{asked-no_less}
 use Rattle.timing_report.specs.declared.json_report.reading.ReportProof.{ReportProof}
-use Rattle.timing_reach.specs.steps.Answers.{AreTold, CaptureRose}
-use Rattle.timing_reach.specs.steps.Fetched.{AreFetched}
-use Rattle.timing_reach.specs.declared.steps.failure.Failure.{Failure}
+use Rattle.timing_steps.specs.Answers.{AreTold, CaptureRose}
+use Rattle.timing_steps.specs.Fetched.{AreFetched}
+use Rattle.timing_steps.specs.declared.failure.Failure.{Failure}
 use Rattle.timing_top.specs.verify.Findings.{Finds}
 use Rattle.timing_top.specs.verify.Found.{FailedAmong, IsReadFor, ReadAs, failure_of}
 

@@ -1,22 +1,23 @@
 -- What follows for the two commands from what their steps found.
-use Rattle.std.proofs.Common.{◌≡◌, ℕ, List, Option, Some, None, refl, ap, ◌∙◌, subst, inl, inr}
-use Rattle.std.specs.Prelude.{Bool, MatchOption, Result, Ok, map, slice_get}
+use Rattle.std.proofs.Common.{◌≡◌, ℕ, false, List, Option, Some, None, refl, ap, ◌∙◌, sym, subst, inl, inr}
+use Rattle.std.specs.Prelude.{Bool, MatchOption, Result, Ok, slice_get}
 use Rattle.timing_base.specs.Jobs.{ReportJob, VerifyJob}
 use Rattle.timing_base.specs.Media.{Media}
 use Rattle.timing_base.specs.declared.row.Unjudged.{Unjudged}
-use Rattle.pcapng_reader.specs.Classic.{classic, classic_texts}
 use Rattle.sdp_reader.specs.Session.{session}
 use Rattle.timing_report.specs.json_report.Reading.{IsReport}
 use Rattle.timing_report.specs.declared.json_report.reading.ReportProof.{ReportProof}
 use Rattle.timing_report.specs.declared.status.Status.TheVariants as status
-use Rattle.timing_reach.specs.steps.Answers.{Answer, AreThere, AreTold, Gives, Inputs, ReadsCaptures, Yields, silent}
-use Rattle.timing_reach.specs.declared.steps.failure.Failure.{Failure}
-use Rattle.timing_top.specs.verify.Asked.{FollowsReport, FollowsVerify, HasReported, HasVerified, ReadsMedia, ReadsNeeded, ReadsReport, claim_of}
-use Rattle.timing_top.specs.verify.Findings.{Finds}
+use Rattle.timing_steps.specs.Answers.{Answer, Gives, Inputs, Yields, silent}
+use Rattle.timing_steps.specs.Flows.{OnMedia, no_media}
+use Rattle.timing_steps.specs.Queries.{HasAnswer}
+use Rattle.timing_steps.specs.declared.failure.Failure.{Failure}
+use Rattle.timing_top.specs.verify.Asked.{DefinesVerified, FollowsReport, HasReported, ReadsNeeded, ReadsReport, claim_of, not_there, verify_query}
+use Rattle.timing_top.specs.verify.Findings.{Finds, FindsIn}
 use Rattle.timing_top.specs.verify.Verified.{verified}
-use Rattle.timing_reach.proofs.lemmas.steps.Classics.{told-classic}
-use Rattle.timing_reach.proofs.lemmas.steps.Seeing.{Sees, follows-session, yields-on}
-use Rattle.timing_top.proofs.lemmas.verify.Seeing.{media-seen, needed-seen, report-seen}
+use Rattle.timing_steps.proofs.Capturing.{some-none}
+use Rattle.timing_steps.proofs.Seeing.{Sees, follows-session, yields-on}
+use Rattle.timing_top.proofs.lemmas.verify.Seeing.{needed-seen, report-seen}
 
 -- a report that was read leads on to what follows for its fails
 pub follows-report : (i : Inputs) (outcome : Result Answer Failure) (name : List ℕ) (claims : List ReportProof) (next : List ReportProof → Type 0)
@@ -40,16 +41,6 @@ pub unmatched : {X : Type 0} (o : Option X) (P : Type 0) (Q : X → Type 0) → 
 unmatched o P Q e h = subst (λ y. MatchOption y P Q) e h
 
 -- a description was read, and what follows for its media was seen later
-pub verify-session : (i j : Inputs) (job : VerifyJob) (outcome : Result Answer Failure) (asked : List ℕ) (all media : List Media) → Sees i j → asked ≡ job.sdp
-    → all ≡ media → ¬ i.lacks asked
-    → ((text : List ℕ) → i.texts asked ≡ Some text → session text ≡ Ok media) → Yields outcome (ReadsMedia j outcome job (slice_get all job.media))
-    → FollowsVerify job i outcome
-verify-session i j job outcome asked all media s named same there told h =
-    follows-session i outcome job.sdp media (λ m. ReadsMedia i outcome job (slice_get m job.media)) (subst (λ (n : List ℕ). ¬ i.lacks n) named there)
-    (λ text t. told text (ap i.texts named ∙ t))
-    (yields-on outcome (ReadsMedia j outcome job (slice_get all job.media)) (ReadsMedia i outcome job (slice_get media job.media))
-    (λ r. subst (λ (m : List Media). ReadsMedia i outcome job (slice_get m job.media)) same (media-seen i j outcome job (slice_get all job.media) s r)) h)
-
 pub report-session : (i j : Inputs) (job : ReportJob) (outcome : Result Answer Failure) (asked : List ℕ) (all media : List Media) → Sees i j → asked ≡ job.sdp
     → all ≡ media → ¬ i.lacks asked
     → ((text : List ℕ) → i.texts asked ≡ Some text → session text ≡ Ok media)
@@ -79,30 +70,23 @@ report-read i j job media outcome asked all claims s named same there told h =
     subst (λ (c : List ReportProof). ReadsNeeded i outcome job media c (λ text. Gives outcome (HasReported job media c text))) same
     (needed-seen i j outcome job media all (λ text. Gives outcome (HasReported job media all text)) s n)) h)
 
--- what was found in the captures, as classic ones, is the answer of `verify`
-pub follows-found : (i : Inputs) (job : VerifyJob) (media : Media) (names : List (List ℕ)) (claim : ReportProof) (tai : ℕ) (finding : Result Bool Unjudged)
-    (answer : Answer)
-    → names ≡ job.captures → claim ≡ claim_of job → tai ≡ job.tai → AreThere i.lacks names
-    → ((texts : List (List ℕ)) → AreTold (classic_texts i.texts) names texts → Finds media claim tai texts finding) → answer ≡ verified finding
-    → Yields (Ok answer) (ReadsCaptures i (Ok answer) job.captures (λ texts. Gives (Ok answer) (HasVerified job media texts)))
-follows-found i job media names claim tai finding answer named asked late there h is =
-    let by_names : (texts : List (List ℕ)) → AreTold (classic_texts i.texts) job.captures texts → Finds media claim tai texts finding =
-    subst (λ (n : List (List ℕ)). (texts : List (List ℕ)) → AreTold (classic_texts i.texts) n texts → Finds media claim tai texts finding) named h in
-    let by_claim : (texts : List (List ℕ)) → AreTold (classic_texts i.texts) job.captures texts → Finds media (claim_of job) tai texts finding =
-    subst (λ (x : ReportProof). (texts : List (List ℕ)) → AreTold (classic_texts i.texts) job.captures texts → Finds media x tai texts finding) asked by_names
-    in
-    let found : (texts : List (List ℕ)) → AreTold (classic_texts i.texts) job.captures texts → Finds media (claim_of job) job.tai texts finding =
-    subst (λ (t : ℕ). (texts : List (List ℕ)) → AreTold (classic_texts i.texts) job.captures texts → Finds media (claim_of job) t texts finding) late by_claim
-    in
-    inr (inr (
-      subst (λ (n : List (List ℕ)). AreThere i.lacks n) named there,
-      λ texts told. (
-        answer,
-        refl,
-        record {
-          finding = finding;
-          finds = found (map classic texts) (told-classic i.texts job.captures texts told);
-          answer_is = is;
-        },
-      ),
-    ))
+-- what was found in captures with these contents is the answer of `verify`
+pub has-verified : (job : VerifyJob) (media : List Media) (m : Media) (texts : List (List ℕ)) (claim : ReportProof) (tai : ℕ) (finding : Result Bool Unjudged)
+    (answer : Answer) → slice_get media job.media ≡ Some m → claim ≡ claim_of job → tai ≡ job.tai → Finds m claim tai texts finding → answer ≡ verified finding
+    → HasAnswer (verify_query job) media texts answer
+has-verified job media m texts claim tai finding answer found asked late h is = record {
+  files = h.files;
+  notes = h.notes;
+  records = h.records;
+  defined = subst (λ o. OnMedia o (λ x. DefinesVerified job x h.files answer)) (sym found) (record {
+    finding = finding;
+    finds = subst (λ (c : ReportProof). FindsIn m c job.tai h.files finding) asked
+        (subst (λ (t : ℕ). FindsIn m claim t h.files finding) late h.says);
+    answer_is = is;
+  });
+}
+
+-- the SDP has the media
+pub there-media : (found : Option Media) → not_there found ≡ None → no_media found ≡ None
+there-media None h = absurd (some-none (verified (Ok false)) h)
+there-media (Some m) h = refl

@@ -11,8 +11,8 @@ use Rattle.timing_base.specs.declared.key.FlowKey.{FlowKey}
 use Rattle.timing_base.specs.declared.row.Unjudged.{Unjudged}
 use Rattle.pcapng_reader.specs.Classic.{classic, classic_texts}
 use Rattle.timing_report.specs.declared.json_report.reading.ReportProof.{ReportProof}
-use Rattle.timing_reach.specs.steps.Answers.{Answer, AreThere, AreTold, Gives, Inputs, Yields}
-use Rattle.timing_reach.specs.declared.steps.failure.Failure.{Failure}
+use Rattle.timing_steps.specs.Answers.{Answer, AreThere, AreTold, Gives, Inputs, Yields}
+use Rattle.timing_steps.specs.declared.failure.Failure.{Failure}
 use Rattle.timing_top.specs.verify.Asked.{AreTexts, FindsOf, HasReported, ReadsNeeded, captures_for, captures_of, media_for, needed}
 use Rattle.timing_top.specs.verify.Findings.{Finds}
 use Rattle.timing_top.specs.verify.Found.{IsChecked}

@@ -1,20 +1,14 @@
--- What a later part of a run saw of the inputs of `verify` and `verify-report`, as what the whole run saw.
-use Rattle.std.proofs.Common.{◌≡◌, ℕ, List, Option, Some, None, ◌∙◌, inl, inr}
+-- What a later part of a run saw of the inputs of `verify-report`, as what the whole run saw.
+use Rattle.std.proofs.Common.{◌≡◌, ℕ, List, Some, ◌∙◌, inl, inr}
 use Rattle.std.proofs.lemmas.List.Elements.{All-weaker}
 use Rattle.std.specs.Prelude.{Result}
-use Rattle.timing_base.specs.Jobs.{ReportJob, VerifyJob}
+use Rattle.timing_base.specs.Jobs.{ReportJob}
 use Rattle.timing_base.specs.Media.{Media}
 use Rattle.timing_report.specs.declared.json_report.reading.ReportProof.{ReportProof}
-use Rattle.timing_reach.specs.steps.Answers.{Answer, AreThere, Gives, Inputs}
-use Rattle.timing_reach.specs.declared.steps.failure.Failure.{Failure}
-use Rattle.timing_reach.proofs.lemmas.steps.Seeing.{Sees, capture-seen, captures-seen, risen-seen, there-seen}
-use Rattle.timing_top.specs.verify.Asked.{AreTexts, HasVerified, NeededRose, OnReport, ReadsMedia, ReadsNeeded, ReadsReport, needed}
-
--- captures that were read in a part of the run, where the media is there
-pub media-seen : (i j : Inputs) (outcome : Result Answer Failure) (job : VerifyJob) (there : Option Media) → Sees i j → ReadsMedia j outcome job there
-    → ReadsMedia i outcome job there
-media-seen i j outcome job None s h = h
-media-seen i j outcome job (Some media) s h = captures-seen i j outcome job.captures (λ texts. Gives outcome (HasVerified job media texts)) s h
+use Rattle.timing_steps.specs.Answers.{Answer, AreThere, Inputs}
+use Rattle.timing_steps.specs.declared.failure.Failure.{Failure}
+use Rattle.timing_steps.proofs.Seeing.{Sees, capture-seen, risen-seen, there-seen}
+use Rattle.timing_top.specs.verify.Asked.{AreTexts, NeededRose, OnReport, ReadsNeeded, ReadsReport, needed}
 
 needed-rose-seen : (i j : Inputs) (job : ReportJob) (media : List Media) (claims : List ReportProof) (number : ℕ) → Sees i j
     → NeededRose j job media claims number → NeededRose i job media claims number

@@ -20,9 +20,9 @@ use Rattle.interval_checker.specs.declared.reading.Reading.{Reading}
 use Rattle.interval_checker.proofs.Asks.{asked-no_less}
 use Rattle.timing_report.specs.declared.json_report.reading.ReportProof.{ReportProof}
 use Rattle.timing_report.specs.declared.status.Input.TheVariants as the_input
-use Rattle.timing_reach.specs.steps.Answers.{AreThere, Inputs, OnReadFault}
-use Rattle.timing_reach.specs.declared.steps.failure.Failure.{Failure}
-use Rattle.timing_reach.specs.declared.steps.failure.Failure.TheVariants as failure
+use Rattle.timing_steps.specs.Answers.{AreThere, Inputs, OnReadFault}
+use Rattle.timing_steps.specs.declared.failure.Failure.{Failure}
+use Rattle.timing_steps.specs.declared.failure.Failure.TheVariants as failure
 use Rattle.timing_top.specs.verify.Asked.{AreTexts, FindsOf, NeededRose, captures_for, captures_of, file_count, media_for, needed}
 use Rattle.timing_top.specs.verify.Findings.{Finds}
 use Rattle.timing_top.specs.verify.Found.{AreAsked, AreServed, Asks, FailedNeeded, IsAskedAll, IsChecked, IsFound, IsReadFor, IsServed, Serves, key_at}

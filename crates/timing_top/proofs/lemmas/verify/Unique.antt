@@ -4,11 +4,12 @@ use Rattle.std.proofs.Common.{subst, inl, inr, if◌then◌else◌}
 use Rattle.std.proofs.lemmas.Bool.{cases_lt}
 use Rattle.std.proofs.lemmas.List.Elements.{All-cons, All-head, All-map, All-nil, All-tail}
 use Rattle.std.specs.List.{list_all, list_any}
-use Rattle.std.specs.Prelude.{All, Result, Ok, Err, map}
+use Rattle.std.specs.Prelude.{All, Result, Ok, Err, map, slice_get}
 use Rattle.timing_base.specs.Captures.{Record, joined}
 use Rattle.timing_base.specs.Jobs.{ReportJob, VerifyJob}
 use Rattle.timing_base.specs.Judged.{FlowVerdict, JudgedRun, RunOutcome, absent, refused, gap, in_one_run, in_runs, no_whole_frame, whole_frames, judged}
 use Rattle.timing_base.specs.Media.{Media}
+use Rattle.timing_base.specs.declared.capture.FileNote.{FileNote}
 use Rattle.timing_base.specs.declared.fail.Broken.{Broken}
 use Rattle.timing_base.specs.declared.fail.Broken.TheVariants.{Bucket, Over, Empty}
 use Rattle.timing_base.specs.declared.fail.FailProof.{FailProof}
@@ -23,8 +24,12 @@ use Rattle.udp_rtp.specs.Flow.{flow}
 use Rattle.interval_checker.specs.Checked.{Says, SaysAt, SaysJudged, SaysOutcome}
 use Rattle.timing_report.specs.declared.json_report.reading.ReportProof.{ReportProof}
 use Rattle.timing_report.specs.declared.status.Status.TheVariants as status
-use Rattle.timing_reach.specs.steps.Answers.{Answer}
-use Rattle.timing_top.specs.verify.Asked.{AreChecked, FindsOf, HasReported, HasVerified, captures_of, claim_of, media_for}
+use Rattle.timing_steps.specs.Answers.{Answer}
+use Rattle.timing_steps.specs.Flows.{OnMedia}
+use Rattle.timing_steps.specs.Queries.{HasAnswer}
+use Rattle.timing_steps.proofs.Capturing.{some-none}
+use Rattle.timing_steps.proofs.Onces.{DefinesOnce, DefinesSome}
+use Rattle.timing_top.specs.verify.Asked.{AreChecked, DefinesVerified, FindsOf, HasReported, captures_of, media_for, not_there, verify_query}
 use Rattle.timing_top.specs.verify.Findings.{Finds}
 use Rattle.timing_top.specs.verify.Verified.{is_confirmed, is_unjudged, reported, verified}
 use Rattle.timing_top.specs.declared.verify.checked.Checked.{Checked}
@@ -154,15 +159,31 @@ only-finding media claim tai texts a b h k =
     k.says
 
 -- `verify`
-pub some-verified : (job : VerifyJob) (media : Media) (texts : List (List ℕ)) → (answer : Answer) × HasVerified job media texts answer
-some-verified job media texts =
-    let found = some-finding media (claim_of job) job.tai texts in
-    (verified found.0, record { finding = found.0; finds = found.1; answer_is = refl })
+pub once-verify : (job : VerifyJob) → DefinesOnce (verify_query job)
+once-verify job media files notes a b h k = on (slice_get media job.media) h k
+  where
+    on : (found : Option Media) → OnMedia found (λ m. DefinesVerified job m files a) → OnMedia found (λ m. DefinesVerified job m files b) → a ≡ b
+    on None h k = absurd h
+    on (Some m) h k =
+        h.answer_is ∙ ap verified (only-said m job.kind job.proof 0 (judged (flow (joined files) m) m.pt job.tai) h.finding k.finding h.finds k.finds)
+        ∙ sym k.answer_is
 
-pub only-verified : (job : VerifyJob) (media : Media) (texts : List (List ℕ)) (a b : Answer) → HasVerified job media texts a → HasVerified job media texts b → a
-    ≡ b
-only-verified job media texts a b h k =
-    h.answer_is ∙ ap verified (only-finding media (claim_of job) job.tai texts h.finding k.finding h.finds k.finds) ∙ sym k.answer_is
+some-there : (job : VerifyJob) (found : Option Media) (files : List (List Record)) → not_there found ≡ None
+    → (answer : Answer) × OnMedia found (λ m. DefinesVerified job m files answer)
+some-there job None files h = absurd (some-none (verified (Ok false)) h)
+some-there job (Some m) files h =
+    let said = some-said m job.kind job.proof 0 (judged (flow (joined files) m) m.pt job.tai) in
+    (verified said.0, record { finding = said.0; finds = said.1; answer_is = refl })
+
+pub some-verify : (job : VerifyJob) (texts : List (List ℕ)) → DefinesSome (verify_query job) texts
+some-verify job texts media files notes are unsettled records = some-there job (slice_get media job.media) files unsettled
+
+pub some-verified : (job : VerifyJob) (media : List Media) (texts : List (List ℕ)) → not_there (slice_get media job.media) ≡ None
+    → (answer : Answer) × HasAnswer (verify_query job) media texts answer
+some-verified job media texts unsettled =
+    let all = some-records texts in
+    let made = some-there job (slice_get media job.media) all.0 unsettled in
+    (made.0, record { files = all.0; notes = all.1; records = all.2; defined = made.1 })
 
 -- a fail of a report
 some-of : (there : Option Media) (job : ReportJob) (claim : ReportProof) (text : List ℕ → List ℕ) → (finding : Result Bool Unjudged)

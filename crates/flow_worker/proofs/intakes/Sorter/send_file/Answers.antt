@@ -6,7 +6,7 @@ use Rattle.flow_worker.proofs.Told.{begun-early, begun-late, sent-file, taken-cu
 use Rattle.flow_worker.proofs.intakes.Sorter.send_file.Goals as goal
 
 pub take_records-requires-clause-room : goal.take_records-requires-clause-room
-take_records-requires-clause-room g c = λ κs outlives.
+take_records-requires-clause-room g c =
     let b = c.requires.begins in
     record {
       is = record { routing = b.routing; expected = c.requires.expected; lanes = b.lanes; are = b.are };

@@ -9,7 +9,7 @@ use Rattle.timing_measure.proofs.Taken.{flows-room, taken-in, taken-of}
 use Rattle.timing_measure.proofs.flows.take.take_flows.Goals as goal
 
 pub take_by-requires-clause-room : goal.take_by-requires-clause-room
-take_by-requires-clause-room g c κs within = (
+take_by-requires-clause-room g c = (
   record {
     ready = c.in_ok-new.ensures.ready;
     each = All-same (λ f. HasRoom (2 ^ 36) f.taker) c.in_ok-new.field-0.flows.items c.in_ok-flows.flows.items c.in_ok-new.ensures.flows

@@ -1,6 +1,6 @@
 use Rattle.std.proofs.Common.{◌∙◌, refl}
 use Rattle.pcapng_reader.specs.Classic.{classic_texts}
-use Rattle.timing_reach.specs.steps.Ran.{output_of}
+use Rattle.timing_steps.specs.Ran.{output_of}
 use Rattle.timing_measure.proofs.lemmas.series.Capturing.{copied-stopped, copies-in, copies-kept, front-none, stopped-none}
 use Rattle.timing_measure.proofs.lemmas.series.Copying.{any-err}
 use Rattle.timing_measure.proofs.series.stream.copy_capture.Goals as goal

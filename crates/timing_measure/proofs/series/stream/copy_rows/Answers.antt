@@ -1,7 +1,7 @@
 use Rattle.std.proofs.Common.{◌≡◌, ◌∙◌, ◌+◌, ◌^◌, Ok, ap, arith, refl, sym}
 use Rattle.pcap_reader.specs.Readers.{WillGive, answer_note}
 use Rattle.pcap_reader.specs.declared.reader.Step.TheVariants.{Frame}
-use Rattle.timing_reach.specs.steps.Ran.{output_of}
+use Rattle.timing_steps.specs.Ran.{output_of}
 use Rattle.timing_measure.proofs.lemmas.series.Pouring.{room-less}
 use Rattle.timing_measure.proofs.lemmas.series.Copying.{any-err, copying-broken, copying-none, copying-poured, copying-stopped, copying-taken, counted}
 use Rattle.timing_measure.proofs.lemmas.series.Capturing.{front-more}

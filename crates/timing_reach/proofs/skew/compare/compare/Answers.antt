@@ -3,16 +3,16 @@ use Rattle.std.proofs.lemmas.Result.{IfOk-from_err}
 use Rattle.pcapng_reader.specs.Classic.{classic_texts}
 use Rattle.pcapng_reader.specs.Sources.{faults_of, left_of, name_of}
 use Rattle.timing_base.specs.Jobs.{SkewJob}
-use Rattle.timing_reach.specs.steps.Answers.{AreThere, AreTold}
-use Rattle.timing_reach.proofs.lemmas.steps.Readings.{fetched-fresh, fetched-length}
-use Rattle.timing_reach.proofs.lemmas.steps.Seeing.{stays-then}
+use Rattle.timing_steps.specs.Answers.{AreThere, AreTold}
+use Rattle.timing_steps.proofs.Readings.{fetched-fresh, fetched-length}
+use Rattle.timing_steps.proofs.Seeing.{stays-then}
 use Rattle.timing_reach.specs.skew.Comparing.{IsComparedIn}
 use Rattle.timing_reach.proofs.Comparings.{cause-before, cause-passed, on-ok}
 use Rattle.timing_reach.proofs.Takings.{if-ok}
 use Rattle.timing_reach.proofs.skew.compare.compare.Goals as goal
 
-pub fetch_captures-requires-clause-few : goal.fetch_captures-requires-clause-few
-fetch_captures-requires-clause-few g c = omega (arith, ap length c.as_slice.ensures, c.job.invariant.few)
+pub fetch_captures-requires : goal.fetch_captures-requires
+fetch_captures-requires g c = record { few = omega (arith, ap length c.as_slice.ensures, c.job.invariant.few) }
 
 pub returns-in_err-sources-clause-told : goal.returns-in_err-sources-clause-told
 returns-in_err-sources-clause-told g c =
@@ -36,14 +36,14 @@ pub returns-in_err-sources-clause-stays : goal.returns-in_err-sources-clause-sta
 returns-in_err-sources-clause-stays g c = c.fetch_captures.ensures.stays
 
 pub read_each-requires-clause-few : goal.read_each-requires-clause-few
-read_each-requires-clause-few g c κs within =
+read_each-requires-clause-few g c =
     let long = fetched-length (name_of g.H.Source.Source.name) (left_of g.H.Source.Source.left) (faults_of g.H.Source.Source.faults)
     (classic_texts (g.H.Shelf.text c.args.shelf.now)) c.as_slice.result.now c.in_ok-sources.sources.items
     c.in_ok-sources.ensures.fetched in
     omega (arith, long, ap length c.as_slice.ensures, c.job.invariant.few)
 
 pub read_each-requires-clause-fresh : goal.read_each-requires-clause-fresh
-read_each-requires-clause-fresh g c κs within =
+read_each-requires-clause-fresh g c =
     fetched-fresh (name_of g.H.Source.Source.name) (left_of g.H.Source.Source.left) (faults_of g.H.Source.Source.faults)
     (classic_texts (g.H.Shelf.text c.args.shelf.now)) c.as_slice.result.now c.in_ok-sources.sources.items
     c.in_ok-sources.ensures.fetched

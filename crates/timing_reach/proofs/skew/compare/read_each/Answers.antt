@@ -1,9 +1,9 @@
 use Rattle.std.proofs.Common.{rules, refl, ◌≡◌, subst, sym, List}
 use Rattle.std.specs.Prelude.{All}
 use Rattle.pcapng_reader.specs.Sources.{faults_of, left_of, name_of}
-use Rattle.timing_reach.proofs.lemmas.steps.Readings.{fresh-tail, none-left, reading-all, reading-at, reading-next, reading-start, reading-stopped}
+use Rattle.timing_steps.proofs.Readings.{fresh-tail, none-left, reading-all, reading-at, reading-next, reading-start, reading-stopped}
 use Rattle.timing_reach.specs.skew.Comparing.{AreCompared}
-use Rattle.timing_reach.proofs.lemmas.steps.Seeing.{stays-then}
+use Rattle.timing_steps.proofs.Seeing.{stays-then}
 use Rattle.timing_reach.proofs.Comparings.{compared-all, compared-next, compared-none}
 use Rattle.timing_reach.proofs.skew.compare.read_each.Goals as goal
 

@@ -2,7 +2,7 @@ use Rattle.std.proofs.Common.{◌≡◌, ◌≤◌, ◌+◌, ◌*◌, ◌^◌, �
 use Rattle.std.specs.Prelude.{All, IfOk}
 use Rattle.timing_outside.specs.Shelves.{StaysAs}
 use Rattle.pcapng_reader.specs.Sources.{faults_of, left_of, name_of}
-use Rattle.timing_reach.specs.steps.Fetched.{AreFetched, Reading}
+use Rattle.timing_steps.specs.Fetched.{AreFetched, Reading}
 use Rattle.timing_reach.specs.skew.Comparing.{AreCompared}
 use Rattle.timing_reach.specs.skew.Pairs.{pair_given}
 use Rattle.timing_reach.proofs.skew.compare.read_each.Given as goal

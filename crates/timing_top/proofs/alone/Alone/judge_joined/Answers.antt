@@ -4,8 +4,8 @@ use Rattle.timing_base.specs.Captures.{Record}
 use Rattle.fail_interval.specs.BankStands.{IsFed, StandsFor}
 use Rattle.pcapng_reader.specs.Sources.{faults_of, left_of}
 use Rattle.timing_top.specs.Found.{AreJoined}
-use Rattle.timing_reach.proofs.lemmas.steps.Readings.{fresh-tail, if_ok-at, if_ok-map, none-left}
-use Rattle.timing_reach.proofs.lemmas.steps.Seeing.{stays-then}
+use Rattle.timing_steps.proofs.Readings.{fresh-tail, if_ok-at, if_ok-map, none-left}
+use Rattle.timing_steps.proofs.Seeing.{stays-then}
 use Rattle.timing_top.proofs.Captured.{goes-first, goes-on, goes-past, goes-whole}
 use Rattle.timing_top.proofs.Takings.{found-joined, joined-if_read, joined-none, rows-alone, rows-of_session}
 use Rattle.timing_top.proofs.alone.Alone.judge_joined.Goals as goal

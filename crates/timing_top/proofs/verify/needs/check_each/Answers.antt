@@ -3,9 +3,9 @@ use Rattle.std.proofs.lemmas.Grind.{common_steps}
 use Rattle.std.proofs.lemmas.List.Elements.{All-push}
 use Rattle.std.specs.Prelude.{All, Err}
 use Rattle.pcapng_reader.specs.Classic.{classic_texts}
-use Rattle.timing_reach.specs.steps.Answers.{seen_of}
+use Rattle.timing_steps.specs.Answers.{seen_of}
 use Rattle.timing_top.specs.verify.Found.{IsChecked}
-use Rattle.timing_reach.proofs.lemmas.steps.Seeing.{stays-then}
+use Rattle.timing_steps.proofs.Seeing.{stays-then}
 use Rattle.timing_top.proofs.lemmas.verify.Served.{needed-rose}
 use Rattle.timing_top.proofs.verify.needs.check_each.Goals as goal
 

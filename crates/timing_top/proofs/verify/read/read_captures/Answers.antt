@@ -3,12 +3,12 @@ use Rattle.timing_base.specs.Captures.{joined}
 use Rattle.pcapng_reader.specs.Classic.{classic_texts}
 use Rattle.pcapng_reader.specs.Sources.{faults_of, left_of, name_of}
 use Rattle.interval_checker.specs.Readings.{AreSame, HaveRead}
-use Rattle.timing_reach.proofs.lemmas.steps.Readings.{fetched-length, if_ok-at}
+use Rattle.timing_steps.proofs.Readings.{fetched-length, if_ok-at}
 use Rattle.timing_top.proofs.lemmas.verify.Confirming.{read-cause, tell-texts}
 use Rattle.timing_top.proofs.verify.read.read_captures.Goals as goal
 
 pub read_sources-sources-requires-clause-few : goal.read_sources-sources-requires-clause-few
-read_sources-sources-requires-clause-few g c κs within =
+read_sources-sources-requires-clause-few g c =
     omega (
       arith,
       c.requires.few,

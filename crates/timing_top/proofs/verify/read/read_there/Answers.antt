@@ -1,8 +1,8 @@
 use Rattle.std.proofs.Common.{rules, ◌≡◌, ◌<◌, ◌+◌, ◌∙◌, if◌then◌else◌, length, true, false, ap, subst, Ok}
 use Rattle.std.specs.Prelude.{slice_range}
 use Rattle.pcapng_reader.specs.Classic.{classic_texts}
-use Rattle.timing_reach.specs.steps.Answers.{AreThere}
-use Rattle.timing_reach.proofs.lemmas.steps.Readings.{if_ok-map}
+use Rattle.timing_steps.specs.Answers.{AreThere}
+use Rattle.timing_steps.proofs.Readings.{if_ok-map}
 use Rattle.timing_top.specs.verify.Asked.{captures_of}
 use Rattle.timing_top.specs.verify.Found.{ReadAs, key_at}
 use Rattle.timing_top.proofs.lemmas.verify.Needing.{apart-names, joined-names, told-captures}

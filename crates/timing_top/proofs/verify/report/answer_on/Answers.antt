@@ -1,6 +1,6 @@
 use Rattle.std.proofs.Common.{◌∙◌, ap}
 use Rattle.timing_top.specs.verify.Verified.{reported}
-use Rattle.timing_reach.specs.steps.Answers.{seen_of}
+use Rattle.timing_steps.specs.Answers.{seen_of}
 use Rattle.timing_top.proofs.lemmas.verify.Needing.{follows-checked}
 use Rattle.timing_top.proofs.verify.report.answer_on.Goals as goal
 

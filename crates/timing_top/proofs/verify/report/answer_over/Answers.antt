@@ -1,7 +1,7 @@
 use Rattle.std.proofs.Common.{rules, ◌≡◌}
-use Rattle.timing_reach.specs.steps.Answers.{seen_of}
+use Rattle.timing_steps.specs.Answers.{seen_of}
 use Rattle.timing_top.proofs.lemmas.verify.Following.{follows-none, matched, report-read, unmatched}
-use Rattle.timing_reach.proofs.lemmas.steps.Seeing.{sees-rest}
+use Rattle.timing_steps.proofs.Seeing.{sees-rest}
 use Rattle.timing_top.proofs.verify.report.answer_over.Goals as goal
 
 pub returns-in-Some-clause-follows : goal.returns-in-Some-clause-follows

@@ -1,7 +1,7 @@
 use Rattle.std.proofs.Common.{rules, ◌≡◌, ◌∙◌}
-use Rattle.timing_reach.specs.steps.Answers.{seen_of}
+use Rattle.timing_steps.specs.Answers.{seen_of}
 use Rattle.timing_top.proofs.lemmas.verify.Following.{report-session}
-use Rattle.timing_reach.proofs.lemmas.steps.Seeing.{sees-rest}
+use Rattle.timing_steps.proofs.Seeing.{sees-rest}
 use Rattle.timing_top.proofs.verify.report.answer_report.Goals as goal
 
 pub returns-in-Ok-clause-follows : goal.returns-in-Ok-clause-follows

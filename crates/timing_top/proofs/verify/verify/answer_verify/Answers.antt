@@ -1,16 +1,24 @@
-use Rattle.std.proofs.Common.{rules, ◌≡◌, ◌∙◌}
-use Rattle.timing_reach.specs.steps.Answers.{seen_of}
-use Rattle.timing_top.proofs.lemmas.verify.Following.{verify-session}
-use Rattle.timing_reach.proofs.lemmas.steps.Seeing.{sees-rest}
+use Rattle.std.proofs.Common.{rules, ◌≡◌, Some, sym, subst}
+use Rattle.std.specs.Prelude.{slice_get}
+use Rattle.pcapng_reader.specs.Classic.{classic_texts}
+use Rattle.timing_steps.specs.Answers.{AreThere, AreTold, seen_of}
+use Rattle.timing_steps.proofs.Capturing.{reads-all}
+use Rattle.timing_top.specs.verify.Asked.{claim_of, verify_query}
+use Rattle.timing_top.proofs.lemmas.verify.Following.{has-verified, there-media}
 use Rattle.timing_top.proofs.verify.verify.answer_verify.Goals as goal
 
-pub returns-in-Ok-clause-follows : goal.returns-in-Ok-clause-follows
-returns-in-Ok-clause-follows g c =
-    let named : c.as_str.result.now ≡ c.args.job.now.sdp = search rules in
-    let media : c.as_slice.result.now ≡ c.in-Ok.session = search rules in
-    verify-session
-    (seen_of g.H.Shelf c.args.shelf.now c.answer_over.new.shelf)
-    (seen_of g.H.Shelf c.fetch_session.new.shelf c.answer_over.new.shelf)
-    c.args.job.now c.answer_over.result c.as_str.result.now c.as_slice.result.now c.in-Ok.session
-    (sees-rest g.H.Shelf.text g.H.Shelf.lacks g.H.Shelf.faults c.args.shelf.now c.fetch_session.new.shelf c.answer_over.new.shelf c.fetch_session.ensures.stays)
-    named media c.in_ok-session.ensures.there (λ text t. c.in_ok-session.ensures.told text t ∙ c.in-Ok.is) c.answer_over.ensures.follows
+pub media_of-media-requires : goal.media_of-media-requires
+media_of-media-requires g c = record { has = there-media (slice_get c.args.session.now c.job.inside.media) (search rules) }
+
+pub returns-clause-follows : goal.returns-clause-follows
+returns-clause-follows g c =
+    let named : c.as_slice-names.result.now ≡ c.args.job.now.captures = search rules in
+    let asked : c.claim_of-claim.result ≡ claim_of c.args.job.now = search rules in
+    let found : slice_get c.args.session.now c.args.job.now.media ≡ Some c.media_of-media.result.now = search rules in
+    let late : c.job.inside.tai ≡ c.args.job.now.tai = search rules in
+    reads-all (verify_query c.args.job.now) c.args.session.now (seen_of g.H.Shelf c.args.shelf.now c.find.new.shelf) _
+    (subst (AreThere (g.H.Shelf.lacks c.args.shelf.now)) named c.in_ok-finding.ensures.there)
+    (λ texts t. has-verified c.args.job.now c.args.session.now c.media_of-media.result.now texts c.claim_of-claim.result c.job.inside.tai
+    c.in_ok-finding.finding c.in_ok-verified.field-0 found asked late
+    (c.in_ok-finding.ensures.told texts (subst (λ names. AreTold (classic_texts (g.H.Shelf.text c.args.shelf.now)) names texts) (sym named) t))
+    c.in_ok-verified.ensures) tt

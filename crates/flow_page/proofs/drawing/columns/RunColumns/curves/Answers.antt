@@ -32,12 +32,14 @@ returns c = λ m n groups stamps timestamps is some h whole.
           (p.gapped_draws gapped.0 gapped.1) (k.gapped_n ∙ p.n_is) (k.gapped_is ∙ p.seen_is);
       linear = levels-are n _ k.linear linear.0 c.in_ok-curve-3.field-0 c.in_ok-eye-3.field-0 c.in_ok-curve-3.ensures c.in_ok-eye-3.ensures
           (p.linear_draws linear.0 linear.1) (k.linear_n ∙ p.n_is) (k.linear_is ∙ p.seen_is);
-      first = curve-of groups x.first.seen x.first.most (since_at m anchor (firsts_of n stamp)) c.in_ok-finish.field-0
+      first = curve-of 1000 groups x.first.seen x.first.most (since_at m anchor (firsts_of n stamp)) c.in_ok-finish.field-0
           (c.in_ok-finish.ensures.curve _ drawn.first_draws) x.first_most (x.first_is ∙ came);
-      last = curve-of groups x.last.seen x.last.most (since_at m anchor (lasts_of n stamp)) c.in_ok-finish-2.field-0
-          (c.in_ok-finish-2.ensures.curve _ drawn.last_draws) x.last_most (x.last_is ∙ came);
-      offset = curve-of groups x.offset.seen x.offset.most (offset_at m anchor (firsts_of n ticks)) c.in_ok-finish-3.field-0
-          (c.in_ok-finish-3.ensures.curve _ drawn.offset_draws) x.offset_most (x.offset_is ∙ came);
-      latency = curve-of groups x.latency.seen x.latency.most (latency_at (firsts_of n stamp) (firsts_of n ticks)) c.in_ok-finish-4.field-0
-          (c.in_ok-finish-4.ensures.curve _ drawn.latency_draws) x.latency_most (x.latency_is ∙ came);
+      drift = curve-of 8 groups x.drift.seen x.drift.most (since_at m anchor (firsts_of n stamp)) c.in_ok-finish-2.field-0
+          (c.in_ok-finish-2.ensures.curve _ drawn.drift_draws) x.drift_most (x.drift_is ∙ came);
+      last = curve-of 1000 groups x.last.seen x.last.most (since_at m anchor (lasts_of n stamp)) c.in_ok-finish-3.field-0
+          (c.in_ok-finish-3.ensures.curve _ drawn.last_draws) x.last_most (x.last_is ∙ came);
+      offset = curve-of 1000 groups x.offset.seen x.offset.most (offset_at m anchor (firsts_of n ticks)) c.in_ok-finish-4.field-0
+          (c.in_ok-finish-4.ensures.curve _ drawn.offset_draws) x.offset_most (x.offset_is ∙ came);
+      latency = curve-of 1000 groups x.latency.seen x.latency.most (latency_at (firsts_of n stamp) (firsts_of n ticks)) c.in_ok-finish-5.field-0
+          (c.in_ok-finish-5.ensures.curve _ drawn.latency_draws) x.latency_most (x.latency_is ∙ came);
     }

@@ -13,5 +13,5 @@ returns c =
     IfOk-weaker c.finish.result
     (λ (list : List Extremes). (numbers : ℕ → ℤ) → DrawsCurve (λ x. x) s.curve numbers → AreCurve s.curve.most numbers s.curve.seen list)
     (λ (list : List Extremes). (level : ℕ → ℤ) → DrawsLevel s level → AreCurve 1000 level s.seen list)
-    (λ list is level h. curve-of s.seen s.curve.seen s.curve.most level list (is level h.curve_draws) s.curve_most s.curve_is)
+    (λ list is level h. curve-of 1000 s.seen s.curve.seen s.curve.most level list (is level h.curve_draws) s.curve_most s.curve_is)
     c.finish.ensures.curve

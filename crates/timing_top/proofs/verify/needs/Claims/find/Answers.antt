@@ -1,6 +1,6 @@
 use Rattle.std.proofs.Common.{◌≡◌, Some, None, rules, sym, ap, ◌∙◌}
 use Rattle.pcapng_reader.specs.Classic.{classic_texts}
-use Rattle.timing_reach.proofs.lemmas.steps.Readings.{if_ok-map}
+use Rattle.timing_steps.proofs.Readings.{if_ok-map}
 use Rattle.timing_top.specs.verify.Asked.{media_for}
 use Rattle.timing_top.specs.verify.Found.{IsChecked, IsFound}
 use Rattle.timing_top.proofs.lemmas.verify.Served.{checked-none, checked-there, media-there}

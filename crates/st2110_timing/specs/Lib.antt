@@ -1,0 +1,2 @@
+-- What the process prints, and its exit code.
+pub mod Started

@@ -1,0 +1,63 @@
+-- The answers of a command on one flow, by those for its media.
+use Rattle.std.proofs.Common.{◌≡◌, ◌^◌, ℕ, zero, suc, List, [], ◌∷◌, Option, Some, None, refl, sym, subst}
+use Rattle.std.specs.Prelude.{All, slice_get}
+use Rattle.std.proofs.lemmas.List.Elements.{All-head, All-tail}
+use Rattle.timing_base.specs.Captures.{Record}
+use Rattle.timing_base.specs.Jobs.{FlowJob}
+use Rattle.timing_base.specs.Media.{Media}
+use Rattle.timing_base.specs.declared.capture.FileNote.{FileNote}
+use Rattle.pcap_reader.specs.Records.{Records}
+use Rattle.timing_steps.specs.Answers.{Answer}
+use Rattle.timing_steps.specs.Flows.{OnMedia, flow_query, no_media, no_such_media}
+use Rattle.timing_steps.specs.Queries.{HasAnswer, only_file, only_note}
+use Rattle.timing_steps.proofs.Capturing.{some-none}
+use Rattle.timing_steps.proofs.Onces.{DefinesOnce}
+
+-- the answer for a media that the SDP has, in a capture with these packet records
+pub has-flow : (job : FlowJob) (Has : Media → List Record → FileNote → Answer → Type 0) (media : List Media) (m : Media) (text : List ℕ) (items : List Record)
+    (note : FileNote) (answer : Answer) → slice_get media job.media ≡ Some m → Records text (2 ^ 40) items note → Has m items note answer
+    → HasAnswer (flow_query job Has) media (text ∷ []) answer
+has-flow job Has media m text items note answer found read h = record {
+  files = items ∷ [];
+  notes = note ∷ [];
+  records = (read, tt);
+  defined = subst (λ o. OnMedia o (λ x. Has x items note answer)) (sym found) h;
+}
+
+-- a command on one flow has one answer, if each media has
+pub once-flow : (job : FlowJob) (Has : Media → List Record → FileNote → Answer → Type 0)
+    → ((m : Media) (items : List Record) (note : FileNote) (a b : Answer) → Has m items note a → Has m items note b → a ≡ b)
+    → DefinesOnce (flow_query job Has)
+once-flow job Has once media files notes a b h k = on (slice_get media job.media) h k
+  where
+    on : (found : Option Media) → OnMedia found (λ m. Has m (only_file files) (only_note notes) a)
+        → OnMedia found (λ m. Has m (only_file files) (only_note notes) b) → a ≡ b
+    on None h k = absurd h
+    on (Some m) h k = once m (only_file files) (only_note notes) a b h k
+
+-- the media with a number has an answer, if the SDP has it
+pub some-on-media : (media : List Media) (number : ℕ) (Has : Media → Answer → Type 0) → no_media (slice_get media number) ≡ None
+    → ((m : Media) → slice_get media number ≡ Some m → (answer : Answer) × Has m answer) → (answer : Answer)
+    × OnMedia (slice_get media number) (λ m. Has m answer)
+some-on-media media number Has has some = on (slice_get media number) has some
+  where
+    on : (found : Option Media) → no_media found ≡ None → ((m : Media) → found ≡ Some m → (answer : Answer) × Has m answer) → (answer : Answer)
+        × OnMedia found (λ m. Has m answer)
+    on None has some = absurd (some-none no_such_media has)
+    on (Some m) has some = some m refl
+
+-- each media of a list of which all are so
+pub all-media : (P : Media → Type 0) (media : List Media) (number : ℕ) (m : Media) → All P media → slice_get media number ≡ Some m → P m
+all-media P [] zero m all found = absurd (some-not-none m found)
+  where
+    some-not-none : (m : Media) → slice_get [] zero ≡ Some m → ⊥
+    some-not-none m e = let o : None ≡ Some m = e in cc
+all-media P [] (suc number) m all found = absurd (some-not-none m found)
+  where
+    some-not-none : (m : Media) → slice_get [] (suc number) ≡ Some m → ⊥
+    some-not-none m e = let o : None ≡ Some m = e in cc
+all-media P (x ∷ xs) zero m all found = subst P (same-media x m found) (All-head P x xs all)
+  where
+    same-media : (x m : Media) → slice_get (x ∷ xs) zero ≡ Some m → x ≡ m
+    same-media x m e = let o : Some x ≡ Some m = e in cc
+all-media P (x ∷ xs) (suc number) m all found = all-media P xs number m (All-tail P x xs all) found

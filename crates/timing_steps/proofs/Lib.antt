@@ -1,0 +1,12 @@
+pub mod Fetches
+pub mod Sessions
+pub mod Classics
+pub mod Readings
+pub mod Seeing
+pub mod Endings
+pub mod Takings
+pub mod Resting
+pub mod Commanded
+pub mod Beginnings
+pub mod Capturing
+pub mod Onces

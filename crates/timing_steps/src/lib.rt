@@ -1,0 +1,29 @@
+//! The common steps of all commands: opening the inputs, reading the SDP, printing the answer, and printing on standard
+//! error why there is none.
+//!
+//! The result that the contents of a command's inputs define is an [`Answer`]; the reason why a run has none is a
+//! [`Failure`]. A [`Command`] states what it asks of its inputs, and makes the answer from an SDP and captures.
+//! [`run_command`] does the rest, in one order for all commands: the SDP is opened, then it may be refused, then the
+//! captures are opened and read, and last the answer is printed.
+#![tactic(auto)]
+
+mod answer;
+mod capture;
+mod command;
+mod failure;
+mod fetch;
+mod flow;
+pub mod laws;
+mod print;
+mod take;
+mod text;
+
+pub use answer::Answer;
+pub use capture::take_capture;
+pub use command::{Command, begin, run_command};
+pub use failure::Failure;
+pub use fetch::{fetch_captures, fetch_classic, fetch_session, give_back, give_back_all};
+pub use flow::{early_of_media, media_of};
+pub use print::conclude;
+pub use take::take_source;
+pub use text::fetch_front;

@@ -1,0 +1,66 @@
+use Rattle.std.proofs.Common.{rules, arith, ap, length, ◌≡◌, ◌∙◌, List, ℕ, Err, sym, subst}
+use Rattle.std.specs.Prelude.{IfErr}
+use Rattle.pcapng_reader.specs.Classic.{classic_texts}
+use Rattle.pcapng_reader.specs.Sources.{faults_of, left_of, name_of}
+use Rattle.timing_base.specs.Jobs.{CheckJob}
+use Rattle.timing_report.specs.declared.status.Input.TheVariants as input
+use Rattle.timing_steps.specs.Answers.{AreThere, CaptureRose, OnReadFault, seen_of}
+use Rattle.timing_steps.specs.Fetched.{AreFetched}
+use Rattle.timing_steps.specs.Queries.{FollowsCaptures}
+use Rattle.timing_steps.proofs.Readings.{fetched-fresh, fetched-length}
+use Rattle.timing_top.specs.Report.{check_query}
+use Rattle.timing_top.proofs.Begun.{follows-failed, follows-report, judged-rose}
+use Rattle.timing_top.proofs.check.answer_alone.Goals as goal
+
+pub judge-requires-clause-ready : goal.judge-requires-clause-ready
+judge-requires-clause-ready g c =
+    let texts = classic_texts (g.H.Shelf.text c.args.shelf.now) in
+    let long = fetched-length (name_of g.H.Source.Source.name) (left_of g.H.Source.Source.left) (faults_of g.H.Source.Source.faults) texts
+    c.as_slice.result.now c.in_ok-sources.sources.items c.in_ok-sources.ensures.fetched in
+    record {
+      few = omega (arith, long, ap length c.as_slice.ensures, c.job.invariant.captures_are.few);
+      fresh =
+          fetched-fresh (name_of g.H.Source.Source.name) (left_of g.H.Source.Source.left) (faults_of g.H.Source.Source.faults) texts
+          c.as_slice.result.now c.in_ok-sources.sources.items c.in_ok-sources.ensures.fetched;
+      few_media = search rules;
+      few_seconds = search rules;
+    }
+
+pub returns-in_err-found-clause-follows : goal.returns-in_err-found-clause-follows
+returns-in_err-found-clause-follows g c =
+    let texts = classic_texts (g.H.Shelf.text c.args.shelf.now) in
+    let asked : c.as_slice.result.now ≡ c.args.job.now.captures = search rules in
+    let failed : c.from_residual-in_err-found.result ≡ Err c.in_err-found.field-0.0 = search rules in
+    subst (FollowsCaptures (check_query c.args.job.now) c.args.session.now (seen_of g.H.Shelf c.args.shelf.now c.judge.new.shelf)) (sym failed)
+    (follows-failed g.H.Shelf g.H.Source.Source c.args.job.now c.args.shelf.now c.fetch_captures.new.shelf c.judge.new.shelf c.args.session.now
+    c.in_ok-sources.sources.items _ _ c.judge.result
+    (subst (AreThere (g.H.Shelf.lacks c.args.shelf.now)) asked c.in_ok-sources.ensures.there)
+    (subst (λ names. AreFetched (name_of g.H.Source.Source.name) (left_of g.H.Source.Source.left) (faults_of g.H.Source.Source.faults) texts names
+    c.in_ok-sources.sources.items) asked c.in_ok-sources.ensures.fetched)
+    c.fetch_captures.ensures.stays c.judge.ensures.judged c.in_err-found.field-0.0 c.in_err-found.was)
+
+pub returns-in_err-found-clause-cause : goal.returns-in_err-found-clause-cause
+returns-in_err-found-clause-cause g c =
+    let texts = classic_texts (g.H.Shelf.text c.args.shelf.now) in
+    let asked : c.as_slice.result.now ≡ c.args.job.now.captures = search rules in
+    let failed : c.from_residual-in_err-found.result ≡ Err c.in_err-found.field-0.0 = search rules in
+    subst (λ r. IfErr r (λ e. OnReadFault e (λ x. (number : ℕ) × (x ≡ input.Capture number) × CaptureRose (g.H.Shelf.faults c.args.shelf.now)
+    (g.H.Shelf.faults c.judge.new.shelf) c.args.job.now.captures number))) (sym failed)
+    (judged-rose g.H.Shelf g.H.Source.Source c.args.job.now c.args.shelf.now c.fetch_captures.new.shelf c.judge.new.shelf c.args.session.now
+    c.in_ok-sources.sources.items _ _ c.judge.result
+    (subst (AreThere (g.H.Shelf.lacks c.args.shelf.now)) asked c.in_ok-sources.ensures.there)
+    (subst (λ names. AreFetched (name_of g.H.Source.Source.name) (left_of g.H.Source.Source.left) (faults_of g.H.Source.Source.faults) texts names
+    c.in_ok-sources.sources.items) asked c.in_ok-sources.ensures.fetched)
+    c.fetch_captures.ensures.stays c.judge.ensures.judged c.in_err-found.field-0.0 c.in_err-found.was)
+
+pub returns-clause-follows : goal.returns-clause-follows
+returns-clause-follows g c =
+    let texts = classic_texts (g.H.Shelf.text c.args.shelf.now) in
+    let asked : c.as_slice.result.now ≡ c.args.job.now.captures = search rules in
+    follows-report g.H.Shelf g.H.Source.Source c.args.job.now c.args.shelf.now c.fetch_captures.new.shelf c.judge.new.shelf c.args.session.now
+    c.in_ok-sources.sources.items _ _ c.judge.result
+    (subst (AreThere (g.H.Shelf.lacks c.args.shelf.now)) asked c.in_ok-sources.ensures.there)
+    (subst (λ names. AreFetched (name_of g.H.Source.Source.name) (left_of g.H.Source.Source.left) (faults_of g.H.Source.Source.faults) texts names
+    c.in_ok-sources.sources.items) asked c.in_ok-sources.ensures.fetched)
+    c.fetch_captures.ensures.stays c.judge.ensures.judged c.report_on.result c.in_ok-found.found c.in_ok-found.was (search rules)
+    c.report_on.ensures.text c.report_on.ensures.status c.report_on.ensures.memory

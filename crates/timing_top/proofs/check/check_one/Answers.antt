@@ -1,5 +1,0 @@
-use Rattle.timing_reach.proofs.lemmas.steps.Endings.{ends-by}
-use Rattle.timing_top.proofs.check.check_one.Goals as goal
-
-pub returns-clause-ends : goal.returns-clause-ends
-returns-clause-ends g c = ends-by _ _ _ _ c.conclude.ensures.printed c.answer_check-outcome.ensures.answers.status
