@@ -119,9 +119,11 @@ pub target_back : {B : Type 0} (next : Target → List ℕ → Option B) (target
     → begins_with_digit rest ≡ false → destination next (target_text target ++ rest) ≡ next target rest
 unfolding destination
 target_back next target rest a p e =
-    simp append_assoc (number_back _ (target.address.bits / 2 ^ 24) _ (omega (arith, a)) refl ∙ number_back _ (target.address.bits / 2 ^ 16 % 2 ^ 8) _ (omega arith) refl
+    simp append_assoc (number_back _ (target.address.bits / 2 ^ 24) _ (omega (arith, a)) refl
+    ∙ number_back _ (target.address.bits / 2 ^ 16 % 2 ^ 8) _ (omega arith) refl
     ∙ number_back _ (target.address.bits / 2 ^ 8 % 2 ^ 8) _ (omega arith) refl ∙ number_back _ (target.address.bits % 2 ^ 8) _ (omega arith) refl
-    ∙ number_back _ target.port _ (omega (arith, p)) e ∙ ap (λ n. next record { address = record { bits = n }; port = target.port } rest) (octets target.address.bits))
+    ∙ number_back _ target.port _ (omega (arith, p)) e
+    ∙ ap (λ n. next record { address = record { bits = n }; port = target.port } rest) (octets target.address.bits))
 
 -- the key that a number from 1 tells
 pub key_is : (key : FlowKey) → record { file = key.file + 1 - 1; media = key.media + 1 - 1 } ≡ key

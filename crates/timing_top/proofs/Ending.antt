@@ -1,5 +1,5 @@
 -- How a run of a request ends, whatever its texts are.
-use Rattle.std.proofs.Common.{◌≡◌, Bool, true, false, Some, None, Option, Ok, Err, refl, ap, ◌∙◌, sym, subst, inl, inr}
+use Rattle.std.proofs.Common.{◌≡◌, ℕ, Bool, true, false, Some, None, Option, Ok, Err, refl, ap, ◌∙◌, sym, subst, inl, inr}
 use Rattle.std.specs.Prelude.{◌||◌, Result}
 use Rattle.std.proofs.lemmas.Bool.{false≢true}
 use Rattle.timing_base.specs.Jobs.{ReportJob, ScanJob, SdpJob, SelfTestJob}

@@ -12,18 +12,20 @@ use Rattle.timing_top.specs.Report.{check_query}
 use Rattle.timing_top.proofs.Begun.{follows-failed, follows-report, judged-rose}
 use Rattle.timing_top.proofs.check.answer_alone.Goals as goal
 
-pub judge-requires-clause-ready : goal.judge-requires-clause-ready
-judge-requires-clause-ready g c =
+pub judge-requires : goal.judge-requires
+judge-requires g c =
     let texts = classic_texts (g.H.Shelf.text c.args.shelf.now) in
     let long = fetched-length (name_of g.H.Source.Source.name) (left_of g.H.Source.Source.left) (faults_of g.H.Source.Source.faults) texts
     c.as_slice.result.now c.in_ok-sources.sources.items c.in_ok-sources.ensures.fetched in
     record {
-      few = omega (arith, long, ap length c.as_slice.ensures, c.job.invariant.captures_are.few);
-      fresh =
-          fetched-fresh (name_of g.H.Source.Source.name) (left_of g.H.Source.Source.left) (faults_of g.H.Source.Source.faults) texts
-          c.as_slice.result.now c.in_ok-sources.sources.items c.in_ok-sources.ensures.fetched;
-      few_media = search rules;
-      few_seconds = search rules;
+      ready = record {
+        few = omega (arith, long, ap length c.as_slice.ensures, c.job.invariant.captures_are.few);
+        fresh =
+            fetched-fresh (name_of g.H.Source.Source.name) (left_of g.H.Source.Source.left) (faults_of g.H.Source.Source.faults) texts
+            c.as_slice.result.now c.in_ok-sources.sources.items c.in_ok-sources.ensures.fetched;
+        few_media = search rules;
+        few_seconds = search rules;
+      };
     }
 
 pub returns-in_err-found-clause-follows : goal.returns-in_err-found-clause-follows

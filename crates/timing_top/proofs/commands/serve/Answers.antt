@@ -3,8 +3,8 @@ use Rattle.timing_top.proofs.Ending.{ends-command, ends-help, ends-report, ends-
 use Rattle.timing_top.proofs.Serving.{serves}
 use Rattle.timing_top.proofs.commands.serve.Goals as goal
 
-pub returns-then-job-eq0-clause-ran : goal.returns-then-job-eq0-clause-ran
-returns-then-job-eq0-clause-ran g c = serves _ _ _ _ _ _ c.in-Check.is c.run_command.ensures.ran
+pub returns-then-command-eq0-clause-ran : goal.returns-then-command-eq0-clause-ran
+returns-then-command-eq0-clause-ran g c = serves _ _ _ _ _ _ c.in-Check.is c.run_command.ensures.ran
 
 pub returns-in-Check-clause-ran : goal.returns-in-Check-clause-ran
 returns-in-Check-clause-ran g c = serves _ _ _ _ _ _ c.in-Check.is c.check_many.ensures.ran
@@ -39,8 +39,8 @@ returns-in-Scan-clause-ran g c = serves _ _ _ _ _ _ c.in-Scan.is c.scan_one.ensu
 pub returns-in-Sdp-clause-ran : goal.returns-in-Sdp-clause-ran
 returns-in-Sdp-clause-ran g c = serves _ _ _ _ _ _ c.in-Sdp.is c.sdp_one.ensures.ran
 
-pub returns-then-job-eq0-clause-ends : goal.returns-then-job-eq0-clause-ends
-returns-then-job-eq0-clause-ends g c = ends-command _ _ _ _ c.in-Check.is refl c.run_command.ensures.ends
+pub returns-then-command-eq0-clause-ends : goal.returns-then-command-eq0-clause-ends
+returns-then-command-eq0-clause-ends g c = ends-command _ _ _ _ c.in-Check.is refl c.run_command.ensures.ends
 
 pub returns-in-Check-clause-ends : goal.returns-in-Check-clause-ends
 returns-in-Check-clause-ends g c = ends-command _ _ _ _ c.in-Check.is refl c.check_many.ensures.ends

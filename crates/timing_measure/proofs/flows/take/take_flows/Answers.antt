@@ -8,15 +8,17 @@ use Rattle.timing_measure.specs.declared.flows.take.TakenFlows.{TakenFlows}
 use Rattle.timing_measure.proofs.Taken.{flows-room, taken-in, taken-of}
 use Rattle.timing_measure.proofs.flows.take.take_flows.Goals as goal
 
-pub take_by-requires-clause-room : goal.take_by-requires-clause-room
-take_by-requires-clause-room g c = (
-  record {
-    ready = c.in_ok-new.ensures.ready;
-    each = All-same (λ f. HasRoom (2 ^ 36) f.taker) c.in_ok-new.field-0.flows.items c.in_ok-flows.flows.items c.in_ok-new.ensures.flows
-        (flows-room (2 ^ 36) (2 ^ 41) c.in_ok-flows.flows.items (omega arith) c.in_ok-flows.ensures.room);
-  },
-  c.requires.room,
-)
+pub take_by-requires : goal.take_by-requires
+take_by-requires g c = record {
+  room = (
+    record {
+      ready = c.in_ok-new.ensures.ready;
+      each = All-same (λ f. HasRoom (2 ^ 36) f.taker) c.in_ok-new.field-0.flows.items c.in_ok-flows.flows.items c.in_ok-new.ensures.flows
+          (flows-room (2 ^ 36) (2 ^ 41) c.in_ok-flows.flows.items (omega arith) c.in_ok-flows.ensures.room);
+    },
+    c.requires.room,
+  );
+}
 
 pub returns-clause-told : goal.returns-clause-told
 returns-clause-told g c = λ text whole.
