@@ -53,6 +53,8 @@ MEASURED_GAP = "measure --sdp plain.sdp gap.pcap"
 MEASURED_ABSENT = "measure --sdp plain.sdp any.pcap"
 SCANNED = "scan --json plain.pcap"
 SCANNED_LINES = "scan --json gst_two.pcap"
+DESCRIBED = "sdp --json plain.sdp"
+DESCRIBED_FIELDS = "sdp --json interlaced.sdp"
 WRONG = [
     ("the status is missing", PLAIN, "status", REMOVED),
     ("status 2, with which nothing is printed", PLAIN, "status", 2),
@@ -146,6 +148,18 @@ WRONG = [
     ("a line without second_field", SCANNED_LINES, "streams 0 second_field", REMOVED),
     ("a line above 32,767", SCANNED_LINES, "streams 0 line", 32768),
     ("second_field as a number", SCANNED_LINES, "streams 0 second_field", 0),
+    ("no video and no fault", DESCRIBED, "media", []),
+    ("an unknown key", DESCRIBED, "status", 0),
+    ("a video without its times", DESCRIBED, "media 0 frame", REMOVED),
+    ("a rate as a number", DESCRIBED, "media 0 rate", 50),
+    ("a progressive video with interlaced", DESCRIBED, "media 0 interlaced", False),
+    ("an interlaced video without the time of a field", DESCRIBED_FIELDS, "media 0 field", REMOVED),
+    ("a TROFF that is absent as null", DESCRIBED, "media 0 troff", None),
+    ("a note on line 0", DESCRIBED, "notes 0 line", 0),
+    ("a note of another kind", DESCRIBED, "notes 0 what", "near"),
+    ("a note without a name", DESCRIBED, "notes 0 names", []),
+    ("a name with a quote", DESCRIBED, "notes 0 names 0", '"'),
+    ("an unknown cause", DESCRIBED, "fault", {"cause": "Late", "line": 1}),
 ]
 
 passed = failed = 0
@@ -164,7 +178,7 @@ def count(name, what):
 def schema_of(arguments):
     """Returns the name of the schema for a command line, or None."""
     command = arguments[0]
-    if command == "measure" or command in ("check", "scan") and "--json" in arguments:
+    if command == "measure" or command in ("check", "scan", "sdp") and "--json" in arguments:
         return command
     return None
 
@@ -189,7 +203,7 @@ def validate_cases(validators):
         status = (case / "status").read_text().strip() if (case / "status").exists() else "0"
         for line in (case / "args").read_text().splitlines():
             schema = schema_of(line.split())
-            if schema and status in ("0", "1", "4"):
+            if schema and (status in ("0", "1", "4") or status == "3" and schema == "sdp"):
                 count(f"{case.name}: {line}", fault_of(validators[schema], (case / "stdout").read_text()))
 
 
@@ -212,6 +226,7 @@ def example_commands():
     commands.append("measure --tai 37 --sdp utc.sdp utc.pcap")
     captures = sorted({capture for captures in PAIRS.values() for capture in captures.split()})
     commands += [f"scan --json {capture}" for capture in captures]
+    commands += [f"sdp --json {sdp}" for sdp in PAIRS]
     return commands + [command for command in (PLAIN, BURST, GAP, FAULT, ABSENT) if command not in commands]
 
 
@@ -279,7 +294,7 @@ def refuse_wrong(validators, printed):
 
 def main():
     validators = {}
-    for name in ("check", "measure", "scan"):
+    for name in ("check", "measure", "scan", "sdp"):
         schema = json.loads((TOP / "docs" / "schema" / f"{name}.json").read_text())
         Draft202012Validator.check_schema(schema)
         validators[name] = Draft202012Validator(schema)

@@ -25,3 +25,4 @@ mod Comparings
 pub mod Skewing
 pub mod Windowing
 pub mod Scannings
+pub mod Describings

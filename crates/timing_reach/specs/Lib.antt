@@ -3,6 +3,7 @@ pub mod Asked
 pub mod Windows
 pub mod Skewed
 pub mod Scanned
+pub mod Described
 pub mod Shapes
 pub mod Shaped
 pub mod ShapedAgain

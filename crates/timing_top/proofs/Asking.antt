@@ -33,6 +33,7 @@ use Rattle.timing_top.specs.Report.{check_query}
 use Rattle.timing_top.specs.SelfTest.{HasSelfTest}
 use Rattle.timing_top.specs.verify.Asked.{verify_query}
 use Rattle.timing_top.proofs.Measurable.{have-stamps}
+use Rattle.timing_top.proofs.Describing.{described-failed, only-described, some-described}
 use Rattle.timing_top.proofs.Scanning.{only-scanned, scanned-failed, some-scanned}
 use Rattle.timing_top.proofs.Reported.{only-reread, reread-failed, some-reread}
 use Rattle.timing_top.proofs.Reports.{once-check, some-check}
@@ -79,6 +80,7 @@ some-answer None i texts there told bytes = some-at_once status.Usage
 some-answer (Some (request.VerifyReport job)) i texts there told bytes = some-reread job i texts there told
 some-answer (Some (request.SelfTest job)) i texts there told bytes = some-self job.frames
 some-answer (Some (request.Scan job)) i texts there told bytes = some-scanned job i texts there told
+some-answer (Some (request.Sdp job)) i texts there told bytes = some-described job i texts there told
 some-answer (Some (request.Help named)) i texts there told bytes = some-help named
 some-answer (Some (request.Check job)) i texts there told bytes =
     some-queried (check_query job) i texts there told (λ read are. some-check job (map classic read))
@@ -106,6 +108,7 @@ only-answer None i texts a b told h k = only-at_once status.Usage a b h k
 only-answer (Some (request.VerifyReport job)) i texts a b told h k = only-reread job i texts a b told h k
 only-answer (Some (request.SelfTest job)) i texts a b told h k = only-self job.frames a b h k
 only-answer (Some (request.Scan job)) i texts a b told h k = only-scanned job i texts a b told h k
+only-answer (Some (request.Sdp job)) i texts a b told h k = only-described job i texts a b told h k
 only-answer (Some (request.Help named)) i texts a b told h k = only-help named a b h k
 only-answer (Some (request.Check job)) i texts a b told h k = only-queried (check_query job) i texts a b (once-check job) told h k
 only-answer (Some (request.Verify job)) i texts a b told h k = only-queried (verify_query job) i texts a b (once-verify job) told h k
@@ -124,5 +127,6 @@ answer-failed None i texts e told h = at_once-failed status.Usage e (InputRose N
 answer-failed (Some (request.VerifyReport job)) i texts e told h = reread-failed job i texts e told h
 answer-failed (Some (request.SelfTest job)) i texts e told h = self-failed job.frames e (InputRose (Some (request.SelfTest job)) i) h
 answer-failed (Some (request.Scan job)) i texts e told h = scanned-failed job i texts e told h
+answer-failed (Some (request.Sdp job)) i texts e told h = described-failed job i texts e told h
 answer-failed (Some (request.Help named)) i texts e told h = help-failed named e (InputRose (Some (request.Help named)) i) h
 answer-failed (Some command) i texts e told h = queried-failed (query_of command) i texts e told h

@@ -2,7 +2,7 @@
 use Rattle.std.proofs.Common.{◌≡◌, ℕ, Bool, true, false, Some, None, Option, Ok, Err, refl, ap, ◌∙◌, sym, subst, inl, inr}
 use Rattle.std.specs.Prelude.{◌||◌, Result}
 use Rattle.std.proofs.lemmas.Bool.{false≢true}
-use Rattle.timing_base.specs.Jobs.{ReportJob, ScanJob, SelfTestJob}
+use Rattle.timing_base.specs.Jobs.{ReportJob, ScanJob, SdpJob, SelfTestJob}
 use Rattle.timing_words.specs.declared.command.Command.{Command}
 use Rattle.timing_words.specs.declared.request.Request.{Request}
 use Rattle.timing_words.specs.declared.request.Request.TheVariants as request
@@ -12,12 +12,13 @@ use Rattle.timing_steps.specs.Answers.{Answer, silent}
 use Rattle.timing_steps.specs.Ends.{EndsWith, is_failure}
 use Rattle.timing_steps.specs.Queries.{ends_of}
 use Rattle.timing_steps.specs.Ran.{Appended, Broke, HasCause, Leaves, Output, Ran}
-use Rattle.timing_steps.specs.Runs.{EndsAs}
+use Rattle.timing_steps.specs.Runs.{EndsAs, is_silent_for}
 use Rattle.timing_steps.specs.declared.failure.Failure.{Failure}
 use Rattle.timing_steps.specs.declared.failure.Failure.TheVariants as failure
+use Rattle.timing_reach.specs.Described.{EndsDescribed, sdp_ends}
 use Rattle.timing_reach.specs.Scanned.{scan_ends}
 use Rattle.timing_top.specs.Asked.{FollowsHelp, FollowsSelfTest, is_command, query_of}
-use Rattle.timing_top.specs.Ends.{Ends, checks, may_end, reads_inputs, reads_sdp}
+use Rattle.timing_top.specs.Ends.{Ends, checks, is_silent_of, may_end, reads_captures, reads_inputs, reads_sdp}
 use Rattle.timing_top.specs.Runs.{streams_of}
 use Rattle.timing_top.specs.verify.Verified.{report_ends}
 use Rattle.timing_steps.proofs.Endings.{kept-none}
@@ -28,14 +29,21 @@ use Rattle.timing_top.proofs.Headlines.{none-broke}
 abbrev EndsFor : Output → Status → Request → Type 0
 EndsFor o ends asked = Ends (Some asked) o ends
 
--- a command reads an SDP, and ends with 1 only if its query checks
+-- a command reads an SDP and captures, and ends with 1 only if its query checks
 command-reads : (run : Request) → is_command run ≡ true
-    → (reads_inputs (Some run) ≡ true) × (reads_sdp (Some run) ≡ true) × (checks (Some run) ≡ (query_of run).checks)
+    → (reads_captures (Some run) ≡ true) × (reads_sdp (Some run) ≡ true) × (checks (Some run) ≡ (query_of run).checks)
+    × (reads_inputs (Some run) ≡ true)
 command-reads (request.VerifyReport job) is = absurd (false≢true is)
 command-reads (request.SelfTest job) is = absurd (false≢true is)
 command-reads (request.Scan job) is = absurd (false≢true is)
+command-reads (request.Sdp job) is = absurd (false≢true is)
 command-reads (request.Help named) is = absurd (false≢true is)
-command-reads run is = (refl, refl, refl)
+command-reads run is = (refl, refl, refl, refl)
+
+-- a command is silent with the statuses of its kind
+command-silent : (run : Request) → is_command run ≡ true → (s : Status) → is_silent_of (Some run) s ≡ is_silent_for (streams_of (Some run)) s
+command-silent (request.Sdp job) is s = absurd (false≢true is)
+command-silent run is s = refl
 
 -- the statuses of a command are those of its request
 command-all : (run : Request) → is_command run ≡ true → (s : Status) → ends_of (query_of run) s || is_failure s ≡ true → may_end (Some run) s ≡ true
@@ -48,7 +56,7 @@ command-all run is status.Fail h = (command-reads run is).2 ∙ or-false (query_
 command-all run is status.Usage h = absurd (false≢true h)
 command-all run is (status.SdpRefused fault) h = (command-reads run is).1
 command-all run is status.NotAllJudged h = (command-reads run is).0
-command-all run is (status.ReadFault input) h = (command-reads run is).0
+command-all run is (status.ReadFault input) h = (command-reads run is).3
 command-all run is status.WriteFault h = refl
 command-all run is status.OutOfMemory h = refl
 command-all run is status.ReportRefused h = absurd (false≢true h)
@@ -56,7 +64,10 @@ command-all run is status.ReportRefused h = absurd (false≢true h)
 pub ends-command : (asked run : Request) (o : Output) (ends : Status) → asked ≡ run → is_command run ≡ true
     → EndsAs (streams_of (Some run)) (query_of run) o ends → Ends (Some asked) o ends
 ends-command asked run o ends is command h =
-    subst (EndsFor o ends) (sym is) (record { status_is = command-all run command ends h.status_is; silent = h.silent })
+    subst (EndsFor o ends) (sym is) (record {
+      status_is = command-all run command ends h.status_is;
+      silent = λ s. h.silent (sym (command-silent run command ends) ∙ s);
+    })
 
 report-all : (job : ReportJob) (s : Status) → report_ends s || is_failure s ≡ true → may_end (Some (request.VerifyReport job)) s ≡ true
 report-all job status.Pass h = refl
@@ -88,6 +99,20 @@ ends-report asked job o ends is h =
 pub ends-scan : (asked : Request) (job : ScanJob) (o : Output) (ends : Status) → asked ≡ request.Scan job → EndsWith scan_ends o ends
     → Ends (Some asked) o ends
 ends-scan asked job o ends is h = subst (EndsFor o ends) (sym is) (record { status_is = scan-all job ends h.status_is; silent = h.silent })
+
+sdp-all : (job : SdpJob) (s : Status) → sdp_ends s || is_failure s ≡ true → may_end (Some (request.Sdp job)) s ≡ true
+sdp-all job status.Pass h = refl
+sdp-all job status.Fail h = h
+sdp-all job status.Usage h = h
+sdp-all job (status.SdpRefused fault) h = refl
+sdp-all job status.NotAllJudged h = h
+sdp-all job (status.ReadFault input) h = refl
+sdp-all job status.WriteFault h = refl
+sdp-all job status.OutOfMemory h = refl
+sdp-all job status.ReportRefused h = h
+
+pub ends-sdp : (asked : Request) (job : SdpJob) (o : Output) (ends : Status) → asked ≡ request.Sdp job → EndsDescribed o ends → Ends (Some asked) o ends
+ends-sdp asked job o ends is h = subst (EndsFor o ends) (sym is) (record { status_is = sdp-all job ends h.status_is; silent = h.silent })
 
 -- want of memory, whatever was asked
 pub ends-memory : (asked : Option Request) (o : Output) (ends : Status) → Leaves o (Err failure.OutOfMemory) ends → Ends asked o ends

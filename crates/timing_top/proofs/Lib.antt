@@ -14,6 +14,7 @@ mod Reported
 mod Reports
 mod Rows
 mod Scanning
+mod Describing
 mod SelfTests
 mod Serving
 mod Small

@@ -49,6 +49,7 @@ follows-memory None i = inl refl
 follows-memory (Some (request.VerifyReport job)) i = inl refl
 follows-memory (Some (request.SelfTest job)) i = inl refl
 follows-memory (Some (request.Scan job)) i = inl refl
+follows-memory (Some (request.Sdp job)) i = inl refl
 follows-memory (Some (request.Help named)) i = inl refl
 follows-memory (Some command) i = inl refl
 

@@ -13,6 +13,7 @@ use Rattle.timing_report.specs.declared.status.Status.TheVariants as status
 use Rattle.timing_steps.specs.Answers.{Answer, Gives, Inputs, Yields, silent}
 use Rattle.timing_steps.specs.Queries.{FollowsQuery, Query, QueryInputRose, inputs_of}
 use Rattle.timing_steps.specs.declared.failure.Failure.{Failure}
+use Rattle.timing_reach.specs.Described.{FollowsSdp, SdpInputRose}
 use Rattle.timing_reach.specs.Scanned.{FollowsScan, ScanInputRose}
 use Rattle.timing_reach.specs.Shaped.{shape_query}
 use Rattle.timing_reach.specs.Skewed.{skew_query}
@@ -45,6 +46,7 @@ abbrev pub is_command : Request → Bool
 is_command (request.VerifyReport job) = false
 is_command (request.SelfTest job) = false
 is_command (request.Scan job) = false
+is_command (request.Sdp job) = false
 is_command (request.Help named) = false
 is_command asked = true
 
@@ -72,6 +74,7 @@ Follows None i outcome = FollowsAtOnce status.Usage outcome
 Follows (Some (request.VerifyReport job)) i outcome = FollowsReport job i outcome
 Follows (Some (request.SelfTest job)) i outcome = FollowsSelfTest job.frames outcome
 Follows (Some (request.Scan job)) i outcome = FollowsScan job i outcome
+Follows (Some (request.Sdp job)) i outcome = FollowsSdp job i outcome
 Follows (Some (request.Help named)) i outcome = FollowsHelp named outcome
 Follows (Some command) i outcome = FollowsQuery (query_of command) i outcome
 
@@ -81,6 +84,7 @@ InputRose None i input = ⊥
 InputRose (Some (request.VerifyReport job)) i input = ReportInputRose job i input
 InputRose (Some (request.SelfTest job)) i input = ⊥
 InputRose (Some (request.Scan job)) i input = ScanInputRose job i input
+InputRose (Some (request.Sdp job)) i input = SdpInputRose job i input
 InputRose (Some (request.Help named)) i input = ⊥
 InputRose (Some command) i input = QueryInputRose (query_of command) i input
 
@@ -90,6 +94,7 @@ names_of None = []
 names_of (Some (request.VerifyReport job)) = job.sdp ∷ job.report ∷ job.captures
 names_of (Some (request.SelfTest job)) = []
 names_of (Some (request.Scan job)) = job.capture ∷ []
+names_of (Some (request.Sdp job)) = job.sdp ∷ []
 names_of (Some (request.Help named)) = []
 names_of (Some command) = inputs_of (query_of command)
 

@@ -6,6 +6,7 @@ use Rattle.timing_report.specs.declared.status.Status.{Status}
 use Rattle.timing_report.specs.declared.status.Status.TheVariants as status
 use Rattle.timing_steps.specs.Ran.{Appended, Output}
 use Rattle.timing_steps.specs.Runs.{is_silent_for}
+use Rattle.timing_reach.specs.Described.{is_silent_described}
 use Rattle.timing_top.specs.Runs.{streams_of}
 
 -- the command line is valid
@@ -23,6 +24,11 @@ reads_inputs asked = is_request asked
 abbrev pub reads_sdp : Option Request → Bool
 reads_sdp (Some (request.Scan job)) = false
 reads_sdp asked = reads_inputs asked
+
+-- the request reads captures: all that read inputs, except `sdp`
+abbrev pub reads_captures : Option Request → Bool
+reads_captures (Some (request.Sdp job)) = false
+reads_captures asked = reads_inputs asked
 
 -- the request may end with status 1: `check`, `verify` and `verify-report`
 abbrev pub checks : Option Request → Bool
@@ -42,15 +48,20 @@ may_end asked status.Pass = is_request asked
 may_end asked status.Fail = checks asked
 may_end asked status.Usage = not (is_request asked)
 may_end asked (status.SdpRefused fault) = reads_sdp asked
-may_end asked status.NotAllJudged = reads_inputs asked
+may_end asked status.NotAllJudged = reads_captures asked
 may_end asked (status.ReadFault input) = reads_inputs asked
 may_end asked status.WriteFault = is_request asked
 may_end asked status.OutOfMemory = true
 may_end asked status.ReportRefused = reads_report asked
+
+-- with this status the request prints nothing on standard output; `sdp` prints how an SDP is read that is refused
+abbrev pub is_silent_of : Option Request → Status → Bool
+is_silent_of (Some (request.Sdp job)) ends = is_silent_described ends
+is_silent_of asked ends = is_silent_for (streams_of asked) ends
 
 -- a run of a request by its status and its output: the status is one that it may end with, and if that status is
 -- silent, nothing was printed. `series` prints while it reads: if its capture can't be read, or memory runs out, a
 -- prefix of its rows may have been printed
 pub record Ends (asked : Option Request) (o : Output) (ends : Status) : Type 0 where
   pub status_is : may_end asked ends ≡ true
-  pub silent : is_silent_for (streams_of asked) ends ≡ true → Appended o []
+  pub silent : is_silent_of asked ends ≡ true → Appended o []

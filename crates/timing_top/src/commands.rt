@@ -17,7 +17,7 @@ use std::sync::Wait;
 use std::thread::Threads;
 use timing_measure::{MeasureCommand, PageCommand, SeriesCommand};
 use timing_outside::{Gate, Shelf, Sink};
-use timing_reach::{ShapeCommand, SkewCommand, WindowCommand, scan_one};
+use timing_reach::{ShapeCommand, SkewCommand, WindowCommand, scan_one, sdp_one};
 use timing_report::Status;
 use timing_steps::{Answer, Failure, conclude, run_command};
 use timing_words::{Request, WordFault, read_words};
@@ -56,6 +56,7 @@ where
         Request::Window(job) => run_command(alloc, &WindowCommand { job }, shelf, out, err),
         Request::Shape(job) => run_command(alloc, &ShapeCommand { job }, shelf, out, err),
         Request::Scan(job) => scan_one(alloc, &job, shelf, out, err),
+        Request::Sdp(job) => sdp_one(alloc, &job, shelf, out, err),
         Request::Skew(job) => run_command(alloc, &SkewCommand { job }, shelf, out, err),
         Request::Measure(job) => run_command(alloc, &MeasureCommand { job }, shelf, out, err),
         Request::Series(job) => run_command(alloc, &SeriesCommand { job }, shelf, out, err),
@@ -93,7 +94,8 @@ where
         result }
 
     // Also for contents that aren't known: the status is one that the request may end with, and with 2, 3, 5, 7 and 9
-    // nothing was printed. For `series` this holds with 3, and with 5 if the status names the SDP.
+    // nothing was printed. For `series` this holds with 3, and with 5 if the status names the SDP; for `sdp` it holds
+    // with all of them but 3.
     ensures ends { Ends (request (map string_bytes words.now)) (output_of K.Sink out.old out.new) result }
     ensures stays { StaysAs H.text H.lacks H.faults shelf.old shelf.new }
 {

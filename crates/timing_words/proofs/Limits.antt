@@ -16,7 +16,7 @@ use Rattle.timing_words.specs.Limits.{IsWithinLimits}
 use Rattle.timing_words.specs.Line.{Stands, Text, line, stands}
 use Rattle.timing_words.specs.Request.{asked, asked_by, capture_asked, check_asked, check_workers, command_named, file_name, file_names}
 use Rattle.timing_words.specs.Request.{flow_asked, given, help_asked, kind_named, media, need, number, passing}
-use Rattle.timing_words.specs.Request.{proof_asked, report_asked, request, scan_asked, self_test_asked, series_asked, shape_asked, skew_asked}
+use Rattle.timing_words.specs.Request.{proof_asked, report_asked, request, scan_asked, sdp_asked, self_test_asked, series_asked, shape_asked, skew_asked}
 use Rattle.timing_words.specs.Request.{sole, sorts, tai, test_workers, verify_asked, written}
 use Rattle.timing_words.proofs.Checks.{both_true}
 
@@ -208,6 +208,9 @@ asked-within command.Measure l r e =
 asked-within command.Series l r e =
     let m = mapped asks.Series (series_asked l) r e in
     subst IsWithinLimits m.2 (series-within l m.0 m.1)
+asked-within command.Sdp l r e =
+    let m = mapped asks.Sdp (sdp_asked l) r e in
+    subst IsWithinLimits m.2 tt
 asked-within command.Page l r e =
     let m = mapped asks.Page (capture_asked l) r e in
     subst IsWithinLimits m.2 (capture-within l m.0 m.1)

@@ -19,6 +19,7 @@ is_told command.Skew = (refl, refl)
 is_told command.Scan = (refl, refl)
 is_told command.Measure = (refl, refl)
 is_told command.Series = (refl, refl)
+is_told command.Sdp = (refl, refl)
 is_told command.Page = (refl, refl)
 
 same_asked : (c : Command) (found : Found) (ps : List Part) → Says (sorts c) found ps → asked c (found_stands found) ≡ asked c (stands ps)
@@ -60,6 +61,7 @@ same_asked command.Scan found ps s = rw (s.flag (codes "json") refl, s.flag (cod
 same_asked command.Measure found ps s = rw (s.value (codes "sdp") refl, s.value (codes "tai") refl, s.names) refl
 same_asked command.Series found ps s =
     rw (s.value (codes "sdp") refl, s.value (codes "media") refl, s.value (codes "tai") refl, s.flag (codes "frames") refl, s.names) refl
+same_asked command.Sdp found ps s = rw (s.flag (codes "json") refl, s.names) refl
 same_asked command.Page found ps s = rw (s.value (codes "sdp") refl, s.value (codes "tai") refl, s.names) refl
 
 -- the matches of a line ask for what its words do

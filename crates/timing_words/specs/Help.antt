@@ -77,6 +77,7 @@ name_of command.Skew = codes "skew"
 name_of command.Scan = codes "scan"
 name_of command.Measure = codes "measure"
 name_of command.Series = codes "series"
+name_of command.Sdp = codes "sdp"
 name_of command.Page = codes "page"
 
 -- the placeholder for the positional arguments of a command
@@ -91,6 +92,7 @@ names_shape command.Skew = codes "CAPTURE [CAPTURE]"
 names_shape command.Scan = codes "CAPTURE"
 names_shape command.Measure = codes "CAPTURE"
 names_shape command.Series = codes "CAPTURE"
+names_shape command.Sdp = codes "FILE"
 names_shape command.Page = codes "CAPTURE"
 
 -- what a command does, in words
@@ -105,6 +107,7 @@ about command.Skew = codes "says how far two flows that carry the same packets a
 about command.Scan = codes "says what a capture holds, without a description"
 about command.Measure = codes "says how near each video comes to its limits, when, and where in the frame"
 about command.Series = codes "lists the numbers of a flow as CSV, packet by packet or frame by frame"
+about command.Sdp = codes "prints how a description is read, and what of it is passed over"
 about command.Page = codes "writes the report of a capture as one page with pictures"
 
 -- what a command prints, in words
@@ -130,6 +133,10 @@ printed command.Measure =
 printed command.Series =
     codes "Prints a header and for each judged packet when it comes, its place in the frame, and what bucket and\n"
     ++ codes "buffers hold; with --frames for each frame when it begins and ends, its RTP timestamp and its extremes.\n"
+printed command.Sdp =
+    codes "Prints of each video what is read and which times follow from it, then what is passed over, and likely"
+    ++ (codes " mistakes:\nan unknown name that is nearly a known one, a comma in place of a semicolon; with --json the"
+    ++ codes " same as JSON.\n")
 printed command.Page =
     codes "Prints one HTML page that needs nothing else: of each video what is judged and measured, in words, pictures and\n"
     ++ codes "tables, and what the capture holds.\n"
@@ -150,6 +157,7 @@ example command.Skew =
 example command.Scan = codes "./run scan examples/plain.pcap"
 example command.Measure = codes "./run measure --sdp examples/plain.sdp examples/burst.pcap"
 example command.Series = codes "./run series --sdp examples/plain.sdp --media 1 --frames examples/burst.pcap"
+example command.Sdp = codes "./run sdp examples/plain.sdp"
 example command.Page = codes "./run page --sdp examples/plain.sdp examples/burst.pcap > burst.html"
 
 -- ---- texts
@@ -166,7 +174,7 @@ summary c = codes "  " ++ (usage c ++ (codes "\n      " ++ (about c ++ codes "\n
 abbrev pub commands : List Command
 commands =
     command.Check ∷ command.Verify ∷ command.VerifyReport ∷ command.SelfTest ∷ command.Window ∷ command.Shape
-    ∷ command.Skew ∷ command.Scan ∷ command.Measure ∷ command.Series ∷ command.Page ∷ []
+    ∷ command.Skew ∷ command.Scan ∷ command.Measure ∷ command.Series ∷ command.Sdp ∷ command.Page ∷ []
 
 -- the two lines of each command
 abbrev pub summaries : Text

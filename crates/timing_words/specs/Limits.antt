@@ -17,5 +17,6 @@ IsWithinLimits (asks.Skew job) = IsSkewJob job
 IsWithinLimits (asks.Scan job) = ⊤
 IsWithinLimits (asks.Measure job) = IsCaptureJob job
 IsWithinLimits (asks.Series job) = IsFlowJob job.flow
+IsWithinLimits (asks.Sdp job) = ⊤
 IsWithinLimits (asks.Page job) = IsCaptureJob job
 IsWithinLimits (asks.Help named) = ⊤

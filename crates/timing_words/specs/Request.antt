@@ -8,7 +8,7 @@ use Rattle.std.specs.Char.{is_ascii_digit}
 use Rattle.std.specs.Str.{bytes_eq}
 use Rattle.std.specs.Str.Parse.{digits_value}
 use Rattle.timing_base.specs.Jobs.{CaptureJob, CheckJob, FlowJob, ReportJob, ScanJob, SelfTestJob, ShapeJob, SkewJob}
-use Rattle.timing_base.specs.Jobs.{SeriesJob, VerifyJob}
+use Rattle.timing_base.specs.Jobs.{SdpJob, SeriesJob, VerifyJob}
 use Rattle.timing_base.specs.Name.{is_file_name}
 use Rattle.timing_base.specs.declared.fail.Broken.{Broken}
 use Rattle.timing_base.specs.declared.fail.Broken.TheVariants as broken
@@ -273,6 +273,15 @@ series_asked l =
     need (flow_asked l) (λ flow.
     Some (record { flow = flow; frames = l.flag (codes "frames") }))
 
+-- the options and flags of `sdp`
+abbrev pub sdp_sorts : List Sort
+sdp_sorts = takes [] (codes "json" ∷ [])
+
+-- the job of `sdp`
+abbrev pub sdp_asked : Stands → Option SdpJob
+sdp_asked l =
+    need (need (sole l.names) file_name) (λ sdp. Some (record { sdp = sdp; json = l.flag (codes "json") }))
+
 -- ---- the whole command line
 
 -- the command of this name
@@ -284,6 +293,7 @@ command_named = chosen (
     ∷ (codes "scan", command.Scan)
     ∷ (codes "measure", command.Measure)
     ∷ (codes "series", command.Series)
+    ∷ (codes "sdp", command.Sdp)
     ∷ (codes "page", command.Page)
     ∷ [])
 
@@ -299,6 +309,7 @@ sorts command.Skew = skew_sorts
 sorts command.Scan = scan_sorts
 sorts command.Measure = capture_sorts
 sorts command.Series = series_sorts
+sorts command.Sdp = sdp_sorts
 sorts command.Page = capture_sorts
 
 -- the request of a command, from the contents of the command line
@@ -313,6 +324,7 @@ asked command.Skew l = option_map asks.Skew (skew_asked l)
 asked command.Scan l = option_map asks.Scan (scan_asked l)
 asked command.Measure l = option_map asks.Measure (capture_asked l)
 asked command.Series l = option_map asks.Series (series_asked l)
+asked command.Sdp l = option_map asks.Sdp (sdp_asked l)
 asked command.Page l = option_map asks.Page (capture_asked l)
 
 -- the request of the arguments after a command

@@ -35,6 +35,8 @@ pub enum Command {
     Measure,
     /// `series`: prints the numbers of a flow as CSV.
     Series,
+    /// `sdp`: prints how a session description is read.
+    Sdp,
     /// `page`: prints the report of a capture as an HTML page.
     Page,
 }
@@ -57,6 +59,7 @@ impl Command {
             "scan" => Some(Command::Scan),
             "measure" => Some(Command::Measure),
             "series" => Some(Command::Series),
+            "sdp" => Some(Command::Sdp),
             "page" => Some(Command::Page),
             _ => None,
         }
@@ -88,6 +91,7 @@ impl Command {
             Command::Scan => parser_of(alloc, &[], &["json", "draft"]),
             Command::Measure => parser_of(alloc, &["sdp", "tai"], &[]),
             Command::Series => parser_of(alloc, &["sdp", "media", "tai"], &["frames"]),
+            Command::Sdp => parser_of(alloc, &[], &["json"]),
             Command::Page => parser_of(alloc, &["sdp", "tai"], &[]),
         }
     }

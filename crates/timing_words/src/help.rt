@@ -171,6 +171,7 @@ impl Command {
             Command::Scan => "scan",
             Command::Measure => "measure",
             Command::Series => "series",
+            Command::Sdp => "sdp",
             Command::Page => "page",
         }
     }
@@ -185,6 +186,7 @@ impl Command {
             Command::Window | Command::Shape => "CAPTURE",
             Command::Skew => "CAPTURE [CAPTURE]",
             Command::Scan | Command::Measure | Command::Series | Command::Page => "CAPTURE",
+            Command::Sdp => "FILE",
         }
     }
 
@@ -217,6 +219,7 @@ impl Command {
             Command::Series => {
                 "lists the numbers of a flow as CSV, packet by packet or frame by frame"
             }
+            Command::Sdp => "prints how a description is read, and what of it is passed over",
             Command::Page => "writes the report of a capture as one page with pictures",
         }
     }
@@ -254,6 +257,9 @@ impl Command {
             Command::Series => {
                 "Prints a header and for each judged packet when it comes, its place in the frame, and what bucket and\nbuffers hold; with --frames for each frame when it begins and ends, its RTP timestamp and its extremes.\n"
             }
+            Command::Sdp => {
+                "Prints of each video what is read and which times follow from it, then what is passed over, and likely mistakes:\nan unknown name that is nearly a known one, a comma in place of a semicolon; with --json the same as JSON.\n"
+            }
             Command::Page => {
                 "Prints one HTML page that needs nothing else: of each video what is judged and measured, in words, pictures and\ntables, and what the capture holds.\n"
             }
@@ -287,6 +293,7 @@ impl Command {
             Command::Series => {
                 "./run series --sdp examples/plain.sdp --media 1 --frames examples/burst.pcap"
             }
+            Command::Sdp => "./run sdp examples/plain.sdp",
             Command::Page => "./run page --sdp examples/plain.sdp examples/burst.pcap > burst.html",
         }
     }
@@ -339,6 +346,7 @@ fn summaries(alloc: Global) -> Result<String, OutOfMemory>
             Command::Scan,
             Command::Measure,
             Command::Series,
+            Command::Sdp,
             Command::Page,
         ],
     )

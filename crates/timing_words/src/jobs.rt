@@ -16,8 +16,8 @@ use crate::values::{
 use clap::ArgMatches;
 use std::alloc::Global;
 use timing_base::{
-    CaptureJob, CheckJob, FailProof, FileName, FlowJob, Items, ReportJob, ScanJob, SelfTestJob,
-    SeriesJob, ShapeJob, SkewJob, VerifyJob,
+    CaptureJob, CheckJob, FailProof, FileName, FlowJob, Items, ReportJob, ScanJob, SdpJob,
+    SelfTestJob, SeriesJob, ShapeJob, SkewJob, VerifyJob,
 };
 
 /// Returns the value of a required option.
@@ -228,4 +228,13 @@ pub(crate) fn series_job(alloc: Global, matches: &ArgMatches<'_>) -> Result<Seri
     let flow = flow_job(alloc, matches)?;
     let frames = matches.contains_id("frames");
     Ok(SeriesJob { flow, frames })
+}
+
+/// Returns the job of `sdp`.
+pub(crate) fn sdp_job(alloc: Global, matches: &ArgMatches<'_>) -> Result<SdpJob, WordFault>
+    ensures { Gives (words.sdp_asked (found_stands (found_of matches.now))) result }
+{
+    let sdp = file_name(alloc, sole_name(matches)?)?;
+    let json = matches.contains_id("json");
+    Ok(SdpJob { sdp, json })
 }

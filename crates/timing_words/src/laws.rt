@@ -245,6 +245,16 @@ pub fn flows_by_hand()
     ensures skew_tai { IsRefused (codes "skew --sdp p --media 2 --pair 1 --tai 0 c") }
 {}
 
+/// Worked by hand: command lines of `sdp`.
+pub fn descriptions_by_hand()
+    ensures text { Asks (codes "sdp p") (asks.Sdp (record { sdp = codes "p"; json = false })) }
+    ensures json { Asks (codes "sdp p --json") (asks.Sdp (record { sdp = codes "p"; json = true })) }
+    ensures no_name { IsRefused (codes "sdp --json") }
+    ensures two_names { IsRefused (codes "sdp p q") }
+    ensures option { IsRefused (codes "sdp --sdp p") }
+    ensures valued { IsRefused (codes "sdp --json=1 p") }
+{}
+
 /// Worked by hand: command lines of `scan`.
 pub fn scans_by_hand()
     ensures plain { Asks (codes "scan c") (asks.Scan (record { capture = codes "c"; form = form.Lines })) }

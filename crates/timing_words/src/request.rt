@@ -2,8 +2,8 @@
 
 use crate::command::Command;
 use timing_base::{
-    CaptureJob, CheckJob, FlowJob, ReportJob, ScanJob, SelfTestJob, SeriesJob, ShapeJob, SkewJob,
-    VerifyJob,
+    CaptureJob, CheckJob, FlowJob, ReportJob, ScanJob, SdpJob, SelfTestJob, SeriesJob, ShapeJob,
+    SkewJob, VerifyJob,
 };
 
 /// The request of a command line.
@@ -29,6 +29,8 @@ pub enum Request {
     Measure(CaptureJob),
     /// The command `series`.
     Series(SeriesJob),
+    /// The command `sdp`.
+    Sdp(SdpJob),
     /// The command `page`.
     Page(CaptureJob),
     /// The command `help`: the arguments of all commands, or more of this one.

@@ -42,6 +42,7 @@ fn description_of(request: &Request) -> Option<&FileName> {
         Request::Skew(job) => Some(&job.sdp),
         Request::Measure(job) => Some(&job.sdp),
         Request::Series(job) => Some(&job.flow.sdp),
+        Request::Sdp(job) => Some(&job.sdp),
         Request::Page(job) => Some(&job.sdp),
         Request::SelfTest(_) | Request::Scan(_) | Request::Help(_) => None,
     }
@@ -68,7 +69,7 @@ fn capture_of(request: &Request, file: u32) -> Option<&FileName> {
         Request::Measure(job) => Some(&job.capture),
         Request::Series(job) => Some(&job.flow.capture),
         Request::Page(job) => Some(&job.capture),
-        Request::SelfTest(_) | Request::Help(_) => None,
+        Request::SelfTest(_) | Request::Sdp(_) | Request::Help(_) => None,
     }
 }
 

@@ -64,7 +64,7 @@ pub(crate) fn choice_named(choices: &[Choice], name: &str) -> Option<Choice> {
 }
 
 /// Returns all commands, in the order of `help`.
-pub(crate) fn commands() -> [Command; 11] {
+pub(crate) fn commands() -> [Command; 12] {
     [
         Command::Check,
         Command::Verify,
@@ -76,6 +76,7 @@ pub(crate) fn commands() -> [Command; 11] {
         Command::Scan,
         Command::Measure,
         Command::Series,
+        Command::Sdp,
         Command::Page,
     ]
 }

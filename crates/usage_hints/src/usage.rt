@@ -74,6 +74,23 @@ fn test_captures<'a>(alloc: Global, command: Command, parts: &Parts<'a>) -> Resu
     Ok(())
 }
 
+/// Returns `Err` unless `sdp` has exactly one session description, which can be a file name.
+fn test_description<'a>(alloc: Global, parts: &Parts<'a>) -> Result<(), Stop<'a>> {
+    match parts.names.as_slice() {
+        [name] => {
+            if is_name(alloc, name)? {
+                Ok(())
+            } else {
+                Err(Stop::Mistake(Mistake::BadName(*name)))
+            }
+        }
+        names => {
+            let none = names.is_empty();
+            Err(Stop::Mistake(Mistake::NotOneDescription { none }))
+        }
+    }
+}
+
 /// Returns `Err` unless `selftest` has exactly one valid number of frames.
 fn test_frames<'a>(parts: &Parts<'a>) -> Result<(), Stop<'a>> {
     match parts.names.as_slice() {
@@ -92,6 +109,7 @@ fn test_command<'a>(alloc: Global, command: Command, words: &'a [String]) -> Res
     test_presence(choices.as_slice(), &parts)?;
     match command {
         Command::SelfTest => test_frames(&parts),
+        Command::Sdp => test_description(alloc, &parts),
         _ => test_captures(alloc, command, &parts),
     }
 }

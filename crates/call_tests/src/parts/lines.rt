@@ -5,8 +5,8 @@ use std::alloc::{AllocError, Global};
 use std::process::Abort;
 use std::test::Fail;
 use timing_base::{
-    CaptureJob, CheckJob, FailProof, FileName, FlowJob, Items, ReportJob, ScanJob, SelfTestJob,
-    SeriesJob, ShapeJob, SkewJob, VerifyJob,
+    CaptureJob, CheckJob, FailProof, FileName, FlowJob, Items, ReportJob, ScanJob, SdpJob,
+    SelfTestJob, SeriesJob, ShapeJob, SkewJob, VerifyJob,
 };
 use timing_words::{Command, Request, WordFault, read_words};
 
@@ -110,6 +110,12 @@ fn shown_capture(alloc: Global, command: &str, job: &CaptureJob) -> Result<Strin
     format!(in alloc; "{command} {sdp} {tai}: {capture}")
 }
 
+/// The fields of an `sdp`.
+fn shown_sdp(alloc: Global, job: &SdpJob) -> Result<String, AllocError> {
+    let (sdp, json) = (job.sdp.as_str(), job.json);
+    format!(in alloc; "sdp {sdp} {json}")
+}
+
 /// The command that help is asked about.
 fn shown_help(alloc: Global, command: Option<Command>) -> Result<String, AllocError> {
     format!(in alloc; "help {command:?}")
@@ -128,6 +134,7 @@ fn shown(alloc: Global, request: &Request) -> Result<String, AllocError> {
         Request::Scan(job) => shown_scan(alloc, job),
         Request::Measure(job) => shown_capture(alloc, "measure", job),
         Request::Series(job) => shown_series(alloc, job),
+        Request::Sdp(job) => shown_sdp(alloc, job),
         Request::Page(job) => shown_capture(alloc, "page", job),
         Request::Help(command) => shown_help(alloc, *command),
     }

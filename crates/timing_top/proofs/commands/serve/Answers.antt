@@ -1,5 +1,5 @@
 use Rattle.std.proofs.Common.{refl}
-use Rattle.timing_top.proofs.Ending.{ends-command, ends-help, ends-report, ends-scan, ends-self-test}
+use Rattle.timing_top.proofs.Ending.{ends-command, ends-help, ends-report, ends-scan, ends-sdp, ends-self-test}
 use Rattle.timing_top.proofs.Serving.{serves}
 use Rattle.timing_top.proofs.commands.serve.Goals as goal
 
@@ -36,6 +36,9 @@ returns-in-VerifyReport-clause-ran g c = serves _ _ _ _ _ _ c.in-VerifyReport.is
 pub returns-in-Scan-clause-ran : goal.returns-in-Scan-clause-ran
 returns-in-Scan-clause-ran g c = serves _ _ _ _ _ _ c.in-Scan.is c.scan_one.ensures.ran
 
+pub returns-in-Sdp-clause-ran : goal.returns-in-Sdp-clause-ran
+returns-in-Sdp-clause-ran g c = serves _ _ _ _ _ _ c.in-Sdp.is c.sdp_one.ensures.ran
+
 pub returns-then-command-eq0-clause-ends : goal.returns-then-command-eq0-clause-ends
 returns-then-command-eq0-clause-ends g c = ends-command _ _ _ _ c.in-Check.is refl c.run_command.ensures.ends
 
@@ -68,6 +71,9 @@ returns-in-VerifyReport-clause-ends g c = ends-report _ _ _ _ c.in-VerifyReport.
 
 pub returns-in-Scan-clause-ends : goal.returns-in-Scan-clause-ends
 returns-in-Scan-clause-ends g c = ends-scan _ _ _ _ c.in-Scan.is c.scan_one.ensures.ends
+
+pub returns-in-Sdp-clause-ends : goal.returns-in-Sdp-clause-ends
+returns-in-Sdp-clause-ends g c = ends-sdp _ _ _ _ c.in-Sdp.is c.sdp_one.ensures.ends
 
 pub returns-in-SelfTest-clause-ends : goal.returns-in-SelfTest-clause-ends
 returns-in-SelfTest-clause-ends g c = ends-self-test _ _ _ _ _ c.in-SelfTest.is c.self_test.ensures.ran

@@ -20,12 +20,13 @@ returns-clause-read c = go
     go command.Scan = refl
     go command.Measure = refl
     go command.Series = refl
+    go command.Sdp = refl
     go command.Page = refl
 
 pub returns-clause-all : goal.returns-clause-all
 returns-clause-all c = go
   where
-    size : length commands ≡ 11
+    size : length commands ≡ 12
     size = refl
 
     go : (told : Command) → Contains commands told
@@ -39,4 +40,5 @@ returns-clause-all c = go
     go command.Scan = (7, omega (arith, size), refl)
     go command.Measure = (8, omega (arith, size), refl)
     go command.Series = (9, omega (arith, size), refl)
-    go command.Page = (10, omega (arith, size), refl)
+    go command.Sdp = (10, omega (arith, size), refl)
+    go command.Page = (11, omega (arith, size), refl)

@@ -1,0 +1,4 @@
+pub mod Edits
+pub mod Floatless
+pub mod Front
+pub mod Numerals
