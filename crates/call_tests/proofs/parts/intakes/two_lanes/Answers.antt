@@ -19,7 +19,7 @@ two-passes a b (p ∷ []) (q ∷ r ∷ qs) h g = absurd (omega (arith, g.count))
 two-passes a b (p ∷ o ∷ ps) qs h g = absurd (omega (arith, h.count))
 
 pub taken_in-done-requires-clause-passes : goal.taken_in-done-requires-clause-passes
-taken_in-done-requires-clause-passes g c = λ _.
+taken_in-done-requires-clause-passes g c =
     let all : c.append.new.self.items ≡ c.in_ok-first.passes.items ++ c.in_ok-second.more.items = c.in_ok-append.ensures.items in
     subst (HaveSentNothing 0 (c.in_ok-first.first ∷ c.in_ok-second.second ∷ [])) (sym all)
     (two-passes c.in_ok-first.first c.in_ok-second.second c.in_ok-first.passes.items c.in_ok-second.more.items c.in_ok-first.ensures.passes
