@@ -1,5 +1,5 @@
 -- The judged runs of a flow that is over.
-use Rattle.std.proofs.Common.{◌≡◌, ◌==◌, ℕ, List, [], length, Option, Some, None, refl, sym, subst}
+use Rattle.std.proofs.Common.{◌≡◌, ◌==◌, ℕ, List, length, Option, Some, None, refl, sym, subst}
 use Rattle.std.proofs.lemmas.Bool.{cond_both}
 use Rattle.timing_base.specs.Flows.{FirstFault, first_fault}
 use Rattle.timing_base.specs.Judged.{FlowVerdict, absent, gap, in_one_run, in_runs, judged, judged_runs, no_whole_frame, refusal, refused, refused_or}

@@ -1,5 +1,5 @@
 -- A flow's meter took a packet more, or the flow is over.
-use Rattle.std.proofs.Common.{◌≡◌, ◌∙◌, ◌++◌, ◌∷◌, ℕ, Bool, true, List, [], length, Some, Ok, ap}
+use Rattle.std.proofs.Common.{◌≡◌, ◌++◌, ◌∷◌, ℕ, Bool, List, [], Some}
 use Rattle.std.specs.Prelude.{IfOk, Result}
 use Rattle.timing_base.specs.Captures.{Record}
 use Rattle.timing_base.specs.Keys.{key_of}

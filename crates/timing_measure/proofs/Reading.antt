@@ -1,5 +1,5 @@
 -- The one capture of a job couldn't be read.
-use Rattle.std.proofs.Common.{◌≡◌, [], ◌∷◌, ℕ, false, List, refl, sym}
+use Rattle.std.proofs.Common.{◌≡◌, [], ◌∷◌, ℕ, false, List, sym}
 use Rattle.std.specs.Prelude.{IfErr, Result, Ok, Err, is_ok}
 use Rattle.std.proofs.lemmas.Bool.{false≢true}
 use Rattle.timing_base.specs.Media.{Media}

@@ -1,5 +1,5 @@
--- The output and status of `check`, by the contents of its inputs: the report, as a function of the media of the SDP and
--- of the packet records of the captures. No definition depends on the number of workers.
+-- The output and status of `check`, by the contents of its inputs: the report, as a function of the media of the SDP
+-- and of the packet records of the captures. No definition depends on the number of workers.
 use Rattle.std.specs.Prelude.{◌≡◌, if◌then◌else◌, None, true, ℕ, List}
 use Rattle.timing_base.specs.Captures.{Record}
 use Rattle.timing_base.specs.Jobs.{CheckJob}

@@ -30,8 +30,8 @@ fn claim_of(job: &VerifyJob) -> ReportProof
     }
 }
 
-/// Returns the answer if a session doesn't have the media with this number, counted from 0, or `None` if it has it: then
-/// the violation is not confirmed. Returns `Err` if memory runs out.
+/// Returns the answer that a violation is not confirmed, if a session doesn't have the media with this number, counted
+/// from 0; or `None` if it has it. Returns `Err` if memory runs out.
 fn early_of_claim(
     alloc: Global,
     session: &Session,

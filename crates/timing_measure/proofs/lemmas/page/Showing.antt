@@ -19,7 +19,7 @@ use Rattle.flow_measure.specs.declared.numbers.MeasuredRun.{MeasuredRun}
 use Rattle.flow_measure.specs.declared.numbers.RunNumbers.{RunNumbers}
 use Rattle.flow_measure.specs.declared.numbers_meter.MeasuredRuns.{MeasuredRuns}
 use Rattle.flow_page.specs.drawing.Drawn.{AreCurves, AreRegions}
-use Rattle.flow_page.specs.drawing.Told.{Draws, IsDrawn, IsLongest}
+use Rattle.flow_page.specs.drawing.Told.{Draws, IsDrawn}
 use Rattle.flow_page.specs.declared.drawing.longest.DrawnRun.{DrawnRun}
 use Rattle.flow_page.specs.declared.drawing.longest.LongestRun.{LongestRun}
 use Rattle.flow_page.specs.declared.shown.ShownRun.{ShownRun}

@@ -1,5 +1,5 @@
 -- The packet records of a capture have one answer of `series`.
-use Rattle.std.proofs.Common.{◌≡◌, ◌≤◌, ◌-◌, ◌+◌, ◌*◌, ◌/◌, ◌%◌, ◌^◌, ◌++◌, ◌∷◌, ℕ, ℤ, zero, suc, pos, Bool, true, false, List, [], length, Option, Some}
+use Rattle.std.proofs.Common.{◌≡◌, ◌≤◌, ◌-◌, ◌+◌, ◌*◌, ◌/◌, ◌%◌, ◌++◌, ◌∷◌, ℕ, ℤ, zero, suc, pos, Bool, true, false, List, [], length, Option, Some}
 use Rattle.std.proofs.Common.{None, refl, ap, ap₂}
 use Rattle.std.proofs.Common.{◌∙◌, sym, subst, arith, length-append}
 use Rattle.std.specs.Prelude.{slice_get}

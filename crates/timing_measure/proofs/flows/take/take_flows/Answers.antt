@@ -1,4 +1,4 @@
-use Rattle.std.proofs.Common.{◌≡◌, ◌^◌, ℕ, [], ap, arith, refl, rules, subst, sym}
+use Rattle.std.proofs.Common.{◌≡◌, ◌^◌, ℕ, [], ap, arith, refl, subst, sym}
 use Rattle.timing_base.specs.Jobs.{CaptureJob}
 use Rattle.std.proofs.lemmas.List.Elements.{All-same}
 use Rattle.timing_base.specs.Jobs.{CaptureJob}
