@@ -1,6 +1,6 @@
 -- What follows for `sdp` from how its SDP was read, and that a text has one answer.
 use Rattle.std.specs.Prelude.{◌||◌, IfErr, IfOk, Result, Ok, Err}
-use Rattle.std.proofs.Common.{◌≡◌, ℕ, Bool, true, false, List, [], Option, Some, None, refl, ap, ◌∙◌, sym, subst, inl, inr}
+use Rattle.std.proofs.Common.{◌≡◌, ℕ, Bool, true, false, List, Option, Some, None, refl, ap, ◌∙◌, sym, subst, inl, inr}
 use Rattle.std.proofs.lemmas.Bool.{false≢true}
 use Rattle.timing_base.specs.Jobs.{SdpJob}
 use Rattle.sdp_reader.specs.declared.fault.SdpFault.{SdpFault}
@@ -9,7 +9,7 @@ use Rattle.timing_report.specs.declared.status.Input.TheVariants as input
 use Rattle.timing_report.specs.declared.status.Status.{Status}
 use Rattle.timing_report.specs.declared.status.Status.TheVariants as status
 use Rattle.timing_steps.specs.Answers.{Answer, HasRisen, Inputs, OnReadFault}
-use Rattle.timing_steps.specs.Ran.{Appended, HasCause, IsAnswered, Leaves, Output}
+use Rattle.timing_steps.specs.Ran.{HasCause, IsAnswered, Leaves, Output}
 use Rattle.timing_steps.specs.declared.failure.Failure.{Failure}
 use Rattle.timing_steps.specs.declared.failure.Failure.TheVariants as failure
 use Rattle.timing_steps.specs.Ends.{is_failure}
