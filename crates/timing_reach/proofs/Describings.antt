@@ -14,7 +14,8 @@ use Rattle.timing_steps.specs.declared.failure.Failure.{Failure}
 use Rattle.timing_steps.specs.declared.failure.Failure.TheVariants as failure
 use Rattle.timing_steps.specs.Ends.{is_failure}
 use Rattle.timing_steps.proofs.Endings.{kept-none}
-use Rattle.timing_reach.specs.Described.{EndsDescribed, FollowsSdp, HasDescribedStatus, HasDescription, SdpInputRose, is_silent_described, sdp_ends, status_told, told}
+use Rattle.timing_reach.specs.Described.{EndsDescribed, FollowsSdp, HasDescribedStatus, HasDescription, SdpInputRose, is_silent_described, sdp_ends}
+use Rattle.timing_reach.specs.Described.{status_told, told}
 
 -- the answer on a description has one of the two statuses
 told-status : (fault : Option SdpFault) → sdp_ends (status_told fault) ≡ true
@@ -75,7 +76,8 @@ ends-described o (Ok answer) ends (inl h) has = subst (EndsDescribed o) (sym h.0
   silent = λ s. absurd (false≢true (sym (never-silent answer.status has) ∙ s));
 })
 ends-described o (Ok answer) ends (inr h) has = subst (EndsDescribed o) (sym h.0) (record { status_is = refl; silent = λ s. absurd (false≢true s) })
-ends-described o (Err (failure.ReadFault x)) ends h has = subst (EndsDescribed o) (sym h.0) (record { status_is = refl; silent = λ s. kept-none o.old o.new h.1 })
+ends-described o (Err (failure.ReadFault x)) ends h has =
+    subst (EndsDescribed o) (sym h.0) (record { status_is = refl; silent = λ s. kept-none o.old o.new h.1 })
 ends-described o (Err failure.WriteFault) ends h has = subst (EndsDescribed o) (sym h.0) (record { status_is = refl; silent = λ s. absurd (false≢true s) })
 ends-described o (Err failure.OutOfMemory) ends h has = subst (EndsDescribed o) (sym h.0) (record { status_is = refl; silent = λ s. kept-none o.old o.new h.1 })
 
