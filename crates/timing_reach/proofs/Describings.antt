@@ -1,6 +1,6 @@
 -- What follows for `sdp` from how its SDP was read, and that a text has one answer.
 use Rattle.std.specs.Prelude.{◌||◌, IfErr, IfOk, Result, Ok, Err}
-use Rattle.std.proofs.Common.{◌≡◌, ℕ, Bool, true, false, List, [], Option, Some, None, refl, ap, ◌∙◌, sym, subst, inl, inr}
+use Rattle.std.proofs.Common.{◌≡◌, ℕ, Bool, true, false, List, Option, Some, None, refl, ap, ◌∙◌, sym, subst, inl, inr}
 use Rattle.std.proofs.lemmas.Bool.{false≢true}
 use Rattle.timing_base.specs.Jobs.{SdpJob}
 use Rattle.sdp_reader.specs.declared.fault.SdpFault.{SdpFault}
@@ -9,12 +9,13 @@ use Rattle.timing_report.specs.declared.status.Input.TheVariants as input
 use Rattle.timing_report.specs.declared.status.Status.{Status}
 use Rattle.timing_report.specs.declared.status.Status.TheVariants as status
 use Rattle.timing_steps.specs.Answers.{Answer, HasRisen, Inputs, OnReadFault}
-use Rattle.timing_steps.specs.Ran.{Appended, HasCause, IsAnswered, Leaves, Output}
+use Rattle.timing_steps.specs.Ran.{HasCause, IsAnswered, Leaves, Output}
 use Rattle.timing_steps.specs.declared.failure.Failure.{Failure}
 use Rattle.timing_steps.specs.declared.failure.Failure.TheVariants as failure
 use Rattle.timing_steps.specs.Ends.{is_failure}
 use Rattle.timing_steps.proofs.Endings.{kept-none}
-use Rattle.timing_reach.specs.Described.{EndsDescribed, FollowsSdp, HasDescribedStatus, SdpInputRose, is_silent_described, sdp_ends, status_told, told}
+use Rattle.timing_reach.specs.Described.{EndsDescribed, FollowsSdp, HasDescribedStatus, HasDescription, SdpInputRose, is_silent_described, sdp_ends}
+use Rattle.timing_reach.specs.Described.{status_told, told}
 
 -- the answer on a description has one of the two statuses
 told-status : (fault : Option SdpFault) → sdp_ends (status_told fault) ≡ true
@@ -75,6 +76,14 @@ ends-described o (Ok answer) ends (inl h) has = subst (EndsDescribed o) (sym h.0
   silent = λ s. absurd (false≢true (sym (never-silent answer.status has) ∙ s));
 })
 ends-described o (Ok answer) ends (inr h) has = subst (EndsDescribed o) (sym h.0) (record { status_is = refl; silent = λ s. absurd (false≢true s) })
-ends-described o (Err (failure.ReadFault x)) ends h has = subst (EndsDescribed o) (sym h.0) (record { status_is = refl; silent = λ s. kept-none o.old o.new h.1 })
+ends-described o (Err (failure.ReadFault x)) ends h has =
+    subst (EndsDescribed o) (sym h.0) (record { status_is = refl; silent = λ s. kept-none o.old o.new h.1 })
 ends-described o (Err failure.WriteFault) ends h has = subst (EndsDescribed o) (sym h.0) (record { status_is = refl; silent = λ s. absurd (false≢true s) })
 ends-described o (Err failure.OutOfMemory) ends h has = subst (EndsDescribed o) (sym h.0) (record { status_is = refl; silent = λ s. kept-none o.old o.new h.1 })
+
+-- a text has one answer
+pub some-description : (job : SdpJob) (text : List ℕ) → (answer : Answer) × HasDescription job text answer
+some-description job text = (told job.json (described text), refl)
+
+pub once-description : (job : SdpJob) (text : List ℕ) (a b : Answer) → HasDescription job text a → HasDescription job text b → a ≡ b
+once-description job text a b h k = h ∙ sym k

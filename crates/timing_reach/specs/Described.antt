@@ -1,6 +1,6 @@
 -- The output and status of `sdp`, by the contents of its SDP: how the SDP is read, as lines of text or as JSON (RFC
 -- 8259). No capture is read. This project's profile: an SDP that is refused has an output, and the status 3.
-use Rattle.std.specs.Prelude.{◌≡◌, ◌||◌, if◌then◌else◌, Bool, true, false, List, [], Option, Some, None, Result}
+use Rattle.std.specs.Prelude.{◌≡◌, ◌||◌, if◌then◌else◌, ℕ, Bool, true, false, List, [], Option, Some, None, Result}
 use Rattle.timing_base.specs.Jobs.{SdpJob}
 use Rattle.sdp_reader.specs.declared.fault.SdpFault.{SdpFault}
 use Rattle.sdp_notes.specs.Described.{Described, described}
@@ -24,11 +24,14 @@ status_told (Some fault) = status.SdpRefused fault
 abbrev pub told : (json : Bool) → Described → Answer
 told json d = record { text = if json then described_json d else described_text d; status = status_told d.fault }
 
+-- the answer of `sdp`, over an SDP with these contents
+abbrev pub HasDescription : SdpJob → (text : List ℕ) → Answer → Type 0
+HasDescription job text answer = answer ≡ told job.json (described text)
+
 -- `sdp` reads the SDP
 abbrev pub FollowsSdp : SdpJob → Inputs → Result Answer Failure → Type 0
 FollowsSdp job i outcome =
-    Yields outcome (ReadsSdp i outcome job.sdp (λ text. Gives outcome (λ answer. answer
-    ≡ told job.json (described text))))
+    Yields outcome (ReadsSdp i outcome job.sdp (λ text. Gives outcome (HasDescription job text)))
 
 -- the count of faults of the name of this input rose; there is one input, the SDP
 abbrev pub SdpInputRose : SdpJob → Inputs → Input → Type 0

@@ -4,7 +4,7 @@ pub mod shapes;
 
 ghost use Rattle.std.specs.Prelude.{◌≡◌, ◌++◌, ◌∷◌, [], ℕ, List, All, None, codes, map, pos, negsuc, true, false};
 ghost use Rattle.timing_base.specs.Captures.{Record};
-ghost use Rattle.timing_base.specs.Jobs.{FlowJob, ScanJob, SkewJob};
+ghost use Rattle.timing_base.specs.Jobs.{FlowJob, ScanJob, SdpJob, SkewJob};
 ghost use Rattle.timing_base.specs.Judged.{FlowRun, in_one_run, in_runs, judged, no_whole_frame};
 ghost use Rattle.timing_base.specs.Media.{IsMedia, Media};
 ghost use Rattle.timing_base.specs.declared.capture.FileNote.TheVariants as note;
@@ -19,6 +19,7 @@ ghost use Rattle.timing_steps.specs.Answers.{Answer};
 ghost use Rattle.timing_steps.specs.Flows.{no_such_media};
 ghost use Rattle.timing_steps.specs.Queries.{HasAnswer};
 ghost use Rattle.timing_reach.specs.Asked.{OnRun, not_judged};
+ghost use Rattle.timing_reach.specs.Described.{HasDescription};
 ghost use Rattle.timing_reach.specs.Scanned.{HasScan};
 ghost use Rattle.timing_reach.specs.Skewed.{first_of, last_of, skew_query, skew_status, skewed};
 ghost use Rattle.timing_reach.specs.Windows.{HasLines, window_line, window_query};
@@ -31,6 +32,13 @@ pub fn one_window_answer()
         → (answer : Answer) × HasAnswer (window_query job) media texts answer }
     ensures once { (job : FlowJob) (media : List Media) (texts : List (List ℕ)) (a b : Answer)
         → HasAnswer (window_query job) media texts a → HasAnswer (window_query job) media texts b → a ≡ b }
+{}
+
+/// The SDP of `sdp` has exactly one answer.
+pub fn one_sdp_answer()
+    ensures some { (job : SdpJob) (text : List ℕ) → (answer : Answer) × HasDescription job text answer }
+    ensures once { (job : SdpJob) (text : List ℕ) (a b : Answer)
+        → HasDescription job text a → HasDescription job text b → a ≡ b }
 {}
 
 /// The answer for a frame of a narrow sender, at 50 frames per second with 20 packets in a frame.

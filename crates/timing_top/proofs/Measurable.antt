@@ -1,17 +1,15 @@
 -- Captures whose contents are bytes have stamps.
-use Rattle.std.proofs.Common.{◌≡◌, ◌^◌, ◌+◌, ℕ, List, [], ◌∷◌, ap, arith, subst, sym}
+use Rattle.std.proofs.Common.{◌^◌, ◌+◌, ℕ, List, [], ◌∷◌, arith, subst}
 use Rattle.std.specs.Prelude.{All, map}
 use Rattle.std.proofs.lemmas.List.Elements.{All-head, All-nil, All-tail, All-weaker}
 use Rattle.timing_base.specs.Captures.{IsStamp, Record}
-use Rattle.timing_base.specs.declared.capture.FileNote.{FileNote}
-use Rattle.pcap_reader.specs.Records.{AreRecords}
 use Rattle.pcapng_reader.specs.Bytes.{AreBytes}
 use Rattle.pcapng_reader.specs.Classic.{classic}
 use Rattle.pcapng_reader.proofs.Bytes.{each-bytes}
 use Rattle.timing_steps.specs.Answers.{AreTold, Inputs}
-use Rattle.timing_steps.specs.Queries.{Query, inputs_of, only_file}
+use Rattle.timing_steps.specs.Queries.{Query, inputs_of}
 use Rattle.timing_steps.proofs.Onces.{told-once}
-use Rattle.timing_measure.proofs.Held.{AreHeld, HaveStamps}
+use Rattle.timing_measure.proofs.Held.{HaveStamps}
 use Rattle.timing_top.proofs.Small.{IsSmall, one-small}
 
 -- the records of texts of bytes

@@ -1,14 +1,13 @@
 -- What the run of a command is to the request that asks for it.
 use Rattle.std.proofs.Common.{◌≡◌, ◌≤◌, Bool, true, false, [], Some, None, Option, refl, ap, sym, subst, inl, inr}
 use Rattle.std.proofs.lemmas.Bool.{false≢true}
-use Rattle.std.specs.Prelude.{Result, Ok, Err, not}
+use Rattle.std.specs.Prelude.{Ok, Err, not}
 use Rattle.timing_words.specs.declared.request.Request.{Request}
 use Rattle.timing_words.specs.declared.request.Request.TheVariants as request
 use Rattle.timing_report.specs.declared.status.Status.{Status}
 use Rattle.timing_report.specs.declared.status.Status.TheVariants as status
 use Rattle.timing_steps.specs.Answers.{Answer, Inputs, silent}
-use Rattle.timing_steps.specs.Ran.{HasCause, IsAnswered, Leaves, Output, Ran, TellsLine}
-use Rattle.timing_steps.specs.declared.failure.Failure.{Failure}
+use Rattle.timing_steps.specs.Ran.{IsAnswered, Leaves, Output, Ran, TellsLine}
 use Rattle.timing_steps.specs.declared.failure.Failure.TheVariants as failure
 use Rattle.timing_steps.proofs.Endings.{kept-none}
 use Rattle.timing_top.specs.Asked.{Follows, InputRose}

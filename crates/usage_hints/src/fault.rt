@@ -37,8 +37,10 @@ pub(crate) enum Mistake<'a> {
     Missing(&'static str),
     /// No capture is given.
     NoCapture,
-    /// `sdp` doesn't have exactly one session description; this tells whether it has none.
-    NotOneDescription { none: bool },
+    /// `sdp` has no session description.
+    NoDescription,
+    /// `sdp` has more than one session description.
+    TooManyDescriptions,
     /// There are more captures than this number, the most that the command takes.
     TooManyCaptures(usize),
     /// `verify` without `--joined` has more than one capture.
@@ -213,10 +215,8 @@ fn mistake_in(
         Mistake::BadValue(name, value) => bad_value(alloc, name, value),
         Mistake::Missing(name) => format!(in alloc; "--{name} is missing\n"),
         Mistake::NoCapture => String::from_str(alloc, "no capture is named\n"),
-        Mistake::NotOneDescription { none: true } => {
-            String::from_str(alloc, "no session description is named\n")
-        }
-        Mistake::NotOneDescription { none: false } => {
+        Mistake::NoDescription => String::from_str(alloc, "no session description is named\n"),
+        Mistake::TooManyDescriptions => {
             String::from_str(alloc, "sdp takes one session description\n")
         }
         Mistake::TooManyCaptures(most) => too_many(alloc, command, most),

@@ -77,6 +77,7 @@ fn test_captures<'a>(alloc: Global, command: Command, parts: &Parts<'a>) -> Resu
 /// Returns `Err` unless `sdp` has exactly one session description, which can be a file name.
 fn test_description<'a>(alloc: Global, parts: &Parts<'a>) -> Result<(), Stop<'a>> {
     match parts.names.as_slice() {
+        [] => Err(Stop::Mistake(Mistake::NoDescription)),
         [name] => {
             if is_name(alloc, name)? {
                 Ok(())
@@ -84,10 +85,7 @@ fn test_description<'a>(alloc: Global, parts: &Parts<'a>) -> Result<(), Stop<'a>
                 Err(Stop::Mistake(Mistake::BadName(*name)))
             }
         }
-        names => {
-            let none = names.is_empty();
-            Err(Stop::Mistake(Mistake::NotOneDescription { none }))
-        }
+        _ => Err(Stop::Mistake(Mistake::TooManyDescriptions)),
     }
 }
 

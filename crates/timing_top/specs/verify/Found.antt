@@ -1,6 +1,6 @@
 -- The conditions between the steps that check violations.
 use Rattle.std.specs.Prelude.{◌≡◌, ◌+◌, ℕ, ⊤, Bool, List, [], ◌∷◌, map, slice_index_or, All, Contains, IfErr, IfOk}
-use Rattle.std.specs.Prelude.{Option, Result, Ok, Err}
+use Rattle.std.specs.Prelude.{Option, Result}
 use Rattle.timing_base.specs.Captures.{Record, joined}
 use Rattle.timing_base.specs.Jobs.{ReportJob}
 use Rattle.timing_base.specs.Media.{Media}

@@ -1,8 +1,7 @@
-use Rattle.std.proofs.Common.{rules, arith, ap, length, ◌≡◌, ◌∙◌, List, ℕ, Err, sym, subst}
+use Rattle.std.proofs.Common.{rules, arith, ap, length, ◌≡◌, ℕ, Err, sym, subst}
 use Rattle.std.specs.Prelude.{IfErr}
 use Rattle.pcapng_reader.specs.Classic.{classic_texts}
 use Rattle.pcapng_reader.specs.Sources.{faults_of, left_of, name_of}
-use Rattle.timing_base.specs.Jobs.{CheckJob}
 use Rattle.timing_report.specs.declared.status.Input.TheVariants as input
 use Rattle.timing_steps.specs.Answers.{AreThere, CaptureRose, OnReadFault, seen_of}
 use Rattle.timing_steps.specs.Fetched.{AreFetched}

@@ -4,13 +4,11 @@ use Rattle.std.specs.Prelude.{All, Result, map, slice_get, slice_index_or}
 use Rattle.std.proofs.lemmas.List.Elements.{All-cons, All-get_or, All-head, All-nil, All-tail, All-weaker}
 use Rattle.timing_base.specs.Jobs.{ReportJob}
 use Rattle.timing_base.specs.Media.{Media}
-use Rattle.timing_base.specs.declared.key.FlowKey.{FlowKey}
 use Rattle.timing_base.specs.declared.row.Unjudged.{Unjudged}
 use Rattle.timing_report.specs.declared.json_report.reading.ReportProof.{ReportProof}
 use Rattle.timing_steps.specs.Answers.{Answer, AreTold}
 use Rattle.timing_top.specs.verify.Asked.{AreTexts, FindsOf, HasReported, captures_for, captures_of, file_count, media_for, needed}
 use Rattle.timing_top.specs.verify.Findings.{Finds}
-use Rattle.timing_top.specs.declared.verify.checked.Checked.{Checked}
 use Rattle.timing_top.proofs.lemmas.verify.Needing.{unmapped}
 
 -- what is so of all captures of a job is so of those that are needed for a fail

@@ -1,13 +1,12 @@
 -- What the checker says of sources, as what is found in the captures that they were fetched from.
 use Rattle.std.proofs.Common.{◌≡◌, ◌≤◌, ◌<◌, ℕ, zero, suc, Bool, List, [], ◌∷◌, Option, refl, arith, ◌∙◌, sym, subst}
 use Rattle.std.proofs.lemmas.List.Elements.{All-head, All-tail, All-weaker}
-use Rattle.std.specs.Prelude.{All, IfOk, Result, Ok, Err, Some, None, slice_get}
+use Rattle.std.specs.Prelude.{All, Result, Err, Some, None, slice_get}
 use Rattle.timing_base.specs.Captures.{Record, joined}
 use Rattle.timing_base.specs.Judged.{judged}
 use Rattle.timing_base.specs.Media.{Media}
 use Rattle.timing_base.specs.declared.row.Unjudged.{Unjudged}
 use Rattle.timing_outside.specs.Causes.{Rose}
-use Rattle.pcap_reader.specs.Records.{AreRecords}
 use Rattle.pcap_reader.proofs.Captures.{some-records}
 use Rattle.udp_rtp.specs.Flow.{flow}
 use Rattle.interval_checker.specs.Asking.{IsAsked}

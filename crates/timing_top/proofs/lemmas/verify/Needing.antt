@@ -1,5 +1,5 @@
 -- The captures that the fails of a report need, and what is found in them.
-use Rattle.std.proofs.Common.{◌≡◌, ◌<◌, ◌+◌, ◌-◌, ℕ, Bool, true, false, List, [], ◌∷◌, length, take, drop, Option, Some, refl, arith, ap, ◌∙◌, sym, subst, inr}
+use Rattle.std.proofs.Common.{◌≡◌, ◌<◌, ◌+◌, ◌-◌, ℕ, true, false, List, [], ◌∷◌, length, take, drop, Option, Some, refl, arith, ap, ◌∙◌, sym, subst, inr}
 use Rattle.std.proofs.Common.{if◌then◌else◌}
 use Rattle.std.proofs.lemmas.List.{drop_more}
 use Rattle.std.proofs.lemmas.List.Elements.{All-cons, All-head, All-map, All-nil, All-tail, All-weaker}
@@ -8,13 +8,11 @@ use Rattle.std.specs.Option.{option_map}
 use Rattle.timing_base.specs.Jobs.{ReportJob}
 use Rattle.timing_base.specs.Media.{Media}
 use Rattle.timing_base.specs.declared.key.FlowKey.{FlowKey}
-use Rattle.timing_base.specs.declared.row.Unjudged.{Unjudged}
 use Rattle.pcapng_reader.specs.Classic.{classic, classic_texts}
 use Rattle.timing_report.specs.declared.json_report.reading.ReportProof.{ReportProof}
 use Rattle.timing_steps.specs.Answers.{Answer, AreThere, AreTold, Gives, Inputs, Yields}
 use Rattle.timing_steps.specs.declared.failure.Failure.{Failure}
-use Rattle.timing_top.specs.verify.Asked.{AreTexts, FindsOf, HasReported, ReadsNeeded, captures_for, captures_of, media_for, needed}
-use Rattle.timing_top.specs.verify.Findings.{Finds}
+use Rattle.timing_top.specs.verify.Asked.{AreTexts, HasReported, ReadsNeeded, captures_of, needed}
 use Rattle.timing_top.specs.verify.Found.{IsChecked}
 use Rattle.timing_top.specs.verify.Verified.{reported}
 use Rattle.timing_top.specs.declared.verify.checked.Checked.{Checked}

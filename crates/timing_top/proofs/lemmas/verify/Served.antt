@@ -14,7 +14,7 @@ use Rattle.timing_outside.specs.Shelves.{StaysAs}
 use Rattle.pcap_reader.specs.Records.{AreRecords}
 use Rattle.pcapng_reader.specs.Classic.{classic, classic_texts}
 use Rattle.interval_checker.specs.Asking.{AsksNoLess}
-use Rattle.interval_checker.specs.Readings.{AreSame, HasRead, HaveRead, HaveRoom, asked_by, count_taken, media_of, tai_of}
+use Rattle.interval_checker.specs.Readings.{AreSame, HasRead, HaveRead, HaveRoom, asked_by, count_taken}
 use Rattle.interval_checker.specs.declared.asked.Asked.{Asked}
 use Rattle.interval_checker.specs.declared.reading.Reading.{Reading}
 use Rattle.interval_checker.proofs.Asks.{asked-no_less}

@@ -1,4 +1,4 @@
-use Rattle.std.proofs.Common.{◌≡◌, Some, None, rules, sym, ap, ◌∙◌}
+use Rattle.std.proofs.Common.{◌≡◌, Some, None, rules, sym}
 use Rattle.pcapng_reader.specs.Classic.{classic_texts}
 use Rattle.timing_steps.proofs.Readings.{if_ok-map}
 use Rattle.timing_top.specs.verify.Asked.{media_for}
