@@ -1,7 +1,9 @@
 -- The packet that is expected after those of a flow: the one that continues the frame or field of the last packet.
-use Rattle.std.specs.Prelude.{ℕ, ◌-◌, false, Bool, ◌==◌, ◌||◌, if◌then◌else◌}
+use Rattle.std.specs.Prelude.{ℕ, ◌+◌, ◌-◌, ◌%◌, ◌^◌, false, Bool, ◌==◌, ◌||◌, if◌then◌else◌}
 use Rattle.std.specs.Prelude.{List, length, Option, Some, None, Ok, is_some}
+use Rattle.timing_base.specs.Numbered.{numbered}
 use Rattle.timing_base.specs.Flows.{first_fault, has_marker, next_number, rtp}
+use Rattle.timing_base.specs.Shifts.{FlowOptions}
 use Rattle.timing_base.specs.declared.packet.FlowPacket.{FlowPacket}
 use Rattle.timing_base.specs.declared.packet.Rtp.{Rtp}
 
@@ -43,3 +45,21 @@ expected_after packets pt =
 -- the packet that follows these, with this packet record and captured at this instant
 abbrev pub next_packet : List FlowPacket → (pt rec at : ℕ) → FlowPacket
 next_packet packets pt rec at = record { rec = rec; at = at; rtp = Ok (going_on packets pt (length packets)) }
+
+-- ---- with the options of a flow (`--seq16`): judged numbers may be counted ones, expected packets have their own
+
+-- what a counted number is above the number in the packet's bytes, modulo 2^32: a multiple of 65,536
+abbrev pub raise_of : (counted own : ℕ) → ℕ
+raise_of counted own = (counted + 2 ^ 32 - own) % 2 ^ 32
+
+-- the raise of the last packet of a flow; 0 if numbers aren't counted, or before the first packet
+abbrev pub raise_after : (seq16 : Bool) → List FlowPacket → ℕ
+raise_after seq16 packets =
+    raise_of (rtp (numbered seq16 packets) (length packets - 1)).number (rtp packets (length packets - 1)).number
+
+-- the packet that is expected after these, as it stands in the bytes of its frame: none, if the flow has a fault by
+-- its judged numbers
+abbrev pub expected_by_options : FlowOptions → List FlowPacket → ℕ → Option Rtp
+expected_by_options options packets pt =
+    if is_nothing_expected (numbered options.seq16 packets) pt then None
+    else Some (going_on packets pt (length packets))

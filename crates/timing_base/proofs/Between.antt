@@ -6,8 +6,9 @@ use Rattle.std.specs.Prelude.{◌==◌, cond, All, slice_index, slice_range}
 use Rattle.std.proofs.lemmas.Grind.{common_steps}
 use Rattle.std.proofs.lemmas.Bool.Decides.{leb_tells}
 use Rattle.std.proofs.lemmas.List.Elements.{All-take, All-drop}
-use Rattle.timing_base.specs.Judged.{FlowRun, runs_between, run_at, refusal, judged, refused_or, judged_runs, FlowVerdict, absent}
+use Rattle.timing_base.specs.Judged.{FlowRun, runs_between, run_at, refusal, judged_as_numbered, refused_or, judged_runs, FlowVerdict, absent}
 use Rattle.timing_base.specs.declared.packet.FlowPacket.{FlowPacket}
+use Rattle.timing_base.specs.Shifts.{Shift}
 use Rattle.timing_base.specs.Flows.{FirstFault}
 use Rattle.timing_base.specs.Flows.{is_cut, packet, places, fault, first_fault, cuts, markers, last_place}
 use Rattle.timing_base.specs.Grouped.{IsSized, EachSized}
@@ -16,10 +17,10 @@ use Rattle.timing_base.proofs.FirstFaults.{no_fault-at, first_fault-is}
 use Rattle.timing_base.proofs.Sizes.{sized-nil, sized-enter, sized-next}
 
 -- one cut more ends the last run, and begins another
-pub runs_between-push : (packets : List FlowPacket) (tai to from cut : ℕ) (before : List ℕ)
-    → runs_between packets tai to from (before ++ cut ∷ []) ≡ runs_between packets tai cut from before ++ run_at packets tai cut to ∷ []
-runs_between-push packets tai to from cut [] = refl
-runs_between-push packets tai to from cut (b ∷ before) = ap (λ rest. run_at packets tai from b ∷ rest) (runs_between-push packets tai to b cut before)
+pub runs_between-push : (packets : List FlowPacket) (shift : Shift) (to from cut : ℕ) (before : List ℕ)
+    → runs_between packets shift to from (before ++ cut ∷ []) ≡ runs_between packets shift cut from before ++ run_at packets shift cut to ∷ []
+runs_between-push packets shift to from cut [] = refl
+runs_between-push packets shift to from cut (b ∷ before) = ap (λ rest. run_at packets shift from b ∷ rest) (runs_between-push packets shift to b cut before)
 
 -- where there is no fault, the groups of each run are of one size
 pub each_sized : (packets : List FlowPacket) (pt : ℕ) → first_fault packets pt ≡ None → EachSized packets
@@ -56,20 +57,20 @@ pub all_range : (P : FlowPacket → Type 0) (packets : List FlowPacket) (a b : �
 all_range P packets a b all = All-take P (b - a) (drop a packets) (All-drop P a packets all)
 
 -- at a cut the run before it is done
-pub runs-cut : (packets : List FlowPacket) (tai i from : ℕ) (done new : List FlowRun) (run : FlowRun) → is_cut packets i ≡ true → new ≡ done ++ run ∷ []
-    → run ≡ run_at packets tai from i
-    → ((to : ℕ) → runs_between packets tai to 0 (cuts packets i) ≡ done ++ run_at packets tai from to ∷ [])
-    → (to : ℕ) → runs_between packets tai to 0 (cuts packets (i + 1)) ≡ new ++ run_at packets tai i to ∷ []
-runs-cut packets tai i from done new run e n r before to =
-    ap (runs_between packets tai to 0) (cuts-here packets i e)
-    ∙ (runs_between-push packets tai to 0 i (cuts packets i)
-    ∙ ap (λ rest. rest ++ run_at packets tai i to ∷ []) (before i ∙ (ap (λ (x : FlowRun). done ++ x ∷ []) (sym r) ∙ sym n)))
+pub runs-cut : (packets : List FlowPacket) (shift : Shift) (i from : ℕ) (done new : List FlowRun) (run : FlowRun) → is_cut packets i ≡ true → new ≡ done ++ run ∷ []
+    → run ≡ run_at packets shift from i
+    → ((to : ℕ) → runs_between packets shift to 0 (cuts packets i) ≡ done ++ run_at packets shift from to ∷ [])
+    → (to : ℕ) → runs_between packets shift to 0 (cuts packets (i + 1)) ≡ new ++ run_at packets shift i to ∷ []
+runs-cut packets shift i from done new run e n r before to =
+    ap (runs_between packets shift to 0) (cuts-here packets i e)
+    ∙ (runs_between-push packets shift to 0 i (cuts packets i)
+    ∙ ap (λ rest. rest ++ run_at packets shift i to ∷ []) (before i ∙ (ap (λ (x : FlowRun). done ++ x ∷ []) (sym r) ∙ sym n)))
 
 -- where no cut stands the run goes on
-pub runs-other : (packets : List FlowPacket) (tai i from : ℕ) (done : List FlowRun) → is_cut packets i ≡ false
-    → ((to : ℕ) → runs_between packets tai to 0 (cuts packets i) ≡ done ++ run_at packets tai from to ∷ [])
-    → (to : ℕ) → runs_between packets tai to 0 (cuts packets (i + 1)) ≡ done ++ run_at packets tai from to ∷ []
-runs-other packets tai i from done e before to = ap (runs_between packets tai to 0) (cuts-other packets i e) ∙ before to
+pub runs-other : (packets : List FlowPacket) (shift : Shift) (i from : ℕ) (done : List FlowRun) → is_cut packets i ≡ false
+    → ((to : ℕ) → runs_between packets shift to 0 (cuts packets i) ≡ done ++ run_at packets shift from to ∷ [])
+    → (to : ℕ) → runs_between packets shift to 0 (cuts packets (i + 1)) ≡ done ++ run_at packets shift from to ∷ []
+runs-other packets shift i from done e before to = ap (runs_between packets shift to 0) (cuts-other packets i e) ∙ before to
 
 -- a cut starts a run, and other packets go on
 pub start-cut : (packets : List FlowPacket) (i : ℕ) → is_cut packets i ≡ true → i ≡ last_place (0 ∷ cuts packets (i + 1))
@@ -79,15 +80,15 @@ pub start-other : (packets : List FlowPacket) (i : ℕ) → is_cut packets i ≡
 start-other packets i e = sym (run_start-other packets i e)
 
 -- the verdict on a flow with a fault
-pub judged-refused : (packets : List FlowPacket) (pt tai : ℕ) (x : FirstFault) (d : FlowPacket) (r : FlowVerdict) → (length packets == 0) ≡ false
+pub judged-refused : (packets : List FlowPacket) (pt : ℕ) (shift : Shift) (x : FirstFault) (d : FlowPacket) (r : FlowVerdict) → (length packets == 0) ≡ false
     → first_fault packets pt ≡ Some x
-    → r ≡ refusal (get_or packets x.index d).rec x.fault → r ≡ judged packets pt tai
-judged-refused packets pt tai x d r some e is =
+    → r ≡ refusal (get_or packets x.index d).rec x.fault → r ≡ judged_as_numbered packets pt shift
+judged-refused packets pt shift x d r some e is =
     let first = first_fault-is packets pt x e in
     let same : get_or packets x.index d ≡ packet packets x.index = grind (arith, common_steps, first.within) in
     is ∙ (ap (λ (p : FlowPacket). refusal p.rec x.fault) same
-    ∙ (sym (ap (λ f. refused_or packets f (judged_runs packets tai)) e)
-    ∙ ap (λ b. cond b absent (refused_or packets (first_fault packets pt) (judged_runs packets tai))) (sym some)))
+    ∙ (sym (ap (λ f. refused_or packets f (judged_runs packets shift)) e)
+    ∙ ap (λ b. cond b absent (refused_or packets (first_fault packets pt) (judged_runs packets shift))) (sym some)))
 
 no_cut-start : (xs : List ℕ) → length xs ≡ 0 → last_place (0 ∷ xs) ≡ 0
 no_cut-start [] e = refl

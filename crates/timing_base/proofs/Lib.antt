@@ -1,6 +1,8 @@
 pub mod Between
+pub mod Counting
 pub mod FirstFaults
 pub mod Grouped
+pub mod Numberings
 pub mod Numerals
 pub mod Places
 pub mod Sizes

@@ -4,6 +4,7 @@ use Rattle.timing_base.specs.Addresses.{ipv4}
 use Rattle.timing_base.specs.Captures.{Record}
 use Rattle.timing_base.specs.Judged.{RunOutcome, whole_frames}
 use Rattle.timing_base.specs.Media.{Media}
+use Rattle.timing_base.specs.Shifts.{FlowOptions}
 use Rattle.timing_base.specs.declared.media.Kind.{Kind}
 use Rattle.timing_base.specs.declared.media.Kind.TheVariants.{N}
 use Rattle.timing_base.specs.declared.packet.FlowPacket.{FlowPacket}
@@ -75,3 +76,11 @@ video interlaced p declared cmax = record {
 -- the media of the plain description: progressive, at 50 frames per second, declared narrow
 abbrev pub plain_media : Media
 plain_media = video false 50 (Some N) None
+
+-- the options with this many seconds added to each capture timestamp
+abbrev pub seconds_added : ℕ → FlowOptions
+seconds_added tai = record { shift = record { tai = tai; delay = 0 }; seq16 = false }
+
+-- the options by which packets are numbered by their sequence numbers alone
+abbrev pub by_sequence_numbers : FlowOptions
+by_sequence_numbers = record { shift = record { tai = 0; delay = 0 }; seq16 = true }

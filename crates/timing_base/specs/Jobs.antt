@@ -1,29 +1,36 @@
 -- The jobs that a command line requests, and the limits of their quantities. File names are lists of bytes; units and
 -- meanings are those of the fields in `src/job.rt`.
-use Rattle.std.specs.Prelude.{◌≡◌, ◌≤◌, ◌<◌, ℕ, Bool, false, List, length}
+use Rattle.std.specs.Prelude.{◌≡◌, ◌≤◌, ◌<◌, ℕ, Bool, false, List, length, Option, IfSome}
 use Rattle.timing_base.specs.declared.fail.FailProof.{FailProof}
 use Rattle.timing_base.specs.declared.job.ScanForm.{ScanForm}
 use Rattle.timing_base.specs.declared.media.Kind.{Kind}
+use Rattle.timing_base.specs.Shifts.{FlowOptions}
 
 -- `check`: judges the flows of captures
 pub record CheckJob : Type 0 where
   pub sdp : List ℕ
   pub captures : List (List ℕ)
   pub workers : ℕ
-  pub tai : ℕ
+  pub options : FlowOptions
   pub json : Bool
   pub joined : Bool
+  pub media : Option ℕ
 
 -- 1 to 16 captures
 pub record AreCaptures (captures : List (List ℕ)) : Type 0 where
   pub some : 1 ≤ length captures
   pub few : length captures ≤ 16
 
+-- 1 to 16 captures; if they aren't joined, one
+pub record AreInputs (joined : Bool) (captures : List (List ℕ)) : Type 0 where
+  pub captures_are : AreCaptures captures
+  pub alone : joined ≡ false → length captures ≡ 1
+
 -- the quantities of `check` are within their limits
 pub record IsCheckJob (job : CheckJob) : Type 0 where
   pub captures_are : AreCaptures job.captures
   pub workers_few : job.workers ≤ 16
-  pub tai_most : job.tai ≤ 1000
+  pub media_few : IfSome job.media (λ media. media < 64)
 
 -- `verify`: checks one claimed violation from the capture alone
 pub record VerifyJob : Type 0 where
@@ -31,29 +38,28 @@ pub record VerifyJob : Type 0 where
   pub media : ℕ
   pub kind : Kind
   pub proof : FailProof
-  pub tai : ℕ
+  pub options : FlowOptions
   pub captures : List (List ℕ)
   pub joined : Bool
 
--- the quantities of `verify` are within their limits; captures that aren't joined are one
+-- the quantities of `verify` are within their limits
 pub record IsVerifyJob (job : VerifyJob) : Type 0 where
   pub media_few : job.media < 64
-  pub tai_most : job.tai ≤ 1000
-  pub captures_are : AreCaptures job.captures
-  pub alone : job.joined ≡ false → length job.captures ≡ 1
+  pub inputs : AreInputs job.joined job.captures
 
 -- `verify-report`: checks each violation of a JSON report from the captures alone
 pub record ReportJob : Type 0 where
   pub sdp : List ℕ
   pub report : List ℕ
-  pub tai : ℕ
+  pub options : FlowOptions
   pub captures : List (List ℕ)
   pub joined : Bool
+  pub media : Option ℕ
 
 -- the quantities of `verify-report` are within their limits
 pub record IsReportJob (job : ReportJob) : Type 0 where
-  pub tai_most : job.tai ≤ 1000
   pub captures_are : AreCaptures job.captures
+  pub media_few : IfSome job.media (λ media. media < 64)
 
 -- `selftest`: runs the analyser over captures that it makes itself
 pub record SelfTestJob : Type 0 where
@@ -66,17 +72,18 @@ pub record IsSelfTestJob (job : SelfTestJob) : Type 0 where
   pub frames_few : job.frames ≤ 20000
   pub workers_few : job.workers ≤ 16
 
--- one flow of one capture
+-- one flow of one capture, or of joined captures
 pub record FlowJob : Type 0 where
   pub sdp : List ℕ
   pub media : ℕ
-  pub tai : ℕ
-  pub capture : List ℕ
+  pub options : FlowOptions
+  pub captures : List (List ℕ)
+  pub joined : Bool
 
 -- the quantities of a flow's job are within their limits
 pub record IsFlowJob (job : FlowJob) : Type 0 where
   pub media_few : job.media < 64
-  pub tai_most : job.tai ≤ 1000
+  pub inputs : AreInputs job.joined job.captures
 
 -- `shape`: delays the packets of a flow until they keep the limits of a sender type
 pub record ShapeJob : Type 0 where
@@ -98,15 +105,18 @@ pub record IsSkewJob (job : SkewJob) : Type 0 where
   pub some : 1 ≤ length job.captures
   pub few : length job.captures ≤ 2
 
--- all flows of one capture
+-- the flows of one capture, or of joined captures: of all media, or of one
 pub record CaptureJob : Type 0 where
   pub sdp : List ℕ
-  pub tai : ℕ
-  pub capture : List ℕ
+  pub media : Option ℕ
+  pub options : FlowOptions
+  pub captures : List (List ℕ)
+  pub joined : Bool
 
 -- the quantities of a capture's job are within their limits
 pub record IsCaptureJob (job : CaptureJob) : Type 0 where
-  pub tai_most : job.tai ≤ 1000
+  pub media_few : IfSome job.media (λ media. media < 64)
+  pub inputs : AreInputs job.joined job.captures
 
 -- `series`: prints the numbers of a flow, by frame or by packet
 pub record SeriesJob : Type 0 where

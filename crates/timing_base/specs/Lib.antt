@@ -7,8 +7,10 @@ pub mod Judged
 pub mod Keys
 pub mod Media
 pub mod Name
+pub mod Numbered
 pub mod Routes
 pub mod Rows
+pub mod Shifts
 pub mod Targets
 pub mod Verdicts
 -- flows for examples worked by hand

@@ -4,6 +4,7 @@ use crate::fail::FailProof;
 use crate::list::Items;
 use crate::media::Kind;
 use crate::name::FileName;
+use crate::shift::FlowOptions;
 use std::marker::Model;
 
 /// The command `check`: judges the flows of captures.
@@ -15,12 +16,14 @@ pub struct CheckJob {
     pub captures: Items<FileName>,
     /// The number of workers, 0 to 16; 0 is one thread for all.
     pub workers: u32,
-    /// The seconds that are added to each capture timestamp, 0 to 1,000.
-    pub tai: u64,
+    /// How packets are timed and numbered.
+    pub options: FlowOptions,
     /// Whether the report is printed as JSON.
     pub json: bool,
     /// Whether the captures are taken as one, in the order of the arguments.
     pub joined: bool,
+    /// The media that is judged alone, counted from 0, at most 63, or `None` for all of them.
+    pub media: Option<u32>,
 }
 
 impl Model for CheckJob {
@@ -28,7 +31,7 @@ impl Model for CheckJob {
 
     ghost Value = { Seen };
 
-    ghost view = { λ job. record { sdp = job.sdp; captures = job.captures; workers = job.workers; tai = job.tai; json = job.json; joined = job.joined } };
+    ghost view = { λ job. record { sdp = job.sdp; captures = job.captures; workers = job.workers; options = job.options; json = job.json; joined = job.joined; media = job.media } };
 
     ghost invariant = { λ job. IsCheckJob (view job) };
 }
@@ -44,8 +47,8 @@ pub struct VerifyJob {
     pub kind: Kind,
     /// The claimed violation.
     pub proof: FailProof,
-    /// The seconds that are added to each capture timestamp, 0 to 1,000.
-    pub tai: u64,
+    /// How packets are timed and numbered.
+    pub options: FlowOptions,
     /// The capture files: exactly one, or 1 to 16 if they are joined.
     pub captures: Items<FileName>,
     /// Whether the captures are taken as one, in the order of the arguments.
@@ -62,7 +65,7 @@ impl Model for VerifyJob {
       media = job.media;
       kind = job.kind;
       proof = job.proof;
-      tai = job.tai;
+      options = job.options;
       captures = job.captures;
       joined = job.joined;
     } };
@@ -77,12 +80,14 @@ pub struct ReportJob {
     pub sdp: FileName,
     /// The file name of the JSON report.
     pub report: FileName,
-    /// The seconds that are added to each capture timestamp, 0 to 1,000.
-    pub tai: u64,
+    /// How packets are timed and numbered.
+    pub options: FlowOptions,
     /// The capture files, 1 to 16.
     pub captures: Items<FileName>,
     /// Whether the captures are taken as one, in the order of the arguments.
     pub joined: bool,
+    /// The media that is judged alone, counted from 0, at most 63, or `None` for all of them.
+    pub media: Option<u32>,
 }
 
 impl Model for ReportJob {
@@ -90,7 +95,7 @@ impl Model for ReportJob {
 
     ghost Value = { Seen };
 
-    ghost view = { λ job. record { sdp = job.sdp; report = job.report; tai = job.tai; captures = job.captures; joined = job.joined } };
+    ghost view = { λ job. record { sdp = job.sdp; report = job.report; options = job.options; captures = job.captures; joined = job.joined; media = job.media } };
 
     ghost invariant = { λ job. IsReportJob (view job) };
 }
@@ -116,17 +121,19 @@ impl Model for SelfTestJob {
     ghost inverse = { λ job. record { frames = job.frames; workers = job.workers } };
 }
 
-/// One flow of one capture.
+/// One flow of one capture, or of joined captures.
 #[derive(Debug, Drop)]
 pub struct FlowJob {
     /// The file name of the session description.
     pub sdp: FileName,
     /// The media, counted from 0, at most 63.
     pub media: u32,
-    /// The seconds that are added to each capture timestamp, 0 to 1,000.
-    pub tai: u64,
-    /// The capture file.
-    pub capture: FileName,
+    /// How packets are timed and numbered.
+    pub options: FlowOptions,
+    /// The capture files: exactly one, or 1 to 16 if they are joined.
+    pub captures: Items<FileName>,
+    /// Whether the captures are taken as one, in the order of the arguments.
+    pub joined: bool,
 }
 
 impl Model for FlowJob {
@@ -134,7 +141,7 @@ impl Model for FlowJob {
 
     ghost Value = { Seen };
 
-    ghost view = { λ job. record { sdp = job.sdp; media = job.media; tai = job.tai; capture = job.capture } };
+    ghost view = { λ job. record { sdp = job.sdp; media = job.media; options = job.options; captures = job.captures; joined = job.joined } };
 
     ghost invariant = { λ job. IsFlowJob (view job) };
 }
@@ -181,15 +188,19 @@ impl Model for SkewJob {
     ghost invariant = { λ job. IsSkewJob (view job) };
 }
 
-/// All flows of one capture.
+/// The flows of one capture, or of joined captures: of all media, or of one.
 #[derive(Debug, Drop)]
 pub struct CaptureJob {
     /// The file name of the session description.
     pub sdp: FileName,
-    /// The seconds that are added to each capture timestamp, 0 to 1,000.
-    pub tai: u64,
-    /// The capture file.
-    pub capture: FileName,
+    /// The media that is judged alone, counted from 0, at most 63, or `None` for all of them.
+    pub media: Option<u32>,
+    /// How packets are timed and numbered.
+    pub options: FlowOptions,
+    /// The capture files: exactly one, or 1 to 16 if they are joined.
+    pub captures: Items<FileName>,
+    /// Whether the captures are taken as one, in the order of the arguments.
+    pub joined: bool,
 }
 
 impl Model for CaptureJob {
@@ -197,7 +208,7 @@ impl Model for CaptureJob {
 
     ghost Value = { Seen };
 
-    ghost view = { λ job. record { sdp = job.sdp; tai = job.tai; capture = job.capture } };
+    ghost view = { λ job. record { sdp = job.sdp; media = job.media; options = job.options; captures = job.captures; joined = job.joined } };
 
     ghost invariant = { λ job. IsCaptureJob (view job) };
 }

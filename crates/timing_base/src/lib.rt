@@ -3,7 +3,7 @@
 //! a command line requests. The crate also defines the faults, gaps and judged packets of a flow;
 //! the crates above compute them.
 //!
-//! The types of media, sessions, jobs, file names, judged runs and lists of runs guarantee the
+//! The types of media, sessions, jobs, shifts, file names, judged runs and lists of runs guarantee the
 //! limits of their quantities. All other types hold any values.
 //!
 //! Files, media, frames and judged packets count from 0 here. In printed text files, media and runs
@@ -21,6 +21,7 @@ mod media;
 mod name;
 mod packet;
 mod row;
+mod shift;
 mod target;
 pub mod worked;
 
@@ -37,4 +38,5 @@ pub use media::{Kind, Media, Session};
 pub use name::FileName;
 pub use packet::{FlowPacket, PacketFault, Rtp};
 pub use row::{Judged, KindVerdict, Row, Run, RunVerdict, Runs, Unjudged, Verdict};
+pub use shift::{FlowOptions, Shift};
 pub use target::Target;

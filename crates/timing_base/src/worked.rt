@@ -12,6 +12,7 @@ use crate::media::{Kind, Media, Session};
 use crate::name::FileName;
 use crate::packet::Rtp;
 use crate::row::{Judged, KindVerdict};
+use crate::shift::FlowOptions;
 use std::alloc::{AllocError as OutOfMemory, Global};
 
 /// The plain video stream: 1080 lines, progressive, at 50 frames per second, to 239.0.0.1:50000,
@@ -104,9 +105,10 @@ pub fn check_of(alloc: Global, capture: &str, json: bool) -> Result<CheckJob, Ou
         sdp,
         captures: Items::from_vec(captures),
         workers: 0,
-        tai: 0,
+        options: FlowOptions::NONE,
         json,
         joined: false,
+        media: None,
     })
 }
 

@@ -2,6 +2,7 @@
 -- eight bytes, the most significant byte first: RFC 791, appendix B).
 -- This project's own form, for fewer comparisons: `destination` is bytes 30 to 37 with zeros for the source port,
 -- `head` is bytes 42 to 45, `timestamp` is bytes 46 to 49, and `rest` is bytes 48 to 55, which overlap those.
+-- Packet numbers are those in the bytes, also of a flow that is judged by counted numbers (`--seq16`).
 use Rattle.std.specs.Prelude.{ℕ, ◌+◌, ◌*◌, ◌/◌, ◌%◌, ◌^◌, ◌==◌, ◌&&◌, ◌||◌, if◌then◌else◌}
 use Rattle.std.specs.Prelude.{nat_le, nat_lt, not, false, Bool, List, drop, Option, Some, None}
 use Rattle.timing_base.specs.Flows.{next_number}
