@@ -1,13 +1,13 @@
 -- Counted numbers keep sequence numbers, and so gaps, up to a multiple of 65,536.
-use Rattle.std.proofs.Common.{◌≡◌, ◌≤◌, ◌<◌, ◌+◌, ◌-◌, ◌%◌, ◌^◌, ℕ, zero, suc, Bool, true, false, List, [], ◌∷◌, ◌++◌, length, Option, Some, None, refl, arith, ap, ◌∙◌}
-use Rattle.std.proofs.Common.{sym, subst}
-use Rattle.std.specs.Prelude.{All, Result, Ok, Err, nat_lt, not, ◌&&◌, ◌==◌, if◌then◌else◌, nat_le}
+use Rattle.std.proofs.Common.{◌≡◌, ◌<◌, ◌+◌, ◌-◌, ◌%◌, ◌^◌, ℕ, zero, suc, Bool, true, false, List, [], ◌∷◌, ◌++◌, length, Option, Some, None, refl, arith, ap, ◌∙◌}
+use Rattle.std.proofs.Common.{sym}
+use Rattle.std.specs.Prelude.{Result, Ok, Err, nat_lt, not, ◌&&◌, ◌==◌, if◌then◌else◌, nat_le}
 use Rattle.std.proofs.lemmas.Bool.Decides.{nat_tests}
 use Rattle.std.proofs.lemmas.List.Elements.{All-head, All-tail}
 use Rattle.timing_base.specs.declared.packet.FlowPacket.{FlowPacket}
 use Rattle.timing_base.specs.declared.packet.PacketFault.{PacketFault}
 use Rattle.timing_base.specs.declared.packet.Rtp.{Rtp}
-use Rattle.timing_base.specs.Flows.{cuts, expected_number, is_cut, next_number, places, read_or_zeros, rtp}
+use Rattle.timing_base.specs.Flows.{cuts, is_cut, next_number, places, read_or_zeros, rtp}
 use Rattle.timing_base.specs.Numbered.{AreRead, IsRead, LosesNoRound, ahead_of, counted, counted_from, counted_rtp, is_jump, missing, number_after, numbered, sequence}
 
 sequence-counted : (before : Option ℕ) (n : ℕ) → sequence (counted before n) ≡ sequence n

@@ -264,8 +264,8 @@ judged-case : (b : Bool) (verdict : FlowVerdict) → IsGroupedVerdict verdict �
 judged-case true verdict h = tt
 judged-case false verdict h = h
 
--- what is judged_as_numbered of a flow
-pub judged-grouped : (packets : List FlowPacket) (pt : ℕ) (shift : Shift) → length packets < 2 ^ 41 → IsShift shift → AreStamped packets
+-- what is judged of a flow by its packet numbers as they are
+pub numbered-grouped : (packets : List FlowPacket) (pt : ℕ) (shift : Shift) → length packets < 2 ^ 41 → IsShift shift → AreStamped packets
     → IsGroupedVerdict (judged_as_numbered packets pt shift)
 numbered-grouped packets pt shift few h all =
     judged-case (length packets == 0) _ (refused-case packets (first_fault packets pt) (judged_runs packets shift) (unfaulted-grouped packets pt shift few h all))

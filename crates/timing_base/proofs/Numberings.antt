@@ -1,6 +1,5 @@
 -- The packets of a flow with counted numbers: as many, at the same instants, and one packet on.
 use Rattle.std.proofs.Common.{◌≡◌, ℕ, Bool, true, false, List, [], ◌∷◌, ◌++◌, length, Option, None, refl, arith, ap}
-use Rattle.std.specs.Prelude.{All}
 use Rattle.std.proofs.lemmas.List.Elements.{All-nil, All-cons, All-head, All-tail}
 use Rattle.timing_base.specs.declared.packet.FlowPacket.{FlowPacket}
 use Rattle.timing_base.specs.Captures.{IsStamp}
@@ -9,7 +8,7 @@ use Rattle.timing_base.specs.Numbered.{counted_from, counted_packet, counted_rtp
 
 length-counted_from : (before : Option ℕ) (packets : List FlowPacket) → length (counted_from before packets) ≡ length packets
 length-counted_from before [] = refl
-length-counted_from before (p ∷ ps) = ap (λ n. n + 1) (length-counted_from (number_after before (counted_rtp before p.rtp)) ps)
+length-counted_from before (p ∷ ps) = omega (arith, length-counted_from (number_after before (counted_rtp before p.rtp)) ps)
 
 -- a flow has as many packets, whatever their numbers
 pub length-numbered : (seq16 : Bool) (packets : List FlowPacket) → length (numbered seq16 packets) ≡ length packets

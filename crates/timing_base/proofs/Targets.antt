@@ -1,5 +1,5 @@
 -- Targets that are told to be equal are equal.
-use Rattle.std.proofs.Common.{◌≡◌, ◌==◌, ◌&&◌, true, ap, ap₂, eqb-true, eq-eqb, refl}
+use Rattle.std.proofs.Common.{◌≡◌, ◌==◌, true, eqb-true, eq-eqb, refl}
 use Rattle.std.proofs.lemmas.Bool.{and_from, and_parts}
 use Rattle.timing_base.specs.Addresses.{is_same_address}
 use Rattle.timing_base.specs.Targets.{is_same_target}

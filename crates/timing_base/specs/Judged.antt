@@ -1,6 +1,6 @@
 -- What is judged of a flow: its runs, and in each the packets of whole frames or fields.
 -- A run is what lies between two gaps in the packet numbers. Its packets up to and including the first marker are the
--- head, those after the last marker the shiftl, and those between are judged.
+-- head, those after the last marker the tail, and those between are judged.
 -- Times are nanoseconds; a group is a frame of a progressive video or a field of an interlaced one.
 use Rattle.std.specs.Prelude.{ℕ, ◌+◌, ◌-◌, ◌==◌, nat_lt, if◌then◌else◌, List, [], ◌∷◌, length, map}
 use Rattle.std.specs.Prelude.{slice_index, slice_range, Option, Some, None}
@@ -20,7 +20,7 @@ pub record JudgedRun : Type 0 where
   pub groups : ℕ
   -- the number of packets before the judged ones, and of those after them
   pub head : ℕ
-  pub shiftl : ℕ
+  pub tail : ℕ
   -- the capture timestamp of each judged packet after the shift, in nanoseconds of TAI
   pub stamps : List ℕ
 
@@ -63,7 +63,7 @@ judged_run packets shift from to = let marks = markers packets from to in record
   n = group_len marks;
   groups = length marks - 1;
   head = head_len marks from to;
-  shiftl = to - (last_place marks + 1);
+  tail = to - (last_place marks + 1);
   stamps = map (stamp_of shift) (slice_range packets (slice_index marks 0 + 1) (last_place marks + 1));
 }
 
