@@ -46,19 +46,22 @@ expected_after packets pt =
 abbrev pub next_packet : List FlowPacket → (pt rec at : ℕ) → FlowPacket
 next_packet packets pt rec at = record { rec = rec; at = at; rtp = Ok (going_on packets pt (length packets)) }
 
--- ---- with the options of a flow (`--seq16`): judged numbers may be counted ones, expected packets have their own
+-- the packet number of the last packet; none before the first
+abbrev pub last_number_of : List FlowPacket → Option ℕ
+last_number_of packets = if length packets == 0 then None else Some (rtp packets (length packets - 1)).number
 
--- what a counted number is above the number in the packet's bytes, modulo 2^32: a multiple of 65,536
+-- what a counted number (`--seq16`) is above the number in the packet's bytes, modulo 2^32: a multiple of 65,536
 abbrev pub raise_of : (counted own : ℕ) → ℕ
 raise_of counted own = (counted + 2 ^ 32 - own) % 2 ^ 32
 
--- the raise of the last packet of a flow; 0 if numbers aren't counted, or before the first packet
+-- what the judged number of the last packet of a flow is above that in its bytes, modulo 2^32; 0 if numbers aren't
+-- counted, or before the first packet
 abbrev pub raise_after : (seq16 : Bool) → List FlowPacket → ℕ
 raise_after seq16 packets =
     raise_of (rtp (numbered seq16 packets) (length packets - 1)).number (rtp packets (length packets - 1)).number
 
--- the packet that is expected after these, as it stands in the bytes of its frame: none, if the flow has a fault by
--- its judged numbers
+-- the packet that is expected after these, with its number as it stands in the bytes of its frame: none, if the flow
+-- has a fault by its judged numbers
 abbrev pub expected_by_options : FlowOptions → List FlowPacket → ℕ → Option Rtp
 expected_by_options options packets pt =
     if is_nothing_expected (numbered options.seq16 packets) pt then None

@@ -3,10 +3,10 @@
 ghost use Rattle.std.specs.Prelude.{◌≡◌, ◌≤◌, ◌<◌, ◌+◌, ◌^◌, ◌++◌, ◌∷◌, [], ℕ, List, Ok, None, Some, true, false, length, IfOk, IfSome};
 ghost use Rattle.std.specs.Option.{ForSome};
 ghost use Rattle.timing_base.specs.declared.packet.FlowPacket.{FlowPacket};
-ghost use Rattle.timing_base.specs.Flows.{cuts, fault, fault_if, first_of, is_second_source, markers_before, order_fault};
+ghost use Rattle.timing_base.specs.Flows.{cuts, fault, fault_if, first_fault, first_of, is_second_source, markers_before, order_fault};
 ghost use Rattle.timing_base.specs.declared.packet.PacketFault.TheVariants.{SecondSource};
 ghost use Rattle.frame_group.specs.Cuts.{answer_at, cut_at};
-ghost use Rattle.frame_group.specs.Expected.{after, expected_after, going_on, next_packet};
+ghost use Rattle.frame_group.specs.Expected.{after, expected_after, going_on, last_number_of, next_packet};
 
 use crate::before::Before;
 use crate::group::Group;
@@ -229,6 +229,18 @@ impl Grouper {
             pt: self.pt,
             ssrc: before.source,
         })
+    }
+
+    /// Returns the packet number of the last packet, or `None` before the first packet and after a fault.
+    #[inline(always)]
+    pub fn last_number(&self) -> Option<u32>
+        ensures { (pt : ℕ) (packets : List FlowPacket) → StandsFor pt self.now packets
+            → first_fault packets pt ≡ None → result ≡ last_number_of packets }
+    {
+        match self.before {
+            None => None,
+            Some(before) => Some(before.number),
+        }
     }
 
     /// Takes the next packet as [`Grouper::feed`] does if it continues a frame or field, with the RTP timestamp of the

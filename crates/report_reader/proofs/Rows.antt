@@ -10,6 +10,8 @@ use Rattle.timing_base.specs.declared.row.KindVerdict.{KindVerdict}
 use Rattle.timing_base.specs.declared.row.KindVerdict.TheVariants.{Pass}
 use Rattle.timing_base.specs.Flows.{FirstFault, first_fault, packet as packet_at}
 use Rattle.timing_base.specs.Judged.{FlowRun, FlowVerdict, RunOutcome, absent, in_one_run, in_runs, judged, judged_runs, refused, refused_or, refusal}
+use Rattle.timing_base.specs.Numbered.{numbered}
+use Rattle.timing_base.specs.Shifts.{FlowOptions, Shift}
 use Rattle.timing_base.specs.declared.packet.FlowPacket.{FlowPacket}
 use Rattle.timing_base.specs.declared.packet.PacketFault.{PacketFault}
 use Rattle.timing_base.specs.declared.packet.PacketFault.TheVariants as packet
@@ -153,17 +155,19 @@ unfolding number_refused
 runs_or_one true one more = refl
 runs_or_one false one more = refl
 
-refused_or_judged : (packets : List FlowPacket) (tai : ℕ) (first : Option FirstFault)
-    → number_refused (refused_or packets first (judged_runs packets tai)) ≡ false
-refused_or_judged packets tai (Some first) = gap_or_other (packet_at packets first.index).rec first.fault
-refused_or_judged packets tai None = runs_or_one _ _ _
+refused_or_judged : (packets : List FlowPacket) (shift : Shift) (first : Option FirstFault)
+    → number_refused (refused_or packets first (judged_runs packets shift)) ≡ false
+refused_or_judged packets shift (Some first) = gap_or_other (packet_at packets first.index).rec first.fault
+refused_or_judged packets shift None = runs_or_one _ _ _
 
 absent_or : (b : Bool) (found : FlowVerdict) → number_refused found ≡ false → number_refused (if b then absent else found) ≡ false
 unfolding number_refused
 absent_or true found h = refl
 absent_or false found h = h
 
-pub none_for_number : (packets : List FlowPacket) (pt tai rec : ℕ) (fault : PacketFault) → judged packets pt tai ≡ refused rec fault → is_number fault ≡ false
+pub none_for_number : (packets : List FlowPacket) (pt : ℕ) (options : FlowOptions) (rec : ℕ) (fault : PacketFault)
+    → judged packets pt options ≡ refused rec fault → is_number fault ≡ false
 unfolding number_refused
-none_for_number packets pt tai rec fault e =
-    sym (ap number_refused e) ∙ absent_or (length packets == 0) _ (refused_or_judged packets tai (first_fault packets pt))
+none_for_number packets pt options rec fault e =
+    let counted = numbered options.seq16 packets in
+    sym (ap number_refused e) ∙ absent_or (length counted == 0) _ (refused_or_judged counted options.shift (first_fault counted pt))

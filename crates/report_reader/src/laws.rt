@@ -7,6 +7,7 @@ ghost use Rattle.serde_json.specs.Data.{boolean, string};
 ghost use Rattle.timing_base.specs.Jobs.{CheckJob};
 ghost use Rattle.timing_base.specs.Judged.{judged as judged_of_packets, refused};
 ghost use Rattle.timing_base.specs.Media.{Media};
+ghost use Rattle.timing_base.specs.Shifts.{FlowOptions};
 ghost use Rattle.timing_base.specs.declared.capture.FileNote.{FileNote};
 ghost use Rattle.timing_base.specs.declared.capture.FileNote.TheVariants as note;
 ghost use Rattle.timing_base.specs.declared.capture.PcapFault.TheVariants as pcap;
@@ -96,8 +97,8 @@ pub fn one_json_has_one_result()
 
 /// No flow is refused for the fault `Number`: one gap too many is reported as a gap.
 pub fn none_is_refused_for_number()
-    ensures { (packets : List FlowPacket) (pt tai rec : ℕ) (fault : PacketFault)
-        → judged_of_packets packets pt tai ≡ refused rec fault → is_number fault ≡ false }
+    ensures { (packets : List FlowPacket) (pt : ℕ) (options : FlowOptions) (rec : ℕ) (fault : PacketFault)
+        → judged_of_packets packets pt options ≡ refused rec fault → is_number fault ≡ false }
 {}
 
 /// A line `  K pass` stands below a flow exactly if it is judged as one run and passes as type K, and a line

@@ -1,8 +1,9 @@
 -- The judged runs of a flow: the input of a run's meter, and the results for the run's packets. A run stands between
 -- two gaps; its judged packets are those after its first marker, up to and including its last marker. Packets of a list
--- count from 0, runs and packet records from 1. Capture timestamps are in nanoseconds, and `tai` seconds are added to
--- them. This project's profile.
+-- count from 0, runs and packet records from 1. Capture timestamps are in nanoseconds; those of a flow have one shift.
+-- This project's profile.
 use Rattle.std.specs.Prelude.{◌≡◌, ◌≤◌, ◌<◌, ◌*◌, ◌||◌, ℕ, Bool, true, false, nat_lt, List, [], ◌∷◌, length, map}
+use Rattle.timing_base.specs.Shifts.{Shift}
 use Rattle.timing_base.specs.Flows.{read_or_zeros}
 use Rattle.timing_base.specs.Judged.{stamp_of}
 use Rattle.timing_base.specs.Media.{Media}
@@ -45,15 +46,15 @@ pub record JudgedPart : Type 0 where
   -- judged packets
   pub packets : List FlowPacket
 
--- the capture timestamps of packets, with `tai` seconds added, in nanoseconds
-abbrev pub stamps_of : (tai : ℕ) → List FlowPacket → List ℕ
-stamps_of tai packets = map (stamp_of tai) packets
+-- the capture timestamps of packets after the shift, in nanoseconds
+abbrev pub stamps_of : (shift : Shift) → List FlowPacket → List ℕ
+stamps_of shift packets = map (stamp_of shift) packets
 
 -- a packet as it is fed to a meter
-abbrev pub told_of : (tai : ℕ) → FlowPacket → RunPacket
-told_of tai p = record {
+abbrev pub told_of : (shift : Shift) → FlowPacket → RunPacket
+told_of shift p = record {
   rec = p.rec;
-  at = stamp_of tai p;
+  at = stamp_of shift p;
   timestamp = (read_or_zeros p.rtp).timestamp;
 }
 
@@ -90,11 +91,11 @@ NameFirst m n stamps (narrow ∷ narrow_linear ∷ wide ∷ []) =
 NameFirst m n stamps _ = ⊥
 
 -- `values` is a result of run r with these judged packets
-pub record IsJudgedOf (m : Media) (tai : ℕ) (r : RunOf) (packets : List FlowPacket) (values : Judged) : Type 0 where
+pub record IsJudgedOf (m : Media) (shift : Shift) (r : RunOf) (packets : List FlowPacket) (values : Judged) : Type 0 where
   pub n_is : values.n ≡ r.n
   pub some : 1 ≤ values.frames
   pub whole : length packets ≡ r.n * values.frames
-  pub names : NameFirst m r.n (stamps_of tai packets) values.kinds
+  pub names : NameFirst m r.n (stamps_of shift packets) values.kinds
 
 -- a run that has ended, with its result
 abbrev pub part_of : RunOf → Judged → (packets : List FlowPacket) → JudgedPart

@@ -26,13 +26,13 @@ impl<A: RunMeter, B: RunMeter> RunMeter for Pair<A, B> {
 
     ghost WANTS_LEVELS = { A.WANTS_LEVELS || B.WANTS_LEVELS };
 
-    ghost stands = { λ x m tai r fed committed.
-        A.stands x.first m tai r fed committed × B.stands x.second m tai r fed committed };
+    ghost stands = { λ x m shift r fed committed.
+        A.stands x.first m shift r fed committed × B.stands x.second m shift r fed committed };
 
     ghost Past = { A.Past × B.Past };
 
-    ghost tells = { λ past out m tai over part.
-        A.tells past.0 out.0 m tai over part × B.tells past.1 out.1 m tai over part };
+    ghost tells = { λ past out m shift over part.
+        A.tells past.0 out.0 m shift over part × B.tells past.1 out.1 m shift over part };
 
     #[inline]
     fn begin(
@@ -76,8 +76,8 @@ impl<A: RunMeter, B: RunMeter> RunMeter for Pair<A, B> {
         second.close(params, judged, &mut out.1)
     }
 
-    ghost opens = { λ past out m tai over r tells. (
-      A.opens past.0 out.0 m tai over r tells.0,
-      B.opens past.1 out.1 m tai over r tells.1,
+    ghost opens = { λ past out m shift over r tells. (
+      A.opens past.0 out.0 m shift over r tells.0,
+      B.opens past.1 out.1 m shift over r tells.1,
     ) };
 }

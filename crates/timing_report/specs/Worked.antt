@@ -2,6 +2,7 @@
 -- frame.
 use Rattle.std.specs.Prelude.{ℕ, ◌+◌, false, List, [], ◌∷◌, Some, None, codes}
 use Rattle.timing_base.specs.Jobs.{CheckJob}
+use Rattle.timing_base.specs.Shifts.{no_options}
 use Rattle.timing_base.specs.Verdicts.{Judged}
 use Rattle.timing_base.specs.declared.fail.Broken.{Broken}
 use Rattle.timing_base.specs.declared.fail.Broken.TheVariants.{Bucket}
@@ -55,4 +56,12 @@ second_flow verdict = record { key = record { file = 0; media = 1 }; verdict = v
 
 -- a `check` of one capture
 abbrev pub check_of : List ℕ → CheckJob
-check_of name = record { sdp = codes "p.sdp"; captures = name ∷ []; workers = 0; tai = 0; json = false; joined = false }
+check_of name = record {
+  sdp = codes "p.sdp";
+  captures = name ∷ [];
+  workers = 0;
+  options = no_options;
+  json = false;
+  joined = false;
+  media = None;
+}
