@@ -3,11 +3,11 @@ use Rattle.std.proofs.Common.{◌≡◌, ◌-◌, ℕ, Bool, true, false, List, 
 use Rattle.std.specs.Option.{ForSome}
 use Rattle.std.specs.Prelude.{is_some, ◌||◌, ◌==◌, if◌then◌else◌}
 use Rattle.std.proofs.lemmas.Bool.Decides.{nat_tests}
-use Rattle.timing_base.specs.Flows.{FirstFault, first_fault, has_marker}
+use Rattle.timing_base.specs.Flows.{FirstFault, first_fault, has_marker, rtp}
 use Rattle.timing_base.specs.declared.packet.FlowPacket.{FlowPacket}
 use Rattle.timing_base.specs.declared.packet.PacketFault.{PacketFault}
 use Rattle.timing_base.specs.declared.packet.Rtp.{Rtp}
-use Rattle.frame_group.specs.Expected.{after, expected_after, going_on, is_nothing_expected, next_of, with_number}
+use Rattle.frame_group.specs.Expected.{after, expected_after, going_on, is_nothing_expected, last_number_of, next_of, with_number}
 use Rattle.frame_group.specs.Reads.{ComesAfter, IsAfter, after_number, expected_by}
 use Rattle.frame_group.specs.Stands.{StandsBefore, StandsFor, expected_of, what}
 use Rattle.frame_group.specs.declared.before.Before.{Before}
@@ -102,3 +102,29 @@ goes-so false p q e = cc
 -- the packet that is expected goes on after the others
 pub expected-goes : (packets : List FlowPacket) (pt : ℕ) (p : Rtp) → Some p ≡ expected_after packets pt → p ≡ going_on packets pt (length packets)
 expected-goes packets pt p e = goes-so (is_nothing_expected packets pt) p (going_on packets pt (length packets)) e
+
+-- what a grouper keeps of the packets that it was fed, which have no fault
+kept-of : (g : Grouper) (pt : ℕ) (packets : List FlowPacket) → StandsFor pt g packets → first_fault packets pt ≡ None
+    → ComesAfter packets (length packets) g.before
+kept-of g pt packets s none =
+    let before : StandsBefore packets pt (length packets) g =
+    subst (λ (l : List FlowPacket). StandsBefore l pt (length packets) g) (append-nil packets) (s.ahead []) in
+    (before.kept (before.fault ∙ ap what none)).before
+
+last-by : (packets : List FlowPacket) (b : Bool) → (length packets == 0) ≡ b → last_number_of packets
+    ≡ (if b then None else Some (rtp packets (length packets - 1)).number)
+last-by packets b e = ap (λ (c : Bool). if c then None else Some (rtp packets (length packets - 1)).number) e
+
+-- no number is kept before the first packet
+pub last-none : (g : Grouper) (pt : ℕ) (packets : List FlowPacket) → StandsFor pt g packets → first_fault packets pt ≡ None → g.before ≡ None
+    → None ≡ last_number_of packets
+last-none g pt packets s none e =
+    let kept : ComesAfter packets (length packets) None = subst (ComesAfter packets (length packets)) e (kept-of g pt packets s none) in
+    sym (last-by packets true (grind (arith, nat_tests, kept)))
+
+-- the number that is kept is that of the last packet
+pub last-some : (g : Grouper) (b : Before) (pt : ℕ) (packets : List FlowPacket) → StandsFor pt g packets → first_fault packets pt ≡ None
+    → g.before ≡ Some b → Some b.number ≡ last_number_of packets
+last-some g b pt packets s none e =
+    let kept : IsAfter packets (length packets) b = subst (ComesAfter packets (length packets)) e (kept-of g pt packets s none) in
+    ap (λ (n : ℕ). Some n) kept.number ∙ sym (last-by packets false (grind (arith, nat_tests, kept.later)))
