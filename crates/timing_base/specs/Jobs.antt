@@ -1,10 +1,10 @@
 -- The jobs that a command line requests, and the limits of their quantities. File names are lists of bytes; units and
 -- meanings are those of the fields in `src/job.rt`.
-use Rattle.std.specs.Prelude.{◌≡◌, ◌≤◌, ◌<◌, ℕ, Bool, false, List, length, Option, IfSome}
+use Rattle.std.specs.Prelude.{◌≡◌, ◌≤◌, ◌<◌, ℕ, Bool, false, List, length}
 use Rattle.timing_base.specs.declared.fail.FailProof.{FailProof}
 use Rattle.timing_base.specs.declared.job.ScanForm.{ScanForm}
 use Rattle.timing_base.specs.declared.media.Kind.{Kind}
-use Rattle.timing_base.specs.Shifts.{FlowOptions}
+use Rattle.timing_base.specs.Shifts.{FlowOptions, AreFlowOptions}
 
 -- `check`: judges the flows of captures
 pub record CheckJob : Type 0 where
@@ -14,23 +14,17 @@ pub record CheckJob : Type 0 where
   pub options : FlowOptions
   pub json : Bool
   pub joined : Bool
-  pub media : Option ℕ
 
 -- 1 to 16 captures
 pub record AreCaptures (captures : List (List ℕ)) : Type 0 where
   pub some : 1 ≤ length captures
   pub few : length captures ≤ 16
 
--- 1 to 16 captures; if they aren't joined, one
-pub record AreInputs (joined : Bool) (captures : List (List ℕ)) : Type 0 where
-  pub captures_are : AreCaptures captures
-  pub alone : joined ≡ false → length captures ≡ 1
-
 -- the quantities of `check` are within their limits
 pub record IsCheckJob (job : CheckJob) : Type 0 where
   pub captures_are : AreCaptures job.captures
   pub workers_few : job.workers ≤ 16
-  pub media_few : IfSome job.media (λ media. media < 64)
+  pub options_are : AreFlowOptions job.options
 
 -- `verify`: checks one claimed violation from the capture alone
 pub record VerifyJob : Type 0 where
@@ -42,10 +36,12 @@ pub record VerifyJob : Type 0 where
   pub captures : List (List ℕ)
   pub joined : Bool
 
--- the quantities of `verify` are within their limits
+-- the quantities of `verify` are within their limits; captures that aren't joined are one
 pub record IsVerifyJob (job : VerifyJob) : Type 0 where
   pub media_few : job.media < 64
-  pub inputs : AreInputs job.joined job.captures
+  pub options_are : AreFlowOptions job.options
+  pub captures_are : AreCaptures job.captures
+  pub alone : job.joined ≡ false → length job.captures ≡ 1
 
 -- `verify-report`: checks each violation of a JSON report from the captures alone
 pub record ReportJob : Type 0 where
@@ -54,12 +50,11 @@ pub record ReportJob : Type 0 where
   pub options : FlowOptions
   pub captures : List (List ℕ)
   pub joined : Bool
-  pub media : Option ℕ
 
 -- the quantities of `verify-report` are within their limits
 pub record IsReportJob (job : ReportJob) : Type 0 where
+  pub options_are : AreFlowOptions job.options
   pub captures_are : AreCaptures job.captures
-  pub media_few : IfSome job.media (λ media. media < 64)
 
 -- `selftest`: runs the analyser over captures that it makes itself
 pub record SelfTestJob : Type 0 where
@@ -72,18 +67,17 @@ pub record IsSelfTestJob (job : SelfTestJob) : Type 0 where
   pub frames_few : job.frames ≤ 20000
   pub workers_few : job.workers ≤ 16
 
--- one flow of one capture, or of joined captures
+-- one flow of one capture
 pub record FlowJob : Type 0 where
   pub sdp : List ℕ
   pub media : ℕ
   pub options : FlowOptions
-  pub captures : List (List ℕ)
-  pub joined : Bool
+  pub capture : List ℕ
 
 -- the quantities of a flow's job are within their limits
 pub record IsFlowJob (job : FlowJob) : Type 0 where
   pub media_few : job.media < 64
-  pub inputs : AreInputs job.joined job.captures
+  pub options_are : AreFlowOptions job.options
 
 -- `shape`: delays the packets of a flow until they keep the limits of a sender type
 pub record ShapeJob : Type 0 where
@@ -105,18 +99,15 @@ pub record IsSkewJob (job : SkewJob) : Type 0 where
   pub some : 1 ≤ length job.captures
   pub few : length job.captures ≤ 2
 
--- the flows of one capture, or of joined captures: of all media, or of one
+-- all flows of one capture
 pub record CaptureJob : Type 0 where
   pub sdp : List ℕ
-  pub media : Option ℕ
   pub options : FlowOptions
-  pub captures : List (List ℕ)
-  pub joined : Bool
+  pub capture : List ℕ
 
 -- the quantities of a capture's job are within their limits
 pub record IsCaptureJob (job : CaptureJob) : Type 0 where
-  pub media_few : IfSome job.media (λ media. media < 64)
-  pub inputs : AreInputs job.joined job.captures
+  pub options_are : AreFlowOptions job.options
 
 -- `series`: prints the numbers of a flow, by frame or by packet
 pub record SeriesJob : Type 0 where

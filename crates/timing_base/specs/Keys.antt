@@ -1,6 +1,5 @@
 -- The flows of a call. Files and media count from 0; joined files are one, file 0.
-use Rattle.std.specs.Prelude.{ℕ, zero, suc, Bool, false, ◌+◌, if◌then◌else◌, List, [], ◌∷◌, ◌++◌, slice_index_or}
-use Rattle.std.specs.Prelude.{slice_get, Option, Some, None, option_map}
+use Rattle.std.specs.Prelude.{ℕ, zero, suc, Bool, false, ◌+◌, if◌then◌else◌, List, [], ◌∷◌, ◌++◌, slice_index_or, None}
 use Rattle.timing_base.specs.Media.{Media}
 use Rattle.timing_base.specs.declared.key.FlowKey.{FlowKey}
 
@@ -40,27 +39,6 @@ keys_of_files first zero media_count = []
 keys_of_files first (suc files) media_count =
     keys_of_file first 0 media_count ++ keys_of_files (first + 1) files media_count
 
--- the keys of one media of this many files from this one on
-abbrev pub keys_of_one : (first files media : ℕ) → List FlowKey
-keys_of_one first zero media = []
-keys_of_one first (suc files) media = key_of first media ∷ keys_of_one (first + 1) files media
-
 -- the keys of a call: each media of each file, or each media once if the files are joined
 abbrev pub keys_of : (joined : Bool) → (files media_count : ℕ) → List FlowKey
 keys_of joined files media_count = keys_of_files 0 (if joined then 1 else files) media_count
-
--- the media that are judged: all of a session, or with `--media` the one with this number; none if there is no such
--- media
-abbrev pub chosen : (only : Option ℕ) → List Media → Option (List Media)
-chosen None session = Some session
-chosen (Some number) session = option_map (λ media. media ∷ []) (slice_get session number)
-
--- the number of the first of the media that are judged
-abbrev pub first_chosen : (only : Option ℕ) → ℕ
-first_chosen None = 0
-first_chosen (Some number) = number
-
--- the keys of a call with these options: as `keys_of`, the media numbered as in the session
-abbrev pub keys_chosen : (joined : Bool) → (only : Option ℕ) → (files media_count : ℕ) → List FlowKey
-keys_chosen joined None files media_count = keys_of joined files media_count
-keys_chosen joined (Some number) files media_count = keys_of_one 0 (if joined then 1 else files) number

@@ -16,14 +16,12 @@ pub struct CheckJob {
     pub captures: Items<FileName>,
     /// The number of workers, 0 to 16; 0 is one thread for all.
     pub workers: u32,
-    /// How packets are timed and numbered.
+    /// How the packets of its flows are timed and numbered.
     pub options: FlowOptions,
     /// Whether the report is printed as JSON.
     pub json: bool,
     /// Whether the captures are taken as one, in the order of the arguments.
     pub joined: bool,
-    /// The media that is judged alone, counted from 0, at most 63, or `None` for all of them.
-    pub media: Option<u32>,
 }
 
 impl Model for CheckJob {
@@ -31,7 +29,7 @@ impl Model for CheckJob {
 
     ghost Value = { Seen };
 
-    ghost view = { λ job. record { sdp = job.sdp; captures = job.captures; workers = job.workers; options = job.options; json = job.json; joined = job.joined; media = job.media } };
+    ghost view = { λ job. record { sdp = job.sdp; captures = job.captures; workers = job.workers; options = job.options; json = job.json; joined = job.joined } };
 
     ghost invariant = { λ job. IsCheckJob (view job) };
 }
@@ -47,7 +45,7 @@ pub struct VerifyJob {
     pub kind: Kind,
     /// The claimed violation.
     pub proof: FailProof,
-    /// How packets are timed and numbered.
+    /// How the packets of the flow are timed and numbered.
     pub options: FlowOptions,
     /// The capture files: exactly one, or 1 to 16 if they are joined.
     pub captures: Items<FileName>,
@@ -80,14 +78,12 @@ pub struct ReportJob {
     pub sdp: FileName,
     /// The file name of the JSON report.
     pub report: FileName,
-    /// How packets are timed and numbered.
+    /// How the packets of its flows are timed and numbered.
     pub options: FlowOptions,
     /// The capture files, 1 to 16.
     pub captures: Items<FileName>,
     /// Whether the captures are taken as one, in the order of the arguments.
     pub joined: bool,
-    /// The media that is judged alone, counted from 0, at most 63, or `None` for all of them.
-    pub media: Option<u32>,
 }
 
 impl Model for ReportJob {
@@ -95,7 +91,7 @@ impl Model for ReportJob {
 
     ghost Value = { Seen };
 
-    ghost view = { λ job. record { sdp = job.sdp; report = job.report; options = job.options; captures = job.captures; joined = job.joined; media = job.media } };
+    ghost view = { λ job. record { sdp = job.sdp; report = job.report; options = job.options; captures = job.captures; joined = job.joined } };
 
     ghost invariant = { λ job. IsReportJob (view job) };
 }
@@ -121,19 +117,17 @@ impl Model for SelfTestJob {
     ghost inverse = { λ job. record { frames = job.frames; workers = job.workers } };
 }
 
-/// One flow of one capture, or of joined captures.
+/// One flow of one capture.
 #[derive(Debug, Drop)]
 pub struct FlowJob {
     /// The file name of the session description.
     pub sdp: FileName,
     /// The media, counted from 0, at most 63.
     pub media: u32,
-    /// How packets are timed and numbered.
+    /// How the packets of the flow are timed and numbered.
     pub options: FlowOptions,
-    /// The capture files: exactly one, or 1 to 16 if they are joined.
-    pub captures: Items<FileName>,
-    /// Whether the captures are taken as one, in the order of the arguments.
-    pub joined: bool,
+    /// The capture file.
+    pub capture: FileName,
 }
 
 impl Model for FlowJob {
@@ -141,7 +135,7 @@ impl Model for FlowJob {
 
     ghost Value = { Seen };
 
-    ghost view = { λ job. record { sdp = job.sdp; media = job.media; options = job.options; captures = job.captures; joined = job.joined } };
+    ghost view = { λ job. record { sdp = job.sdp; media = job.media; options = job.options; capture = job.capture } };
 
     ghost invariant = { λ job. IsFlowJob (view job) };
 }
@@ -188,19 +182,15 @@ impl Model for SkewJob {
     ghost invariant = { λ job. IsSkewJob (view job) };
 }
 
-/// The flows of one capture, or of joined captures: of all media, or of one.
+/// All flows of one capture.
 #[derive(Debug, Drop)]
 pub struct CaptureJob {
     /// The file name of the session description.
     pub sdp: FileName,
-    /// The media that is judged alone, counted from 0, at most 63, or `None` for all of them.
-    pub media: Option<u32>,
-    /// How packets are timed and numbered.
+    /// How the packets of its flows are timed and numbered.
     pub options: FlowOptions,
-    /// The capture files: exactly one, or 1 to 16 if they are joined.
-    pub captures: Items<FileName>,
-    /// Whether the captures are taken as one, in the order of the arguments.
-    pub joined: bool,
+    /// The capture file.
+    pub capture: FileName,
 }
 
 impl Model for CaptureJob {
@@ -208,7 +198,7 @@ impl Model for CaptureJob {
 
     ghost Value = { Seen };
 
-    ghost view = { λ job. record { sdp = job.sdp; media = job.media; options = job.options; captures = job.captures; joined = job.joined } };
+    ghost view = { λ job. record { sdp = job.sdp; options = job.options; capture = job.capture } };
 
     ghost invariant = { λ job. IsCaptureJob (view job) };
 }

@@ -108,7 +108,6 @@ pub fn check_of(alloc: Global, capture: &str, json: bool) -> Result<CheckJob, Ou
         options: FlowOptions::NONE,
         json,
         joined: false,
-        media: None,
     })
 }
 

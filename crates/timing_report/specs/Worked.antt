@@ -63,5 +63,4 @@ check_of name = record {
   options = no_options;
   json = false;
   joined = false;
-  media = None;
 }
