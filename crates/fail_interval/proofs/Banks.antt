@@ -4,6 +4,7 @@ use Rattle.std.proofs.Common.{arith}
 use Rattle.std.specs.Prelude.{All, ⊤, false}
 use Rattle.std.proofs.lemmas.List.{length-take-le, take_more}
 use Rattle.std.proofs.lemmas.List.Elements.{All-cons, All-head, All-nil, All-tail, filter_map-append}
+use Rattle.timing_base.specs.Shifts.{Shift}
 use Rattle.timing_base.specs.Captures.{Record}
 use Rattle.timing_base.specs.Keys.{key_of}
 use Rattle.timing_base.specs.Media.{Media}
@@ -19,55 +20,55 @@ use Rattle.fail_interval.specs.Stands.{StandsFor, count_fed}
 use Rattle.fail_interval.specs.Taken.{HasRows}
 
 -- the judges of media and of one more
-judges-append : (tai file number : ℕ) (ms : List Media) (fs : List (MediaFlow Judging)) (items : List Record) (m : Media) (f : MediaFlow Judging)
-    → AreJudgesOf tai file number ms fs items
-    → IsJudgeOf m file (number + length ms) tai f items → AreJudgesOf tai file number (ms ++ m ∷ []) (fs ++ f ∷ []) items
-judges-append tai file number [] [] items m f h is = (subst (λ (n : ℕ). IsJudgeOf m file n tai f items) (omega arith) is, tt)
-judges-append tai file number [] (g ∷ fs) items m f h is = absurd h
-judges-append tai file number (l ∷ ms) [] items m f h is = absurd h
-judges-append tai file number (l ∷ ms) (g ∷ fs) items m f h is =
+judges-append : (shift : Shift) (file number : ℕ) (ms : List Media) (fs : List (MediaFlow Judging)) (items : List Record) (m : Media) (f : MediaFlow Judging)
+    → AreJudgesOf shift file number ms fs items
+    → IsJudgeOf m file (number + length ms) shift f items → AreJudgesOf shift file number (ms ++ m ∷ []) (fs ++ f ∷ []) items
+judges-append shift file number [] [] items m f h is = (subst (λ (n : ℕ). IsJudgeOf m file n shift f items) (omega arith) is, tt)
+judges-append shift file number [] (g ∷ fs) items m f h is = absurd h
+judges-append shift file number (l ∷ ms) [] items m f h is = absurd h
+judges-append shift file number (l ∷ ms) (g ∷ fs) items m f h is =
     let far : number + length (l ∷ ms) ≡ number + 1 + length ms = omega arith in
-    (h.0, judges-append tai file (number + 1) ms fs items m f h.1 (subst (λ (n : ℕ). IsJudgeOf m file n tai f items) far is))
+    (h.0, judges-append shift file (number + 1) ms fs items m f h.1 (subst (λ (n : ℕ). IsJudgeOf m file n shift f items) far is))
 
 -- the judges of the first media, and that of the next one
-pub judges-more : (tai file n : ℕ) (media : List Media) (fs more : List (MediaFlow Judging)) (items : List Record) (m : Media) (f : MediaFlow Judging)
+pub judges-more : (shift : Shift) (file n : ℕ) (media : List Media) (fs more : List (MediaFlow Judging)) (items : List Record) (m : Media) (f : MediaFlow Judging)
     → n < length media
     → get_or media n m ≡ m
-    → AreJudgesOf tai file 0 (take n media) fs items → IsJudgeOf m file n tai f items → more ≡ fs ++ f ∷ []
-    → AreJudgesOf tai file 0 (take (n + 1) media) more items
-judges-more tai file n media fs more items m f within at h is e =
+    → AreJudgesOf shift file 0 (take n media) fs items → IsJudgeOf m file n shift f items → more ≡ fs ++ f ∷ []
+    → AreJudgesOf shift file 0 (take (n + 1) media) more items
+judges-more shift file n media fs more items m f within at h is e =
     let long : 0 + length (take n media) ≡ n = omega (arith, length-take-le n media (omega arith)) in
     let next : take (n + 1) media ≡ take n media ++ m ∷ [] = take_more media n m within ∙ ap (λ (x : Media). take n media ++ x ∷ []) at in
-    subst (λ (l : List Media). AreJudgesOf tai file 0 l more items) (sym next)
-    (subst (λ (l : List (MediaFlow Judging)). AreJudgesOf tai file 0 (take n media ++ m ∷ []) l items) (sym e)
-    (judges-append tai file 0 (take n media) fs items m f h (subst (λ (x : ℕ). IsJudgeOf m file x tai f items) (sym long) is)))
+    subst (λ (l : List Media). AreJudgesOf shift file 0 l more items) (sym next)
+    (subst (λ (l : List (MediaFlow Judging)). AreJudgesOf shift file 0 (take n media ++ m ∷ []) l items) (sym e)
+    (judges-append shift file 0 (take n media) fs items m f h (subst (λ (x : ℕ). IsJudgeOf m file x shift f items) (sym long) is)))
 
 -- by the flow of this media in these records, and by nothing else, the first became the second
 abbrev pub TakesFlowOf : Media → (old new : Judging) → List Record → Type 0
 TakesFlowOf m old new more = Feeds {Past = Unit {0}} false (λ _ _ _ _ _ _. ⊤) (λ _ _ _ _ _ _. ⊤) m old new more
 
 -- the judge of a media takes the flow of these records too
-judge-fed : (m : Media) (file number tai : ℕ) (f g : MediaFlow Judging) (items more : List Record) → TakesFlow TakesFlowOf f g more
-    → IsJudgeOf m file number tai f items
-    → IsJudgeOf m file number tai g (items ++ more)
-judge-fed m file number tai f g items more takes h = record {
+judge-fed : (m : Media) (file number : ℕ) (shift : Shift) (f g : MediaFlow Judging) (items more : List Record) → TakesFlow TakesFlowOf f g more
+    → IsJudgeOf m file number shift f items
+    → IsJudgeOf m file number shift g (items ++ more)
+judge-fed m file number shift f g items more takes h = record {
   media = takes.media ∙ h.media;
-  judge = subst (StandsFor m (key_of file number) tai g.taker.judge) (sym (filter_map-append (flow_packet m) items more))
-      (subst (λ (x : Media). TakesFlowOf x f.taker g.taker more) h.media takes.fed tt (key_of file number) tai (flow items m)
+  judge = subst (StandsFor m (key_of file number) shift g.taker.judge) (sym (filter_map-append (flow_packet m) items more))
+      (subst (λ (x : Media). TakesFlowOf x f.taker g.taker more) h.media takes.fed tt (key_of file number) shift (flow items m)
       (record { judge_is = h.judge; told = λ wanted. cc })).judge_is;
 }
 
 -- and so do all
-pub judges-fed : (tai file number : ℕ) (ms : List Media) (fs gs : List (MediaFlow Judging)) (items more : List Record) → TakesAll TakesFlowOf fs gs more
-    → AreJudgesOf tai file number ms fs items
-    → AreJudgesOf tai file number ms gs (items ++ more)
-judges-fed tai file number [] [] [] items more takes h = tt
-judges-fed tai file number [] [] (g ∷ gs) items more takes h = absurd takes
-judges-fed tai file number [] (f ∷ fs) gs items more takes h = absurd h
-judges-fed tai file number (m ∷ ms) [] gs items more takes h = absurd h
-judges-fed tai file number (m ∷ ms) (f ∷ fs) [] items more takes h = absurd takes
-judges-fed tai file number (m ∷ ms) (f ∷ fs) (g ∷ gs) items more takes h =
-    (judge-fed m file number tai f g items more takes.0 h.0, judges-fed tai file (number + 1) ms fs gs items more takes.1 h.1)
+pub judges-fed : (shift : Shift) (file number : ℕ) (ms : List Media) (fs gs : List (MediaFlow Judging)) (items more : List Record) → TakesAll TakesFlowOf fs gs more
+    → AreJudgesOf shift file number ms fs items
+    → AreJudgesOf shift file number ms gs (items ++ more)
+judges-fed shift file number [] [] [] items more takes h = tt
+judges-fed shift file number [] [] (g ∷ gs) items more takes h = absurd takes
+judges-fed shift file number [] (f ∷ fs) gs items more takes h = absurd h
+judges-fed shift file number (m ∷ ms) [] gs items more takes h = absurd h
+judges-fed shift file number (m ∷ ms) (f ∷ fs) [] items more takes h = absurd takes
+judges-fed shift file number (m ∷ ms) (f ∷ fs) (g ∷ gs) items more takes h =
+    (judge-fed m file number shift f g items more takes.0 h.0, judges-fed shift file (number + 1) ms fs gs items more takes.1 h.1)
 
 -- one more that was fed nothing
 pub most-push : (fs : List (MediaFlow Judging)) (f : MediaFlow Judging) → most_fed fs ≡ 0 → count_fed f.taker.judge ≡ 0 → most_fed (fs ++ f ∷ []) ≡ 0
@@ -91,43 +92,43 @@ most-few (f ∷ fs) count limit low each =
     let first : count_fed f.taker.judge + count ≤ limit = All-head (λ (g : MediaFlow Judging). count_fed g.taker.judge + count ≤ limit) f fs each in
     omega (arith, first, most-few fs count limit low (All-tail (λ (g : MediaFlow Judging). count_fed g.taker.judge + count ≤ limit) f fs each))
 
-rows-step : (tai file : ℕ) (media : List Media) (items : List Record) (before rows more : List Row) (f : MediaFlow Judging)
+rows-step : (shift : Shift) (file : ℕ) (media : List Media) (items : List Record) (before rows more : List Row) (f : MediaFlow Judging)
     (later : List (MediaFlow Judging)) (r : Row)
     → more ≡ rows ++ r ∷ []
-    → ((m : Media) (number : ℕ) → IsJudgeOf m file number tai f items → r ≡ row (flow items m) (key_of file number) m tai)
-    → (number : ℕ) (rest : List Media) → rows ++ rows_from tai file number rest items ≡ before ++ rows_of tai file media items
-    → AreJudgesOf tai file number rest (f ∷ later) items
-    → HasRows tai file media items before more later
-rows-step tai file media items before rows more f later r pushed is number [] whole h = absurd h
-rows-step tai file media items before rows more f later r pushed is number (m ∷ ms) whole h =
-    let own : r ≡ row (flow items m) (key_of file number) m tai = is m number h.0 in
+    → ((m : Media) (number : ℕ) → IsJudgeOf m file number shift f items → r ≡ row (flow items m) (key_of file number) m shift)
+    → (number : ℕ) (rest : List Media) → rows ++ rows_from shift file number rest items ≡ before ++ rows_of shift file media items
+    → AreJudgesOf shift file number rest (f ∷ later) items
+    → HasRows shift file media items before more later
+rows-step shift file media items before rows more f later r pushed is number [] whole h = absurd h
+rows-step shift file media items before rows more f later r pushed is number (m ∷ ms) whole h =
+    let own : r ≡ row (flow items m) (key_of file number) m shift = is m number h.0 in
     record {
       number = number + 1;
       rest = ms;
       stands = h.1;
-      whole = ap (λ (l : List Row). l ++ rows_from tai file (number + 1) ms items) pushed
-          ∙ append_assoc rows (r ∷ []) (rows_from tai file (number + 1) ms items)
-          ∙ ap (λ (x : Row). rows ++ x ∷ rows_from tai file (number + 1) ms items) own ∙ whole;
+      whole = ap (λ (l : List Row). l ++ rows_from shift file (number + 1) ms items) pushed
+          ∙ append_assoc rows (r ∷ []) (rows_from shift file (number + 1) ms items)
+          ∙ ap (λ (x : Row). rows ++ x ∷ rows_from shift file (number + 1) ms items) own ∙ whole;
     }
 
-rows-none : (tai file : ℕ) (media : List Media) (items : List Record) (before rows : List Row) (number : ℕ) (rest : List Media)
-    → rows ++ rows_from tai file number rest items ≡ before ++ rows_of tai file media items → AreJudgesOf tai file number rest [] items
-    → rows ≡ before ++ rows_of tai file media items
-rows-none tai file media items before rows number [] whole h = sym (append-nil rows) ∙ whole
-rows-none tai file media items before rows number (m ∷ ms) whole h = absurd h
+rows-none : (shift : Shift) (file : ℕ) (media : List Media) (items : List Record) (before rows : List Row) (number : ℕ) (rest : List Media)
+    → rows ++ rows_from shift file number rest items ≡ before ++ rows_of shift file media items → AreJudgesOf shift file number rest [] items
+    → rows ≡ before ++ rows_of shift file media items
+rows-none shift file media items before rows number [] whole h = sym (append-nil rows) ∙ whole
+rows-none shift file media items before rows number (m ∷ ms) whole h = absurd h
 
 -- the rows so far, and the next one
-pub rows-more : (tai file : ℕ) (media : List Media) (items : List Record) (before rows more : List Row) (f : MediaFlow Judging)
+pub rows-more : (shift : Shift) (file : ℕ) (media : List Media) (items : List Record) (before rows more : List Row) (f : MediaFlow Judging)
     (left later : List (MediaFlow Judging)) (r : Row)
     → left ≡ f ∷ later → more ≡ rows ++ r ∷ []
-    → ((m : Media) (number : ℕ) → IsJudgeOf m file number tai f items → r ≡ row (flow items m) (key_of file number) m tai)
-    → HasRows tai file media items before rows left → HasRows tai file media items before more later
-rows-more tai file media items before rows more f left later r e pushed is h =
-    rows-step tai file media items before rows more f later r pushed is h.number h.rest h.whole
-    (subst (λ (l : List (MediaFlow Judging)). AreJudgesOf tai file h.number h.rest l items) e h.stands)
+    → ((m : Media) (number : ℕ) → IsJudgeOf m file number shift f items → r ≡ row (flow items m) (key_of file number) m shift)
+    → HasRows shift file media items before rows left → HasRows shift file media items before more later
+rows-more shift file media items before rows more f left later r e pushed is h =
+    rows-step shift file media items before rows more f later r pushed is h.number h.rest h.whole
+    (subst (λ (l : List (MediaFlow Judging)). AreJudgesOf shift file h.number h.rest l items) e h.stands)
 
 -- all rows
-pub rows-all : (tai file : ℕ) (media : List Media) (items : List Record) (before rows : List Row) (left : List (MediaFlow Judging)) → length left ≡ 0
-    → HasRows tai file media items before rows left → rows ≡ before ++ rows_of tai file media items
-rows-all tai file media items before rows [] e h = rows-none tai file media items before rows h.number h.rest h.whole h.stands
-rows-all tai file media items before rows (f ∷ fs) e h = absurd (omega arith)
+pub rows-all : (shift : Shift) (file : ℕ) (media : List Media) (items : List Record) (before rows : List Row) (left : List (MediaFlow Judging)) → length left ≡ 0
+    → HasRows shift file media items before rows left → rows ≡ before ++ rows_of shift file media items
+rows-all shift file media items before rows [] e h = rows-none shift file media items before rows h.number h.rest h.whole h.stands
+rows-all shift file media items before rows (f ∷ fs) e h = absurd (omega arith)

@@ -1,6 +1,7 @@
 -- The packet that a judge expects next.
 use Rattle.std.proofs.Common.{◌≡◌, ◌-◌, ℕ, Bool, true, false, List, [], length, Some, None, Option, ap, sym, ◌∙◌, refl, subst, append-nil}
 use Rattle.std.specs.Prelude.{is_some, ◌||◌, ◌==◌, if◌then◌else◌}
+use Rattle.timing_base.specs.Shifts.{Shift}
 use Rattle.timing_base.specs.Flows.{FirstFault, first_fault, first_fault_below, has_marker}
 use Rattle.timing_base.specs.Media.{Media}
 use Rattle.timing_base.specs.declared.key.FlowKey.{FlowKey}
@@ -26,20 +27,20 @@ expected-refused : (packets : List FlowPacket) (pt : ℕ) (f : FirstFault) → f
 expected-refused packets pt f e =
     fault-there packets pt (length packets) ((length packets == 0) || has_marker packets (length packets - 1)) (first_fault packets pt) f e
 
-expected-state : {M : Type 0} (m : Media) (tai : ℕ) (packets : List FlowPacket) (state : State M) → IsAt m tai packets state
+expected-state : {M : Type 0} (m : Media) (shift : Shift) (packets : List FlowPacket) (state : State M) → IsAt m shift packets state
     → state_expects state ≡ expected_after packets m.pt
-expected-state m tai packets (Going flow) at =
+expected-state m shift packets (Going flow) at =
     expected-is flow.grouper flow.media.pt packets at.2.grouper ∙ ap (λ (k : Media). expected_after packets k.pt) at.0
-expected-state m tai packets (Refused rec fault) at =
+expected-state m shift packets (Refused rec fault) at =
     expected-refused packets m.pt _
     (subst (λ (l : List FlowPacket). first_fault_below l m.pt (length packets) ≡ Some record { index = at.index; fault = fault })
     (append-nil packets) (at.first []))
-expected-state m tai packets Spent at = absurd at
+expected-state m shift packets Spent at = absurd at
 
 -- what a judge expects by what it keeps is what is expected after the packets that it was fed
-pub expected-stands : {M : Type 0} (m : Media) (key : FlowKey) (tai : ℕ) (judge : FlowJudge M) (packets : List FlowPacket) → StandsFor m key tai judge packets
+pub expected-stands : {M : Type 0} (m : Media) (key : FlowKey) (shift : Shift) (judge : FlowJudge M) (packets : List FlowPacket) → StandsFor m key shift judge packets
     → expected_of judge ≡ expected_after packets m.pt
-expected-stands m key tai judge packets s = expected-state m tai packets judge.state s.state
+expected-stands m key shift judge packets s = expected-state m shift packets judge.state s.state
 
 -- nothing is expected of a flow with a fault
 pub expected-none : {M : Type 0} (state : State M) → ((flow : Flow M) → state ≡ Going flow → ⊥) → None ≡ state_expects state

@@ -2,6 +2,7 @@
 use Rattle.std.proofs.Common.{◌≡◌, ◌<◌, ◌+◌, ◌^◌, ℕ, List, [], ◌∷◌, ◌++◌, length, length-append, Some, Ok, Err, Result, arith, ap, ◌∙◌, refl, sym, subst}
 use Rattle.std.specs.Prelude.{IsErr, IsOk}
 use Rattle.std.proofs.Math.Logic.{∥∥₁_map}
+use Rattle.timing_base.specs.Shifts.{FlowOptions}
 use Rattle.timing_base.specs.Captures.{IsStamp}
 use Rattle.timing_base.specs.Flows.{first_fault_below, packet}
 use Rattle.timing_base.specs.Judged.{judged, refusal}
@@ -78,28 +79,28 @@ abbrev judge_by : {M : Type 0} → FlowKey → (fed : ℕ) (state : State M) →
 judge_by key fed state known = record { key = key; fed = fed; state = state; known = known }
 
 -- the judge stands for one packet more, where its flow does
-more : {M : Type 0} (m : Media) (key : FlowKey) (tai rec at : ℕ) (rtp : Result Rtp PacketFault) (judge : FlowJudge M) (state : State M)
+more : {M : Type 0} (m : Media) (key : FlowKey) (options : FlowOptions) (rec at : ℕ) (rtp : Result Rtp PacketFault) (judge : FlowJudge M) (state : State M)
     (known : ∥ IsKnown (judge.fed + 1) state ∥₁) (packets : List FlowPacket)
-    → IsStamp at → StandsFor m key tai judge packets → IsAt m tai (packets ++ fed_packet rec at rtp ∷ []) state
-    → StandsFor m key tai (judge_by judge.key (judge.fed + 1) state known) (packets ++ fed_packet rec at rtp ∷ [])
-more m key tai rec at rtp judge state known packets stamp s is = record {
+    → IsStamp at → StandsFor m key options judge packets → IsAt m options (packets ++ fed_packet rec at rtp ∷ []) state
+    → StandsFor m key options (judge_by judge.key (judge.fed + 1) state known) (packets ++ fed_packet rec at rtp ∷ [])
+more m key options rec at rtp judge state known packets stamp s is = record {
   key_is = s.key_is;
   fed = omega (arith, s.fed, length-append packets (fed_packet rec at rtp ∷ []));
   stamped = stamped-more packets (fed_packet rec at rtp) s.stamped stamp;
   state = is;
 }
 
-pub at-flow : {M : Type 0} (m : Media) (tai at : ℕ) (state : State M) (flow : Flow M) (packets : List FlowPacket) → state ≡ Going flow → IsAt m tai packets state
-    → (flow.media ≡ m) × (flow.tai ≡ tai) × FlowStandsFor flow packets
-at-flow m tai at state flow packets e is = subst (IsAt m tai packets) e is
+pub at-flow : {M : Type 0} (m : Media) (options : FlowOptions) (at : ℕ) (state : State M) (flow : Flow M) (packets : List FlowPacket) → state ≡ Going flow → IsAt m options packets state
+    → (flow.media ≡ m) × (flow.options ≡ options) × FlowStandsFor flow packets
+at-flow m options at state flow packets e is = subst (IsAt m options packets) e is
 
 -- a call that took a packet of a judge that isn't spent
 took : {M : Type 0} {T E : Type 0} (result : Result T E) (rec at : ℕ) (rtp : Result Rtp PacketFault) (judge : FlowJudge M) (state : State M)
     (known : ∥ IsKnown (judge.fed + 1) state ∥₁)
     → IsOk result
     → (judge.state ≡ Spent → ⊥)
-    → ((m : Media) (key : FlowKey) (tai : ℕ) (packets : List FlowPacket) → StandsFor m key tai judge packets
-    → StandsFor m key tai (judge_by judge.key (judge.fed + 1) state known) (packets ++ fed_packet rec at rtp ∷ []))
+    → ((m : Media) (key : FlowKey) (options : FlowOptions) (packets : List FlowPacket) → StandsFor m key options judge packets
+    → StandsFor m key options (judge_by judge.key (judge.fed + 1) state known) (packets ++ fed_packet rec at rtp ∷ []))
     → Takes judge (judge_by judge.key (judge.fed + 1) state known) (fed_packet rec at rtp) result
 took (Err cause) rec at rtp judge state known ok goes_on stands = cc
 took (Ok value) rec at rtp judge state known ok goes_on stands = record {
@@ -113,26 +114,26 @@ took (Ok value) rec at rtp judge state known ok goes_on stands = record {
 pub going-more : {M : Type 0} {T E : Type 0} (value : T) (rec at : ℕ) (rtp : Result Rtp PacketFault) (judge : FlowJudge M) (flow new : Flow M)
     (known : ∥ IsKnown (judge.fed + 1) (Going new) ∥₁)
     → judge.state ≡ Going flow → judge.fed < 2 ^ 41 → IsStamp at
-    → new.media ≡ flow.media → new.tai ≡ flow.tai
+    → new.media ≡ flow.media → new.options ≡ flow.options
     → Took flow new (fed_packet rec at rtp)
     → Takes {T = T} {E = E} judge (judge_by judge.key (judge.fed + 1) (Going new) known) (fed_packet rec at rtp) (Ok value)
 going-more value rec at rtp judge flow new known e few stamp media seconds goes =
     took (Ok value) rec at rtp judge (Going new) known refl (λ spent. cc)
-    (λ m key tai packets s.
-    let is = at-flow m tai at judge.state flow packets e s.state in
+    (λ m key options packets s.
+    let is = at-flow m options at judge.state flow packets e s.state in
     let c : CanGoOn flow packets at = record { stands = is.2; stamped = s.stamped; stamp = stamp; few = omega (arith, s.fed, few) } in
-    more m key tai rec at rtp judge (Going new) known packets stamp s (media ∙ is.0, seconds ∙ is.1, goes packets c))
+    more m key options rec at rtp judge (Going new) known packets stamp s (media ∙ is.0, seconds ∙ is.1, goes packets c))
 
 -- a judge stands for its packets with a state that equals its own
-pub same-state : {M : Type 0} (m : Media) (key : FlowKey) (tai : ℕ) (judge : FlowJudge M) (state : State M) (known : ∥ IsKnown judge.fed state ∥₁) (packets : List FlowPacket)
+pub same-state : {M : Type 0} (m : Media) (key : FlowKey) (options : FlowOptions) (judge : FlowJudge M) (state : State M) (known : ∥ IsKnown judge.fed state ∥₁) (packets : List FlowPacket)
     → state ≡ judge.state
-    → StandsFor m key tai judge packets
-    → StandsFor m key tai (judge_by judge.key judge.fed state known) packets
-same-state m key tai judge state known packets e s = record {
+    → StandsFor m key options judge packets
+    → StandsFor m key options (judge_by judge.key judge.fed state known) packets
+same-state m key options judge state known packets e s = record {
   key_is = s.key_is;
   fed = s.fed;
   stamped = s.stamped;
-  state = subst (IsAt m tai packets) (sym e) s.state;
+  state = subst (IsAt m options packets) (sym e) s.state;
 }
 
 -- what is known of a flow that went on
@@ -149,35 +150,35 @@ pub went-more : {M T E : Type 0} (value : T) (rec at : ℕ) (rtp : Rtp) (judge :
 went-more value rec at rtp judge state known went few stamp =
     let was = went.is in
     took (Ok value) rec at (Ok rtp) judge state known refl (λ spent. cc)
-    (λ m key tai packets s.
-    let is = at-flow m tai at judge.state went.flow packets went.is s.state in
+    (λ m key options packets s.
+    let is = at-flow m options at judge.state went.flow packets went.is s.state in
     let c : CanGoOn went.flow packets at = record { stands = is.2; stamped = s.stamped; stamp = stamp; few = omega (arith, s.fed, few) } in
-    more m key tai rec at (Ok rtp) judge state known packets stamp s
-    (subst (IsAt m tai (packets ++ fed_packet rec at (Ok rtp) ∷ [])) (sym went.becomes) (went.media ∙ is.0, went.tai ∙ is.1, went.goes packets c)))
+    more m key options rec at (Ok rtp) judge state known packets stamp s
+    (subst (IsAt m options (packets ++ fed_packet rec at (Ok rtp) ∷ [])) (sym went.becomes) (went.media ∙ is.0, went.options ∙ is.1, went.goes packets c)))
 
 -- the packet that its judge took is the one expected
-pub took-expected : {M : Type 0} (m : Media) (key : FlowKey) (tai at : ℕ) (judge : FlowJudge M) (new : State M) (packets : List FlowPacket)
+pub took-expected : {M : Type 0} (m : Media) (key : FlowKey) (options : FlowOptions) (at : ℕ) (judge : FlowJudge M) (new : State M) (packets : List FlowPacket)
     → GoesAsExpected judge.state new at → judge.fed < 2 ^ 41 → IsStamp at
-    → StandsFor m key tai judge packets
+    → StandsFor m key options judge packets
     → expected_after packets m.pt ≡ Some (going_on packets m.pt (length packets))
-took-expected m key tai at judge new packets went few stamp s =
-    let is = at-flow m tai at judge.state went.flow packets went.is s.state in
+took-expected m key options at judge new packets went few stamp s =
+    let is = at-flow m options at judge.state went.flow packets went.is s.state in
     let c : CanGoOn went.flow packets at = record { stands = is.2; stamped = s.stamped; stamp = stamp; few = omega (arith, s.fed, few) } in
     subst (λ (k : Media). expected_after packets k.pt ≡ Some (going_on packets k.pt (length packets))) is.0 (went.goes.expects packets c)
 
 -- and the judge stands for one packet more
-pub stands-expected : {M : Type 0} (m : Media) (key : FlowKey) (tai rec at : ℕ) (judge : FlowJudge M) (new : State M) (known : ∥ IsKnown (judge.fed + 1) new ∥₁)
+pub stands-expected : {M : Type 0} (m : Media) (key : FlowKey) (options : FlowOptions) (rec at : ℕ) (judge : FlowJudge M) (new : State M) (known : ∥ IsKnown (judge.fed + 1) new ∥₁)
     (packets : List FlowPacket)
     → GoesAsExpected judge.state new at → judge.fed < 2 ^ 41 → IsStamp at
-    → StandsFor m key tai judge packets
-    → StandsFor m key tai (judge_by judge.key (judge.fed + 1) new known) (packets ++ next_packet packets m.pt rec at ∷ [])
-stands-expected m key tai rec at judge new known packets went few stamp s =
-    let is = at-flow m tai at judge.state went.flow packets went.is s.state in
+    → StandsFor m key options judge packets
+    → StandsFor m key options (judge_by judge.key (judge.fed + 1) new known) (packets ++ next_packet packets m.pt rec at ∷ [])
+stands-expected m key options rec at judge new known packets went few stamp s =
+    let is = at-flow m options at judge.state went.flow packets went.is s.state in
     let c : CanGoOn went.flow packets at = record { stands = is.2; stamped = s.stamped; stamp = stamp; few = omega (arith, s.fed, few) } in
     let stands : FlowStandsFor went.later (packets ++ next_packet packets m.pt rec at ∷ []) =
     subst (λ (k : Media). FlowStandsFor went.later (packets ++ next_packet packets k.pt rec at ∷ [])) is.0 (went.goes.stands packets rec c) in
-    more m key tai rec at (Ok (going_on packets m.pt (length packets))) judge new known packets stamp s
-    (subst (IsAt m tai (packets ++ next_packet packets m.pt rec at ∷ [])) (sym went.becomes) (went.media ∙ is.0, went.tai ∙ is.1, stands))
+    more m key options rec at (Ok (going_on packets m.pt (length packets))) judge new known packets stamp s
+    (subst (IsAt m options (packets ++ next_packet packets m.pt rec at ∷ [])) (sym went.becomes) (went.media ∙ is.0, went.options ∙ is.1, stands))
 
 -- the first fault of a flow stays the first
 refused-more : (m : Media) (packets : List FlowPacket) (p : FlowPacket) (rec : ℕ) (fault : PacketFault) → IsRefused m packets rec fault
@@ -197,8 +198,8 @@ pub refused-now : {M : Type 0} {T E : Type 0} (result : Result T E) (rec at : �
     → Takes judge (judge_by judge.key (judge.fed + 1) state known) (fed_packet rec at rtp) result
 refused-now result rec at rtp fault judge flow state known e (ok, ended) few stamp ends =
     took result rec at rtp judge state known ok (λ spent. cc)
-    (λ m key tai packets s.
-    let is = at-flow m tai at judge.state flow packets e s.state in
+    (λ m key options packets s.
+    let is = at-flow m options at judge.state flow packets e s.state in
     let c : CanGoOn flow packets at = record { stands = is.2; stamped = s.stamped; stamp = stamp; few = omega (arith, s.fed, few) } in
     let p = fed_packet rec at rtp in
     let refused : IsRefused m (packets ++ p ∷ []) rec fault = record {
@@ -207,7 +208,7 @@ refused-now result rec at rtp fault judge flow state known e (ok, ended) few sta
           (λ rest. subst (λ (k : Media). has_fault (packets ++ p ∷ rest) k.pt (length packets) fault) is.0 (ends packets rest c));
       rec_is = shift (λ all n. (packet all (length packets)).rec ≡ rec) packets p (λ rest. ap (λ (q : FlowPacket). q.rec) (packet-here packets rest p));
     } in
-    more m key tai rec at rtp judge state known packets stamp s (subst (IsAt m tai (packets ++ p ∷ [])) (sym ended) refused))
+    more m key options rec at rtp judge state known packets stamp s (subst (IsAt m options (packets ++ p ∷ [])) (sym ended) refused))
 
 -- it ended before
 pub refused-before : {M : Type 0} {T E : Type 0} (result : Result T E) (rec at more_rec : ℕ) (rtp : Result Rtp PacketFault) (fault : PacketFault) (judge : FlowJudge M)
@@ -216,10 +217,10 @@ pub refused-before : {M : Type 0} {T E : Type 0} (result : Result T E) (rec at m
     → Takes judge (judge_by judge.key (judge.fed + 1) state known) (fed_packet rec at rtp) result
 refused-before result rec at more_rec rtp fault judge state known e (ok, stays) stamp =
     took result rec at rtp judge state known ok (λ spent. cc)
-    (λ m key tai packets s.
+    (λ m key options packets s.
     let p = fed_packet rec at rtp in
-    let is : IsRefused m packets more_rec fault = subst (IsAt m tai packets) e s.state in
-    more m key tai rec at rtp judge state known packets stamp s (subst (IsAt m tai (packets ++ p ∷ [])) (sym stays)
+    let is : IsRefused m packets more_rec fault = subst (IsAt m options packets) e s.state in
+    more m key options rec at rtp judge state known packets stamp s (subst (IsAt m options (packets ++ p ∷ [])) (sym stays)
     (refused-more m packets p more_rec fault is)))
 
 -- memory was refused before
@@ -230,7 +231,7 @@ spent-before : {M : Type 0} {T E : Type 0} (result : Result T E) (rec at : ℕ) 
 spent-before (Ok value) rec at rtp judge state known (err, stays) = cc
 spent-before (Err cause) rec at rtp judge state known (err, stays) = record {
   fed = refl;
-  stands = λ m key tai packets s. tt;
+  stands = λ m key options packets s. tt;
   spends = stays;
   stays = λ spent. err;
 }
@@ -280,31 +281,31 @@ row-same : (a b : FlowKey) (v w : Verdict) → a ≡ b → v ≡ w → row_by a 
 row-same a b v w e f = cc
 
 -- the row of a flow that has no fault
-pub row-going : {M : Type 0} (m : Media) (key : FlowKey) (tai : ℕ) (judge : FlowJudge M) (flow : Flow M) (told verdict : Verdict) (packets : List FlowPacket)
+pub row-going : {M : Type 0} (m : Media) (key : FlowKey) (options : FlowOptions) (judge : FlowJudge M) (flow : Flow M) (told verdict : Verdict) (packets : List FlowPacket)
     → judge.state ≡ Going flow
-    → ((packets : List FlowPacket) → FlowStandsFor flow packets → verdict ≡ verdict_of flow.media (judged packets flow.media.pt flow.tai))
+    → ((packets : List FlowPacket) → FlowStandsFor flow packets → verdict ≡ verdict_of flow.media (judged packets flow.media.pt flow.options))
     → told ≡ verdict
-    → StandsFor m key tai judge packets
-    → row_by judge.key told ≡ row packets key m tai
-row-going m key tai judge flow told verdict packets e says is s =
-    let at = at-flow m tai 0 judge.state flow packets e s.state in
+    → StandsFor m key options judge packets
+    → row_by judge.key told ≡ row packets key m options
+row-going m key options judge flow told verdict packets e says is s =
+    let at = at-flow m options 0 judge.state flow packets e s.state in
     row-same _ _ _ _ s.key_is
     (is ∙ (says packets at.2
-    ∙ (ap (λ (k : Media). verdict_of k (judged packets k.pt flow.tai)) at.0 ∙ ap (λ t. verdict_of m (judged packets m.pt t)) at.1)))
+    ∙ (ap (λ (k : Media). verdict_of k (judged packets k.pt flow.options)) at.0 ∙ ap (λ t. verdict_of m (judged packets m.pt t)) at.1)))
 
 -- and of one that has
-pub row-refused : {M : Type 0} (m : Media) (key : FlowKey) (tai rec : ℕ) (fault : PacketFault) (judge : FlowJudge M) (told verdict : Verdict) (packets : List FlowPacket)
+pub row-refused : {M : Type 0} (m : Media) (key : FlowKey) (options : FlowOptions) (rec : ℕ) (fault : PacketFault) (judge : FlowJudge M) (told verdict : Verdict) (packets : List FlowPacket)
     → judge.state ≡ Refused rec fault
     → ((m : Media) → verdict ≡ verdict_of m (refusal rec fault))
     → told ≡ verdict
-    → StandsFor m key tai judge packets
-    → row_by judge.key told ≡ row packets key m tai
-row-refused m key tai rec fault judge told verdict packets e says is s =
-    let at : IsRefused m packets rec fault = subst (IsAt m tai packets) e s.state in
-    row-same _ _ _ _ s.key_is (is ∙ (says m ∙ sym (ap (verdict_of m) (refused-verdict m tai packets rec fault at))))
+    → StandsFor m key options judge packets
+    → row_by judge.key told ≡ row packets key m options
+row-refused m key options rec fault judge told verdict packets e says is s =
+    let at : IsRefused m packets rec fault = subst (IsAt m options packets) e s.state in
+    row-same _ _ _ _ s.key_is (is ∙ (says m ∙ sym (ap (verdict_of m) (refused-verdict m options packets rec fault at))))
 
 -- a judge that was refused memory stands for no packets
-pub row-spent : {M : Type 0} (m : Media) (key : FlowKey) (tai : ℕ) (judge : FlowJudge M) (told : Verdict) (packets : List FlowPacket) → judge.state ≡ Spent
-    → StandsFor m key tai judge packets
-    → row_by judge.key told ≡ row packets key m tai
-row-spent m key tai judge told packets e s = let at : ⊥ = subst (IsAt m tai packets) e s.state in absurd at
+pub row-spent : {M : Type 0} (m : Media) (key : FlowKey) (options : FlowOptions) (judge : FlowJudge M) (told : Verdict) (packets : List FlowPacket) → judge.state ≡ Spent
+    → StandsFor m key options judge packets
+    → row_by judge.key told ≡ row packets key m options
+row-spent m key options judge told packets e s = let at : ⊥ = subst (IsAt m options packets) e s.state in absurd at

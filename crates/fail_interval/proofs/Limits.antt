@@ -5,6 +5,7 @@ use Rattle.std.specs.List.Sorted.{IsNonDecreasingBy}
 use Rattle.std.proofs.Math.Nat.{mul-le-mul_right}
 use Rattle.std.proofs.lemmas.List.{get_or-drop, get_or-map, get_or-take, length-drop, length-take-le}
 use Rattle.std.proofs.lemmas.List.Elements.{All-map}
+use Rattle.timing_base.specs.Shifts.{Shift}
 use Rattle.timing_base.specs.Flows.{AreStamped, cuts, first_fault, last_place, markers, no_packet, packet}
 use Rattle.timing_base.specs.Grouped.{IsSized}
 use Rattle.timing_base.specs.Judged.{stamp_of}
@@ -15,20 +16,20 @@ use Rattle.fail_interval.specs.SoFar.{AreStamps, Fits, in_head, so_far_at, so_fa
 use Rattle.fail_interval.proofs.Runs.{length-stamps_from}
 
 -- stamp k of a part is that of the packet there
-pub stamps_from-at : (packets : List FlowPacket) (tai from to k : ℕ) → to ≤ length packets → from + k < to
-    → slice_index (stamps_from packets tai from to) k ≡ stamp_of tai (packet packets (from + k))
-stamps_from-at packets tai from to k within here =
+pub stamps_from-at : (packets : List FlowPacket) (shift : Shift) (from to k : ℕ) → to ≤ length packets → from + k < to
+    → slice_index (stamps_from packets shift from to) k ≡ stamp_of shift (packet packets (from + k))
+stamps_from-at packets shift from to k within here =
     let rest = drop from packets in
     let size : length rest ≡ length packets - from = length-drop from packets in
     let taken : length (take (to - from) rest) ≡ to - from = length-take-le (to - from) rest (omega (arith, size, within)) in
-    get_or-map (stamp_of tai) (take (to - from) rest) k no_packet 0 (omega (arith, taken, here))
-    ∙ ap (stamp_of tai) (get_or-take (to - from) rest k no_packet (omega (arith, here)) ∙ get_or-drop from packets k no_packet)
+    get_or-map (stamp_of shift) (take (to - from) rest) k no_packet 0 (omega (arith, taken, here))
+    ∙ ap (stamp_of shift) (get_or-take (to - from) rest k no_packet (omega (arith, here)) ∙ get_or-drop from packets k no_packet)
 
 -- the stamps of a part are within the limits
-pub stamps-fit : (packets : List FlowPacket) (tai from to : ℕ) → to ≤ length packets → length packets ≤ 2 ^ 41 → tai ≤ 1000 → AreStamped packets
-    → IsNonDecreasingBy (λ (p : FlowPacket). p.at) packets → AreStamps (stamps_from packets tai from to)
-stamps-fit packets tai from to within few seconds stamped rise =
-    let long = length-stamps_from packets tai from to within in
+pub stamps-fit : (packets : List FlowPacket) (shift : Shift) (from to : ℕ) → to ≤ length packets → length packets ≤ 2 ^ 41 → shift ≤ 1000 → AreStamped packets
+    → IsNonDecreasingBy (λ (p : FlowPacket). p.at) packets → AreStamps (stamps_from packets shift from to)
+stamps-fit packets shift from to within few seconds stamped rise =
+    let long = length-stamps_from packets shift from to within in
     record {
       ordered = λ j i order below.
           let later : (packet packets (from + j)).at ≤ (packet packets (from + i)).at =
@@ -36,13 +37,13 @@ stamps-fit packets tai from to within few seconds stamped rise =
           omega (
             arith,
             later,
-            stamps_from-at packets tai from to j within (omega (arith, order, below, long)),
-            stamps_from-at packets tai from to i within (omega (arith, below, long)),
+            stamps_from-at packets shift from to j within (omega (arith, order, below, long)),
+            stamps_from-at packets shift from to i within (omega (arith, below, long)),
           );
       early =
           let part : All (λ (p : FlowPacket). p.at < 2 ^ 32 * 10 ^ 9) (slice_range packets from to) =
           all_range (λ (p : FlowPacket). p.at < 2 ^ 32 * 10 ^ 9) packets from to stamped in
-          All-map (λ at. at < 2 ^ 62) (stamp_of tai) (slice_range packets from to) (λ k d below. let early = part k d below in omega (arith, early, seconds));
+          All-map (λ at. at < 2 ^ 62) (stamp_of shift) (slice_range packets from to) (λ k d below. let early = part k d below in omega (arith, early, seconds));
       few = omega (arith, long, within, few);
     }
 
@@ -50,15 +51,15 @@ few-groups : (a n k last : ℕ) → 1 ≤ n → last ≡ a + n * k → k ≤ las
 few-groups a n k last some e = let more = mul-le-mul_right k some in omega (arith, more, e)
 
 -- what holds of the run, by its markers
-fits-by : (packets : List FlowPacket) (tai from to : ℕ) (marks : List ℕ) → to ≤ length packets → length packets ≤ 2 ^ 41 → tai ≤ 1000 → AreStamped packets
-    → IsNonDecreasingBy (λ (p : FlowPacket). p.at) packets → IsSized to marks → Fits (so_far_by packets tai from to marks)
-fits-by packets tai from to [] within few seconds stamped rise sized = omega (arith, within, few)
-fits-by packets tai from to (a ∷ []) within few seconds stamped rise sized = (
+fits-by : (packets : List FlowPacket) (shift : Shift) (from to : ℕ) (marks : List ℕ) → to ≤ length packets → length packets ≤ 2 ^ 41 → shift ≤ 1000 → AreStamped packets
+    → IsNonDecreasingBy (λ (p : FlowPacket). p.at) packets → IsSized to marks → Fits (so_far_by packets shift from to marks)
+fits-by packets shift from to [] within few seconds stamped rise sized = omega (arith, within, few)
+fits-by packets shift from to (a ∷ []) within few seconds stamped rise sized = (
   omega (arith, sized.begun (omega arith), within, few),
-  omega (arith, sized.first refl, length-stamps_from packets tai (a + 1) to within),
-  stamps-fit packets tai (a + 1) to within few seconds stamped rise,
+  omega (arith, sized.first refl, length-stamps_from packets shift (a + 1) to within),
+  stamps-fit packets shift (a + 1) to within few seconds stamped rise,
 )
-fits-by packets tai from to (a ∷ b ∷ rest) within few seconds stamped rise sized =
+fits-by packets shift from to (a ∷ b ∷ rest) within few seconds stamped rise sized =
     let two : 2 ≤ length (a ∷ b ∷ rest) = omega arith in
     let some : a < b = sized.some two in
     record {
@@ -72,15 +73,15 @@ fits-by packets tai from to (a ∷ b ∷ rest) within few seconds stamped rise s
         within,
         few,
       );
-      stamps = stamps-fit packets tai (a + 1) to within few seconds stamped rise;
+      stamps = stamps-fit packets shift (a + 1) to within few seconds stamped rise;
     }
 
 -- the open run of a flow without a fault
-pub fits-at : (packets : List FlowPacket) (pt tai : ℕ) → first_fault packets pt ≡ None → length packets ≤ 2 ^ 41 → tai ≤ 1000 → AreStamped packets
-    → Fits (so_far_at packets tai (last_place (0 ∷ cuts packets (length packets))) (length packets))
-fits-at packets pt tai e few seconds stamped =
+pub fits-at : (packets : List FlowPacket) (pt : ℕ) (shift : Shift) → first_fault packets pt ≡ None → length packets ≤ 2 ^ 41 → shift ≤ 1000 → AreStamped packets
+    → Fits (so_far_at packets shift (last_place (0 ∷ cuts packets (length packets))) (length packets))
+fits-at packets pt shift e few seconds stamped =
     let from = last_place (0 ∷ cuts packets (length packets)) in
-    fits-by packets tai from (length packets) (markers packets from (length packets)) (omega arith) few seconds stamped (stamps_rise packets pt e)
+    fits-by packets shift from (length packets) (markers packets from (length packets)) (omega arith) few seconds stamped (stamps_rise packets pt e)
     (each_sized packets pt e (length packets) (omega arith))
 
 no-stamps : AreStamps []

@@ -6,6 +6,7 @@ use Rattle.std.specs.Prelude.{slice_index, slice_range}
 use Rattle.std.proofs.Math.Seq.{take-suc}
 use Rattle.std.proofs.lemmas.Grind.{common_steps}
 use Rattle.std.proofs.lemmas.List.{append-nil, get_or-drop, length-drop, length-take-le}
+use Rattle.timing_base.specs.Shifts.{Shift}
 use Rattle.timing_base.specs.Flows.{cuts, first_fault, first_fault_below, has_marker, last_place, markers, no_packet, packet, fault}
 use Rattle.timing_base.specs.Grouped.{IsSized}
 use Rattle.timing_base.specs.Media.{Media}
@@ -58,66 +59,66 @@ begun : (packets : List FlowPacket) (from to : ℕ) → Begun (markers packets f
 begun packets from to some = let h = places-below (has_marker packets) from to some in omega (arith, h.0, h.1)
 
 -- packet `to` has no marker
-behind-plain : (packets : List FlowPacket) (tai from to : ℕ) (marks : List ℕ) → to < length packets → Begun marks to
-    → behind_first packets (to + 1) marks ≡ fed_next (so_far_by packets tai from to marks) (behind_first packets to marks) (packet packets to)
-behind-plain packets tai from to [] within low = refl
-behind-plain packets tai from to (a ∷ []) within low = range-next packets (a + 1) to (omega (arith, low (omega arith))) within
-behind-plain packets tai from to (a ∷ b ∷ rest) within low = range-next packets (a + 1) to (omega (arith, low (omega arith))) within
+behind-plain : (packets : List FlowPacket) (shift : Shift) (from to : ℕ) (marks : List ℕ) → to < length packets → Begun marks to
+    → behind_first packets (to + 1) marks ≡ fed_next (so_far_by packets shift from to marks) (behind_first packets to marks) (packet packets to)
+behind-plain packets shift from to [] within low = refl
+behind-plain packets shift from to (a ∷ []) within low = range-next packets (a + 1) to (omega (arith, low (omega arith))) within
+behind-plain packets shift from to (a ∷ b ∷ rest) within low = range-next packets (a + 1) to (omega (arith, low (omega arith))) within
 
 -- packet `to` has the marker
-behind-marked : (packets : List FlowPacket) (tai from to : ℕ) (marks : List ℕ) → to < length packets → Begun marks to
-    → behind_first packets (to + 1) (marks ++ to ∷ []) ≡ fed_next (so_far_by packets tai from to marks) (behind_first packets to marks) (packet packets to)
-behind-marked packets tai from to [] within low = range-none packets (to + 1)
-behind-marked packets tai from to (a ∷ []) within low = range-next packets (a + 1) to (omega (arith, low (omega arith))) within
-behind-marked packets tai from to (a ∷ b ∷ rest) within low = range-next packets (a + 1) to (omega (arith, low (omega arith))) within
+behind-marked : (packets : List FlowPacket) (shift : Shift) (from to : ℕ) (marks : List ℕ) → to < length packets → Begun marks to
+    → behind_first packets (to + 1) (marks ++ to ∷ []) ≡ fed_next (so_far_by packets shift from to marks) (behind_first packets to marks) (packet packets to)
+behind-marked packets shift from to [] within low = range-none packets (to + 1)
+behind-marked packets shift from to (a ∷ []) within low = range-next packets (a + 1) to (omega (arith, low (omega arith))) within
+behind-marked packets shift from to (a ∷ b ∷ rest) within low = range-next packets (a + 1) to (omega (arith, low (omega arith))) within
 
-behind-case : (packets : List FlowPacket) (tai from to : ℕ) (b : Bool) → has_marker packets to ≡ b → from ≤ to → to < length packets
+behind-case : (packets : List FlowPacket) (shift : Shift) (from to : ℕ) (b : Bool) → has_marker packets to ≡ b → from ≤ to → to < length packets
     → behind_first packets (to + 1) (markers packets from (to + 1))
-    ≡ fed_next (so_far_at packets tai from to) (behind_first packets to (markers packets from to)) (packet packets to)
-behind-case packets tai from to true e order within =
+    ≡ fed_next (so_far_at packets shift from to) (behind_first packets to (markers packets from to)) (packet packets to)
+behind-case packets shift from to true e order within =
     ap (behind_first packets (to + 1)) (places-here (has_marker packets) from to order e)
-    ∙ behind-marked packets tai from to (markers packets from to) within (begun packets from to)
-behind-case packets tai from to false e order within =
+    ∙ behind-marked packets shift from to (markers packets from to) within (begun packets from to)
+behind-case packets shift from to false e order within =
     ap (behind_first packets (to + 1)) (places-other (has_marker packets) from to e)
-    ∙ behind-plain packets tai from to (markers packets from to) within (begun packets from to)
+    ∙ behind-plain packets shift from to (markers packets from to) within (begun packets from to)
 
 -- the packets behind the first marker, with packet `to`
-pub behind-next : (packets : List FlowPacket) (tai from to : ℕ) → from ≤ to → to < length packets
+pub behind-next : (packets : List FlowPacket) (shift : Shift) (from to : ℕ) → from ≤ to → to < length packets
     → behind_first packets (to + 1) (markers packets from (to + 1))
-    ≡ fed_next (so_far_at packets tai from to) (behind_first packets to (markers packets from to)) (packet packets to)
-behind-next packets tai from to order within = behind-case packets tai from to (has_marker packets to) refl order within
+    ≡ fed_next (so_far_at packets shift from to) (behind_first packets to (markers packets from to)) (packet packets to)
+behind-next packets shift from to order within = behind-case packets shift from to (has_marker packets to) refl order within
 
-committed-plain : (packets : List FlowPacket) (tai from to : ℕ) (marks : List ℕ)
+committed-plain : (packets : List FlowPacket) (shift : Shift) (from to : ℕ) (marks : List ℕ)
     → judged_by packets marks
-    ≡ committed_next (so_far_by packets tai from to marks) false (behind_first packets to marks) (judged_by packets marks) (packet packets to)
-committed-plain packets tai from to [] = range-none packets 1
-committed-plain packets tai from to (a ∷ []) = refl
-committed-plain packets tai from to (a ∷ b ∷ rest) = refl
+    ≡ committed_next (so_far_by packets shift from to marks) false (behind_first packets to marks) (judged_by packets marks) (packet packets to)
+committed-plain packets shift from to [] = range-none packets 1
+committed-plain packets shift from to (a ∷ []) = refl
+committed-plain packets shift from to (a ∷ b ∷ rest) = refl
 
-committed-marked : (packets : List FlowPacket) (tai from to : ℕ) (marks : List ℕ) → to < length packets → Begun marks to
+committed-marked : (packets : List FlowPacket) (shift : Shift) (from to : ℕ) (marks : List ℕ) → to < length packets → Begun marks to
     → judged_by packets (marks ++ to ∷ [])
-    ≡ committed_next (so_far_by packets tai from to marks) true (behind_first packets to marks) (judged_by packets marks) (packet packets to)
-committed-marked packets tai from to [] within low = range-none packets (to + 1)
-committed-marked packets tai from to (a ∷ []) within low = range-next packets (a + 1) to (omega (arith, low (omega arith))) within
-committed-marked packets tai from to (a ∷ b ∷ rest) within low =
+    ≡ committed_next (so_far_by packets shift from to marks) true (behind_first packets to marks) (judged_by packets marks) (packet packets to)
+committed-marked packets shift from to [] within low = range-none packets (to + 1)
+committed-marked packets shift from to (a ∷ []) within low = range-next packets (a + 1) to (omega (arith, low (omega arith))) within
+committed-marked packets shift from to (a ∷ b ∷ rest) within low =
     let last : last_place ((a ∷ b ∷ rest) ++ to ∷ []) ≡ to = last_place-push (a ∷ b ∷ rest) to in
     ap (λ k. slice_range packets (a + 1) (k + 1)) last ∙ range-next packets (a + 1) to (omega (arith, low (omega arith))) within
 
-committed-case : (packets : List FlowPacket) (tai from to : ℕ) (b : Bool) → has_marker packets to ≡ b → from ≤ to → to < length packets
+committed-case : (packets : List FlowPacket) (shift : Shift) (from to : ℕ) (b : Bool) → has_marker packets to ≡ b → from ≤ to → to < length packets
     → judged_packets packets from (to + 1)
-    ≡ committed_next (so_far_at packets tai from to) b (behind_first packets to (markers packets from to)) (judged_packets packets from to) (packet packets to)
-committed-case packets tai from to true e order within =
+    ≡ committed_next (so_far_at packets shift from to) b (behind_first packets to (markers packets from to)) (judged_packets packets from to) (packet packets to)
+committed-case packets shift from to true e order within =
     ap (judged_by packets) (places-here (has_marker packets) from to order e)
-    ∙ committed-marked packets tai from to (markers packets from to) within (begun packets from to)
-committed-case packets tai from to false e order within =
-    ap (judged_by packets) (places-other (has_marker packets) from to e) ∙ committed-plain packets tai from to (markers packets from to)
+    ∙ committed-marked packets shift from to (markers packets from to) within (begun packets from to)
+committed-case packets shift from to false e order within =
+    ap (judged_by packets) (places-other (has_marker packets) from to e) ∙ committed-plain packets shift from to (markers packets from to)
 
 -- the judged packets, with packet `to`
-pub committed-next : (packets : List FlowPacket) (tai from to : ℕ) → from ≤ to → to < length packets
+pub committed-next : (packets : List FlowPacket) (shift : Shift) (from to : ℕ) → from ≤ to → to < length packets
     → judged_packets packets from (to + 1)
-    ≡ committed_next (so_far_at packets tai from to) (has_marker packets to) (behind_first packets to (markers packets from to))
+    ≡ committed_next (so_far_at packets shift from to) (has_marker packets to) (behind_first packets to (markers packets from to))
     (judged_packets packets from to) (packet packets to)
-committed-next packets tai from to order within = committed-case packets tai from to (has_marker packets to) refl order within
+committed-next packets shift from to order within = committed-case packets shift from to (has_marker packets to) refl order within
 
 -- where a run starts it has no packets
 pub behind-start : (packets : List FlowPacket) (from : ℕ) → behind_first packets from (markers packets from from) ≡ []
@@ -127,22 +128,22 @@ pub committed-start : (packets : List FlowPacket) (from : ℕ) → judged_packet
 committed-start packets from =
     ap (judged_by packets) (places-none (has_marker packets) from from (omega arith)) ∙ range-none packets 1
 
-stamps-by : (packets : List FlowPacket) (tai from to : ℕ) (marks : List ℕ)
-    → HaveStamps (so_far_by packets tai from to marks) (stamps_of tai (behind_first packets to marks))
-stamps-by packets tai from to [] = refl
-stamps-by packets tai from to (a ∷ []) = refl
-stamps-by packets tai from to (a ∷ b ∷ rest) = refl
+stamps-by : (packets : List FlowPacket) (shift : Shift) (from to : ℕ) (marks : List ℕ)
+    → HaveStamps (so_far_by packets shift from to marks) (stamps_of shift (behind_first packets to marks))
+stamps-by packets shift from to [] = refl
+stamps-by packets shift from to (a ∷ []) = refl
+stamps-by packets shift from to (a ∷ b ∷ rest) = refl
 
 -- the stamps behind the first marker are those that the run has come to
-pub have-stamps : (packets : List FlowPacket) (tai from to : ℕ)
-    → HaveStamps (so_far_at packets tai from to) (stamps_of tai (behind_first packets to (markers packets from to)))
-have-stamps packets tai from to = stamps-by packets tai from to (markers packets from to)
+pub have-stamps : (packets : List FlowPacket) (shift : Shift) (from to : ℕ)
+    → HaveStamps (so_far_at packets shift from to) (stamps_of shift (behind_first packets to (markers packets from to)))
+have-stamps packets shift from to = stamps-by packets shift from to (markers packets from to)
 
-whole-by : (packets : List FlowPacket) (tai from to : ℕ) (marks : List ℕ) → to ≤ length packets → IsSized to marks
-    → HaveWhole tai (so_far_by packets tai from to marks) (judged_by packets marks)
-whole-by packets tai from to [] within sized = tt
-whole-by packets tai from to (a ∷ []) within sized = tt
-whole-by packets tai from to (a ∷ b ∷ rest) within sized =
+whole-by : (packets : List FlowPacket) (shift : Shift) (from to : ℕ) (marks : List ℕ) → to ≤ length packets → IsSized to marks
+    → HaveWhole shift (so_far_by packets shift from to marks) (judged_by packets marks)
+whole-by packets shift from to [] within sized = tt
+whole-by packets shift from to (a ∷ []) within sized = tt
+whole-by packets shift from to (a ∷ b ∷ rest) within sized =
     let two : 2 ≤ length (a ∷ b ∷ rest) = omega arith in
     record {
       stamps = refl;
@@ -155,15 +156,15 @@ whole-by packets tai from to (a ∷ b ∷ rest) within sized =
     }
 
 -- the judged packets are whole groups
-pub have-whole : (packets : List FlowPacket) (tai from to : ℕ) → to ≤ length packets → IsSized to (markers packets from to)
-    → HaveWhole tai (so_far_at packets tai from to) (judged_packets packets from to)
-have-whole packets tai from to within sized = whole-by packets tai from to (markers packets from to) within sized
+pub have-whole : (packets : List FlowPacket) (shift : Shift) (from to : ℕ) → to ≤ length packets → IsSized to (markers packets from to)
+    → HaveWhole shift (so_far_at packets shift from to) (judged_packets packets from to)
+have-whole packets shift from to within sized = whole-by packets shift from to (markers packets from to) within sized
 
-ends-by : (packets : List FlowPacket) (tai from to : ℕ) (marks : List ℕ) → to < length packets → Begun marks to → IsSized (to + 1) (marks ++ to ∷ [])
-    → EndsWhole (so_far_by packets tai from to marks) true (behind_first packets to marks ++ packet packets to ∷ [])
-ends-by packets tai from to [] within low sized = tt
-ends-by packets tai from to (a ∷ []) within low sized = tt
-ends-by packets tai from to (a ∷ b ∷ rest) within low sized =
+ends-by : (packets : List FlowPacket) (shift : Shift) (from to : ℕ) (marks : List ℕ) → to < length packets → Begun marks to → IsSized (to + 1) (marks ++ to ∷ [])
+    → EndsWhole (so_far_by packets shift from to marks) true (behind_first packets to marks ++ packet packets to ∷ [])
+ends-by packets shift from to [] within low sized = tt
+ends-by packets shift from to (a ∷ []) within low sized = tt
+ends-by packets shift from to (a ∷ b ∷ rest) within low sized =
     let marks = (a ∷ b ∷ rest) ++ to ∷ [] in
     let long : length marks ≡ length (a ∷ b ∷ rest) + 1 = length-append (a ∷ b ∷ rest) (to ∷ []) in
     let last : last_place marks ≡ to = last_place-push (a ∷ b ∷ rest) to in
@@ -186,19 +187,19 @@ unmarked (in_head head) packets = tt
 unmarked (in_first head stamps) packets = tt
 unmarked (in_groups g) packets = tt
 
-ends-case : (packets : List FlowPacket) (tai from to : ℕ) (b : Bool) → has_marker packets to ≡ b → from ≤ to → to < length packets
+ends-case : (packets : List FlowPacket) (shift : Shift) (from to : ℕ) (b : Bool) → has_marker packets to ≡ b → from ≤ to → to < length packets
     → IsSized (to + 1) (markers packets from (to + 1))
-    → EndsWhole (so_far_at packets tai from to) b (behind_first packets to (markers packets from to) ++ packet packets to ∷ [])
-ends-case packets tai from to true e order within sized =
-    ends-by packets tai from to (markers packets from to) within (begun packets from to)
+    → EndsWhole (so_far_at packets shift from to) b (behind_first packets to (markers packets from to) ++ packet packets to ∷ [])
+ends-case packets shift from to true e order within sized =
+    ends-by packets shift from to (markers packets from to) within (begun packets from to)
     (subst (IsSized (to + 1)) (places-here (has_marker packets) from to order e) sized)
-ends-case packets tai from to false e order within sized =
-    unmarked (so_far_at packets tai from to) (behind_first packets to (markers packets from to) ++ packet packets to ∷ [])
+ends-case packets shift from to false e order within sized =
+    unmarked (so_far_at packets shift from to) (behind_first packets to (markers packets from to) ++ packet packets to ∷ [])
 
 -- with packet `to`, where it has the marker, they are whole groups
-pub ends-whole : (packets : List FlowPacket) (tai from to : ℕ) → from ≤ to → to < length packets → IsSized (to + 1) (markers packets from (to + 1))
-    → EndsWhole (so_far_at packets tai from to) (has_marker packets to) (behind_first packets to (markers packets from to) ++ packet packets to ∷ [])
-ends-whole packets tai from to order within sized = ends-case packets tai from to (has_marker packets to) refl order within sized
+pub ends-whole : (packets : List FlowPacket) (shift : Shift) (from to : ℕ) → from ≤ to → to < length packets → IsSized (to + 1) (markers packets from (to + 1))
+    → EndsWhole (so_far_at packets shift from to) (has_marker packets to) (behind_first packets to (markers packets from to) ++ packet packets to ∷ [])
+ends-whole packets shift from to order within sized = ends-case packets shift from to (has_marker packets to) refl order within sized
 
 -- where no packet below a place has a fault, the groups of each run up to it are of one size
 pub sized-below : (packets : List FlowPacket) (pt n i : ℕ) → first_fault_below packets pt n ≡ None → i ≤ n
@@ -224,72 +225,72 @@ open-case m (Groups judge) (in_groups g) number first committed s =
     ap (λ n. Some (record { run = run_by number first n; packets = committed })) s.n
 
 -- what is told of the open run is what is judged of it so far
-pub open-is : {M : Type 0} (m : Media) (packets : List FlowPacket) (tai : ℕ) (places : List ℕ) (i : ℕ) (judge : RunJudge M) (so_far : SoFar) → i ≤ length
+pub open-is : {M : Type 0} (m : Media) (packets : List FlowPacket) (shift : Shift) (places : List ℕ) (i : ℕ) (judge : RunJudge M) (so_far : SoFar) → i ≤ length
     packets
-    → so_far ≡ so_far_at packets tai (last_place (0 ∷ places)) i
+    → so_far ≡ so_far_at packets shift (last_place (0 ∷ places)) i
     → RunStandsFor m judge so_far
     → open_part (length places + 1) (packet packets (last_place (0 ∷ places))) judge (judged_packets packets (last_place (0 ∷ places)) i)
-    ≡ open_at packets tai places i
-open-is m packets tai places i judge so_far within is s =
+    ≡ open_at packets shift places i
+open-is m packets shift places i judge so_far within is s =
     let from = last_place (0 ∷ places) in
     let by = open_by (length places + 1) (packet packets from) (judged_packets packets from i) in
     open-case m judge so_far (length places + 1) (packet packets from) (judged_packets packets from i) s
-    ∙ ap by (ap outcome_of is ∙ sym (outcome-so_far packets tai from i within))
+    ∙ ap by (ap outcome_of is ∙ sym (outcome-so_far packets shift from i within))
 
 last-cons : (x y : ℕ) (ys : List ℕ) → last_place (x ∷ y ∷ ys) ≡ last_place (y ∷ ys)
 last-cons x y ys = grind (arith, common_steps)
 
 -- one cut more ends a run
-pub parts_over-push : (m : Media) (packets : List FlowPacket) (tai number from cut : ℕ) (places : List ℕ)
-    → parts_over m packets tai number from (places ++ cut ∷ [])
-    ≡ parts_over m packets tai number from places ++ part_between m packets tai (length places + number) (last_place (from ∷ places)) cut
-parts_over-push m packets tai number from cut [] =
+pub parts_over-push : (m : Media) (packets : List FlowPacket) (shift : Shift) (number from cut : ℕ) (places : List ℕ)
+    → parts_over m packets shift number from (places ++ cut ∷ [])
+    ≡ parts_over m packets shift number from places ++ part_between m packets shift (length places + number) (last_place (from ∷ places)) cut
+parts_over-push m packets shift number from cut [] =
     let count : number ≡ 0 + number = omega arith in
-    append-nil (part_between m packets tai number from cut) ∙ ap (λ k. part_between m packets tai k from cut) count
-parts_over-push m packets tai number from cut (b ∷ places) =
-    let one = part_between m packets tai number from b in
+    append-nil (part_between m packets shift number from cut) ∙ ap (λ k. part_between m packets shift k from cut) count
+parts_over-push m packets shift number from cut (b ∷ places) =
+    let one = part_between m packets shift number from b in
     let count : length places + (number + 1) ≡ length (b ∷ places) + number = omega arith in
-    ap (λ parts. one ++ parts) (parts_over-push m packets tai (number + 1) b cut places)
-    ∙ (sym (append_assoc one (parts_over m packets tai (number + 1) b places) _)
-    ∙ (ap (λ k. (one ++ parts_over m packets tai (number + 1) b places) ++ part_between m packets tai k (last_place (b ∷ places)) cut) count
-    ∙ ap (λ k. (one ++ parts_over m packets tai (number + 1) b places) ++ part_between m packets tai (length (b ∷ places) + number) k cut)
+    ap (λ parts. one ++ parts) (parts_over-push m packets shift (number + 1) b cut places)
+    ∙ (sym (append_assoc one (parts_over m packets shift (number + 1) b places) _)
+    ∙ (ap (λ k. (one ++ parts_over m packets shift (number + 1) b places) ++ part_between m packets shift k (last_place (b ∷ places)) cut) count
+    ∙ ap (λ k. (one ++ parts_over m packets shift (number + 1) b places) ++ part_between m packets shift (length (b ∷ places) + number) k cut)
     (sym (last-cons from b places))))
 
 -- all runs are those that are over, and the last
-pub parts_between-over : (m : Media) (packets : List FlowPacket) (tai to number from : ℕ) (places : List ℕ)
-    → parts_between m packets tai to number from places
-    ≡ parts_over m packets tai number from places ++ part_between m packets tai (length places + number) (last_place (from ∷ places)) to
-parts_between-over m packets tai to number from [] =
-    let count : number ≡ 0 + number = omega arith in ap (λ k. part_between m packets tai k from to) count
-parts_between-over m packets tai to number from (b ∷ places) =
-    let one = part_between m packets tai number from b in
+pub parts_between-over : (m : Media) (packets : List FlowPacket) (shift : Shift) (to number from : ℕ) (places : List ℕ)
+    → parts_between m packets shift to number from places
+    ≡ parts_over m packets shift number from places ++ part_between m packets shift (length places + number) (last_place (from ∷ places)) to
+parts_between-over m packets shift to number from [] =
+    let count : number ≡ 0 + number = omega arith in ap (λ k. part_between m packets shift k from to) count
+parts_between-over m packets shift to number from (b ∷ places) =
+    let one = part_between m packets shift number from b in
     let count : length places + (number + 1) ≡ length (b ∷ places) + number = omega arith in
-    ap (λ parts. one ++ parts) (parts_between-over m packets tai to (number + 1) b places)
-    ∙ (sym (append_assoc one (parts_over m packets tai (number + 1) b places) _)
-    ∙ (ap (λ k. (one ++ parts_over m packets tai (number + 1) b places) ++ part_between m packets tai k (last_place (b ∷ places)) to) count
-    ∙ ap (λ k. (one ++ parts_over m packets tai (number + 1) b places) ++ part_between m packets tai (length (b ∷ places) + number) k to)
+    ap (λ parts. one ++ parts) (parts_between-over m packets shift to (number + 1) b places)
+    ∙ (sym (append_assoc one (parts_over m packets shift (number + 1) b places) _)
+    ∙ (ap (λ k. (one ++ parts_over m packets shift (number + 1) b places) ++ part_between m packets shift k (last_place (b ∷ places)) to) count
+    ∙ ap (λ k. (one ++ parts_over m packets shift (number + 1) b places) ++ part_between m packets shift (length (b ∷ places) + number) k to)
     (sym (last-cons from b places))))
 
 no_places : (xs : List ℕ) → length xs ≡ 0 → xs ≡ []
 no_places [] e = refl
 no_places (x ∷ xs) e = absurd (omega (arith, e))
 
-parts-case : (m : Media) (packets : List FlowPacket) (tai : ℕ) (places : List ℕ) → 0 < length packets → first_fault packets m.pt ≡ None
+parts-case : (m : Media) (packets : List FlowPacket) (shift : Shift) (places : List ℕ) → 0 < length packets → first_fault packets m.pt ≡ None
     → cuts packets (length packets) ≡ places
-    → judged_parts m packets tai ≡ parts_between m packets tai (length packets) 1 0 (cuts packets (length packets))
-parts-case m packets tai [] some none e =
+    → judged_parts m packets shift ≡ parts_between m packets shift (length packets) 1 0 (cuts packets (length packets))
+parts-case m packets shift [] some none e =
     let no_cut : length (cuts packets (length packets)) ≡ 0 = ap length e in
-    ap (parts_in m packets tai) (judged-one packets m.pt tai some none no_cut)
-    ∙ ap (parts_between m packets tai (length packets) 1 0) (sym e)
-parts-case m packets tai (cut ∷ places) some none e =
+    ap (parts_in m packets shift) (judged-one packets m.pt shift some none no_cut)
+    ∙ ap (parts_between m packets shift (length packets) 1 0) (sym e)
+parts-case m packets shift (cut ∷ places) some none e =
     let a_cut : 0 < length (cuts packets (length packets)) = subst (λ xs. 0 < length xs) (sym e) (omega arith) in
-    ap (parts_in m packets tai) (judged-many packets m.pt tai some none a_cut)
+    ap (parts_in m packets shift) (judged-many packets m.pt shift some none a_cut)
 
 -- the judged runs of a flow without a fault
-pub judged_parts-sound : (m : Media) (packets : List FlowPacket) (tai : ℕ) → 0 < length packets → first_fault packets m.pt ≡ None
-    → judged_parts m packets tai ≡ parts_between m packets tai (length packets) 1 0 (cuts packets (length packets))
-judged_parts-sound m packets tai some none = parts-case m packets tai (cuts packets (length packets)) some none refl
+pub judged_parts-sound : (m : Media) (packets : List FlowPacket) (shift : Shift) → 0 < length packets → first_fault packets m.pt ≡ None
+    → judged_parts m packets shift ≡ parts_between m packets shift (length packets) 1 0 (cuts packets (length packets))
+judged_parts-sound m packets shift some none = parts-case m packets shift (cuts packets (length packets)) some none refl
 
 -- and of one that has no packet
-pub judged_parts-none : (m : Media) (packets : List FlowPacket) (tai : ℕ) → length packets ≡ 0 → judged_parts m packets tai ≡ []
-judged_parts-none m packets tai e = ap (parts_in m packets tai) (judged-none packets m.pt tai e)
+pub judged_parts-none : (m : Media) (packets : List FlowPacket) (shift : Shift) → length packets ≡ 0 → judged_parts m packets shift ≡ []
+judged_parts-none m packets shift e = ap (parts_in m packets shift) (judged-none packets m.pt shift e)

@@ -7,6 +7,7 @@ use Rattle.std.proofs.Math.Logic.{∥∥₁_elim}
 use Rattle.std.proofs.lemmas.Bool.Decides.{nat_tests}
 use Rattle.std.proofs.lemmas.List.{append-nil}
 use Rattle.std.proofs.lemmas.List.Elements.{All-map}
+use Rattle.timing_base.specs.Shifts.{Shift}
 use Rattle.timing_base.specs.Flows.{FirstFault, cuts, first_fault, first_fault_below, last_place, packet}
 use Rattle.timing_base.specs.Grouped.{ExpectsAfterFirst}
 use Rattle.timing_base.specs.Judged.{FlowRun, RunOutcome, absent, in_one_run, in_runs, judged, judged_runs, refusal, refused_or, run_outcome, runs}
@@ -36,29 +37,29 @@ some-is : (n : ℕ) → 0 < n → (n == 0) ≡ false
 some-is n h = grind (arith, nat_tests)
 
 -- what is judged of no packets
-pub judged-none : (packets : List FlowPacket) (pt tai : ℕ) → length packets ≡ 0 → judged packets pt tai ≡ absent
-judged-none packets pt tai e =
-    ap (λ b. if b then absent else refused_or packets (first_fault packets pt) (judged_runs packets tai)) (none-is (length packets) e)
+pub judged-none : (packets : List FlowPacket) (pt : ℕ) (shift : Shift) → length packets ≡ 0 → judged packets pt shift ≡ absent
+judged-none packets pt shift e =
+    ap (λ b. if b then absent else refused_or packets (first_fault packets pt) (judged_runs packets shift)) (none-is (length packets) e)
 
 -- of a flow without a fault
-judged-sound : (packets : List FlowPacket) (pt tai : ℕ) → 0 < length packets → first_fault packets pt ≡ None → judged packets pt tai ≡ judged_runs packets tai
-judged-sound packets pt tai some none =
-    ap (λ b. if b then absent else refused_or packets (first_fault packets pt) (judged_runs packets tai)) (some-is (length packets) some)
-    ∙ ap (λ first. refused_or packets first (judged_runs packets tai)) none
+judged-sound : (packets : List FlowPacket) (pt : ℕ) (shift : Shift) → 0 < length packets → first_fault packets pt ≡ None → judged packets pt shift ≡ judged_runs packets shift
+judged-sound packets pt shift some none =
+    ap (λ b. if b then absent else refused_or packets (first_fault packets pt) (judged_runs packets shift)) (some-is (length packets) some)
+    ∙ ap (λ first. refused_or packets first (judged_runs packets shift)) none
 
 -- of one without a cut
-pub judged-one : (packets : List FlowPacket) (pt tai : ℕ) → 0 < length packets → first_fault packets pt ≡ None → length (cuts packets (length packets)) ≡ 0
-    → judged packets pt tai ≡ in_one_run (run_outcome packets tai 0 (length packets))
-judged-one packets pt tai some none no_cut =
-    judged-sound packets pt tai some none
-    ∙ ap (λ b. if b then in_one_run (run_outcome packets tai 0 (length packets)) else in_runs (runs packets tai)) (none-is _ no_cut)
+pub judged-one : (packets : List FlowPacket) (pt : ℕ) (shift : Shift) → 0 < length packets → first_fault packets pt ≡ None → length (cuts packets (length packets)) ≡ 0
+    → judged packets pt shift ≡ in_one_run (run_outcome packets shift 0 (length packets))
+judged-one packets pt shift some none no_cut =
+    judged-sound packets pt shift some none
+    ∙ ap (λ b. if b then in_one_run (run_outcome packets shift 0 (length packets)) else in_runs (runs packets shift)) (none-is _ no_cut)
 
 -- and of one with cuts
-pub judged-many : (packets : List FlowPacket) (pt tai : ℕ) → 0 < length packets → first_fault packets pt ≡ None → 0 < length (cuts packets (length packets))
-    → judged packets pt tai ≡ in_runs (runs packets tai)
-judged-many packets pt tai some none a_cut =
-    judged-sound packets pt tai some none
-    ∙ ap (λ b. if b then in_one_run (run_outcome packets tai 0 (length packets)) else in_runs (runs packets tai)) (some-is _ a_cut)
+pub judged-many : (packets : List FlowPacket) (pt : ℕ) (shift : Shift) → 0 < length packets → first_fault packets pt ≡ None → 0 < length (cuts packets (length packets))
+    → judged packets pt shift ≡ in_runs (runs packets shift)
+judged-many packets pt shift some none a_cut =
+    judged-sound packets pt shift some none
+    ∙ ap (λ b. if b then in_one_run (run_outcome packets shift 0 (length packets)) else in_runs (runs packets shift)) (some-is _ a_cut)
 
 -- the flow has no fault
 pub no_fault : {M : Type 0} (flow : Flow M) (packets : List FlowPacket) → StandsFor flow packets → first_fault packets flow.media.pt ≡ None
@@ -66,21 +67,21 @@ no_fault flow packets s = subst (λ (all : List FlowPacket). first_fault_below a
 
 -- and these runs
 pub opens : {M : Type 0} (flow : Flow M) (packets : List FlowPacket) → (s : StandsFor flow packets)
-    → OpensAt flow.media flow.tai packets (length packets) s.so_far flow.done.items flow.open
+    → OpensAt flow.media flow.shift packets (length packets) s.so_far flow.done.items flow.open
 opens flow packets s =
-    subst (λ (all : List FlowPacket). OpensAt flow.media flow.tai all (length packets) s.so_far flow.done.items flow.open) (append-nil packets) (s.runs [])
+    subst (λ (all : List FlowPacket). OpensAt flow.media flow.shift all (length packets) s.so_far flow.done.items flow.open) (append-nil packets) (s.runs [])
 
 -- a flow that has no packet is absent
 pub verdict-absent : {M : Type 0} (flow : Flow M) (packets : List FlowPacket) → flow.open ≡ None → StandsFor flow packets
-    → verdict.Unjudged unjudged.Absent ≡ verdict_of flow.media (judged packets flow.media.pt flow.tai)
+    → verdict.Unjudged unjudged.Absent ≡ verdict_of flow.media (judged packets flow.media.pt flow.shift)
 verdict-absent {M} flow packets e s =
-    let o : OpensAt {M = M} flow.media flow.tai packets (length packets) s.so_far flow.done.items None =
-    subst (OpensAt flow.media flow.tai packets (length packets) s.so_far flow.done.items) e (opens flow packets s) in
-    sym (ap (verdict_of flow.media) (judged-none packets flow.media.pt flow.tai o.0))
+    let o : OpensAt {M = M} flow.media flow.shift packets (length packets) s.so_far flow.done.items None =
+    subst (OpensAt flow.media flow.shift packets (length packets) s.so_far flow.done.items) e (opens flow packets s) in
+    sym (ap (verdict_of flow.media) (judged-none packets flow.media.pt flow.shift o.0))
 
 pub some-open : {M : Type 0} (flow : Flow M) (packets : List FlowPacket) (open_run : OpenRun M) → flow.open ≡ Some open_run → (s : StandsFor flow packets)
-    → IsOpen flow.media flow.tai packets (length packets) (cuts packets (length packets)) s.so_far flow.done.items open_run
-some-open flow packets open_run e s = subst (OpensAt flow.media flow.tai packets (length packets) s.so_far flow.done.items) e (opens flow packets s)
+    → IsOpen flow.media flow.shift packets (length packets) (cuts packets (length packets)) s.so_far flow.done.items open_run
+some-open flow packets open_run e s = subst (OpensAt flow.media flow.shift packets (length packets) s.so_far flow.done.items) e (opens flow packets s)
 
 no_places : (xs : List ℕ) → length xs ≡ 0 → xs ≡ []
 no_places [] e = refl
@@ -109,17 +110,17 @@ pub verdict-one : {M : Type 0} (flow : Flow M) (packets : List FlowPacket) (open
     → Says open_run told
     → ((m : Media) (outcome : RunOutcome) → told ≡ run_verdict_of m outcome → result ≡ one_run_verdict m outcome)
     → StandsFor flow packets
-    → result ≡ verdict_of flow.media (judged packets flow.media.pt flow.tai)
+    → result ≡ verdict_of flow.media (judged packets flow.media.pt flow.shift)
 verdict-one flow packets open_run told result e none says is s =
     let n = length packets in
     let o = some-open flow packets open_run e s in
     let no_cut : length (cuts packets n) ≡ 0 = omega (arith, o.count, none) in
     let from : last_place (0 ∷ cuts packets n) ≡ 0 = ap (λ places. last_place (0 ∷ places)) (no_places _ no_cut) in
-    let outcome : outcome_of s.so_far ≡ run_outcome packets flow.tai 0 n =
-    ap outcome_of (o.so_far_is ∙ ap (λ k. so_far_at packets flow.tai k n) from) ∙ sym (outcome-so_far packets flow.tai 0 n (omega arith)) in
+    let outcome : outcome_of s.so_far ≡ run_outcome packets flow.shift 0 n =
+    ap outcome_of (o.so_far_is ∙ ap (λ k. so_far_at packets flow.shift k n) from) ∙ sym (outcome-so_far packets flow.shift 0 n (omega arith)) in
     is flow.media _ (says flow.media s.so_far o.judge)
     ∙ (ap (one_run_verdict flow.media) outcome
-    ∙ sym (ap (verdict_of flow.media) (judged-one packets flow.media.pt flow.tai o.some (no_fault flow packets s) no_cut)))
+    ∙ sym (ap (verdict_of flow.media) (judged-one packets flow.media.pt flow.shift o.some (no_fault flow packets s) no_cut)))
 
 -- a run by its parts
 abbrev run_by : ℕ → ℕ → Option ℕ → RunVerdict → Run
@@ -132,13 +133,13 @@ run-same a b c d e f v w p q r s = cc
 pub all-runs : {M : Type 0} (flow : Flow M) (packets : List FlowPacket) (open_run : OpenRun M) (told : Run) → flow.open ≡ Some open_run
     → Tells open_run told
     → StandsFor flow packets
-    → flow.done.items ++ told ∷ [] ≡ map (run_of flow.media) (runs packets flow.tai)
+    → flow.done.items ++ told ∷ [] ≡ map (run_of flow.media) (runs packets flow.shift)
 all-runs flow packets open_run told e tells s =
     let n = length packets in
     let o = some-open flow packets open_run e s in
     let from = last_place (0 ∷ cuts packets n) in
-    let outcome : outcome_of s.so_far ≡ run_outcome packets flow.tai from n =
-    ap outcome_of o.so_far_is ∙ sym (outcome-so_far packets flow.tai from n (omega arith)) in
+    let outcome : outcome_of s.so_far ≡ run_outcome packets flow.shift from n =
+    ap outcome_of o.so_far_is ∙ sym (outcome-so_far packets flow.shift from n (omega arith)) in
     ap (λ (x : Run). flow.done.items ++ x ∷ [])
     (tells flow.media s.so_far o.judge ∙ run-same _ _ _ _ _ _ _ _ o.rec o.number o.expected (ap (run_verdict_of flow.media) outcome))
     ∙ sym (o.runs n)
@@ -149,11 +150,11 @@ pub verdict-many : {M : Type 0} (flow : Flow M) (packets : List FlowPacket) (ope
     → Tells open_run told
     → list ≡ flow.done.items ++ told ∷ []
     → StandsFor flow packets
-    → verdict.Runs list ≡ verdict_of flow.media (judged packets flow.media.pt flow.tai)
+    → verdict.Runs list ≡ verdict_of flow.media (judged packets flow.media.pt flow.shift)
 verdict-many flow packets open_run told list e some says is s =
     let o = some-open flow packets open_run e s in
     ap verdict.Runs (is ∙ all-runs flow packets open_run told e says s)
-    ∙ sym (ap (verdict_of flow.media) (judged-many packets flow.media.pt flow.tai o.some (no_fault flow packets s) (omega (arith, o.count, some))))
+    ∙ sym (ap (verdict_of flow.media) (judged-many packets flow.media.pt flow.shift o.some (no_fault flow packets s) (omega (arith, o.count, some))))
 
 expects-map : (m : Media) (runs : List FlowRun) → ExpectsAfterFirst runs → ExpectAfterFirst (map (run_of m) runs)
 expects-map m [] e = tt
@@ -176,7 +177,7 @@ are-runs flow packets open_run told list e some says is s =
       some = omega (arith, long, some);
       few = omega (arith, long, o.count, few.few);
       expected = subst ExpectAfterFirst (sym (is ∙ all-runs flow packets open_run told e says s))
-          (expects-map flow.media (runs packets flow.tai) (first_expected packets flow.tai n (cuts packets n) few.later));
+          (expects-map flow.media (runs packets flow.shift) (first_expected packets flow.shift n (cuts packets n) few.later));
     }
 
 expect-prop : (list : List Run) → IsProp (ExpectAfterFirst list)
@@ -214,14 +215,14 @@ some-packets [] pt x e = cc
 some-packets (p ∷ packets) pt x e = omega arith
 
 -- the row of a flow with a fault
-pub refused-verdict : (m : Media) (tai : ℕ) (packets : List FlowPacket) (rec : ℕ) (fault : PacketFault) → IsRefused m packets rec fault
-    → judged packets m.pt tai ≡ refusal rec fault
-refused-verdict m tai packets rec fault r =
+pub refused-verdict : (m : Media) (shift : Shift) (packets : List FlowPacket) (rec : ℕ) (fault : PacketFault) → IsRefused m packets rec fault
+    → judged packets m.pt shift ≡ refusal rec fault
+refused-verdict m shift packets rec fault r =
     let first : first_fault packets m.pt ≡ Some (record { index = r.index; fault = fault }) =
     subst (λ (all : List FlowPacket). first_fault_below all m.pt (length packets) ≡ Some (record { index = r.index; fault = fault })) (append-nil packets)
     (r.first []) in
     let rec_is : (packet packets r.index).rec ≡ rec = subst (λ (all : List FlowPacket). (packet all r.index).rec ≡ rec) (append-nil packets) (r.rec_is []) in
-    ap (λ b. if b then absent else refused_or packets (first_fault packets m.pt) (judged_runs packets tai))
+    ap (λ b. if b then absent else refused_or packets (first_fault packets m.pt) (judged_runs packets shift))
     (some-is (length packets) (some-packets packets m.pt _ first))
-    ∙ (ap (λ f. refused_or packets f (judged_runs packets tai)) first
+    ∙ (ap (λ f. refused_or packets f (judged_runs packets shift)) first
     ∙ ap (λ k. refusal k fault) rec_is)

@@ -2,6 +2,7 @@
 -- Media count from 0.
 use Rattle.std.specs.Prelude.{◌≡◌, ◌≤◌, ◌+◌, ◌^◌, ℕ, max, ⊤, List, [], ◌∷◌, ◌++◌}
 use Rattle.std.proofs.Common.{arith, subst, sym, append_assoc, append-nil}
+use Rattle.timing_base.specs.Shifts.{FlowOptions}
 use Rattle.timing_base.specs.Captures.{Record}
 use Rattle.timing_base.specs.Keys.{key_of}
 use Rattle.timing_base.specs.Media.{Media}
@@ -17,36 +18,36 @@ abbrev pub Judging : Type 0
 Judging = Metered (Unit {0}) (Unit {0})
 
 -- the judge is that of this media, and was fed the flow in these records
-pub record IsJudgeOf (m : Media) (file number tai : ℕ) (f : MediaFlow Judging) (items : List Record) : Type 0 where
+pub record IsJudgeOf (m : Media) (file number : ℕ) (options : FlowOptions) (f : MediaFlow Judging) (items : List Record) : Type 0 where
   pub media : f.media ≡ m
-  pub judge : JudgeStandsFor m (key_of file number) tai f.taker.judge (flow items m)
+  pub judge : JudgeStandsFor m (key_of file number) options f.taker.judge (flow items m)
 
 -- the judges are those of these media, in order; the first has this number
-abbrev pub AreJudgesOf : (tai file number : ℕ) → List Media → List (MediaFlow Judging) → List Record → Type 0
-AreJudgesOf tai file number [] [] items = ⊤
-AreJudgesOf tai file number [] (f ∷ fs) items = ⊥
-AreJudgesOf tai file number (m ∷ ms) [] items = ⊥
-AreJudgesOf tai file number (m ∷ ms) (f ∷ fs) items =
-    IsJudgeOf m file number tai f items × AreJudgesOf tai file (number + 1) ms fs items
+abbrev pub AreJudgesOf : (options : FlowOptions) (file number : ℕ) → List Media → List (MediaFlow Judging) → List Record → Type 0
+AreJudgesOf options file number [] [] items = ⊤
+AreJudgesOf options file number [] (f ∷ fs) items = ⊥
+AreJudgesOf options file number (m ∷ ms) [] items = ⊥
+AreJudgesOf options file number (m ∷ ms) (f ∷ fs) items =
+    IsJudgeOf m file number options f items × AreJudgesOf options file (number + 1) ms fs items
 
 -- the bank was fed exactly these records of one file
-abbrev pub StandsFor : List Media → (file tai : ℕ) → Bank → List Record → Type 0
-StandsFor media file tai bank items = AreJudgesOf tai file 0 media (flows_of bank.demux) items
+abbrev pub StandsFor : List Media → (file : ℕ) (options : FlowOptions) → Bank → List Record → Type 0
+StandsFor media file options bank items = AreJudgesOf options file 0 media (flows_of bank.demux) items
 
 -- if `old` was fed some records, `new` was fed those and then these
 abbrev pub Feeds : (old new : Bank) → List Record → Type 0
-Feeds old new more = (media : List Media) (file tai : ℕ) (items : List Record) → StandsFor media file tai old items
-    → StandsFor media file tai new (items ++ more)
+Feeds old new more = (media : List Media) (file : ℕ) (options : FlowOptions) (items : List Record) → StandsFor media file options old items
+    → StandsFor media file options new (items ++ more)
 
 -- the empty list of records changes nothing
 pub feeds_none : (bank : Bank) → Feeds bank bank []
-feeds_none bank media file tai items h = subst (StandsFor media file tai bank) (sym (append-nil items)) h
+feeds_none bank media file options items h = subst (StandsFor media file options bank) (sym (append-nil items)) h
 
 -- records that are fed in two parts are fed as all of them are
 pub feeds_more : (old mid new : Bank) (a b : List Record) → Feeds old mid a → Feeds mid new b → Feeds old new (a ++ b)
-feeds_more old mid new a b first second media file tai items h =
-    subst (StandsFor media file tai new) (append_assoc items a b)
-    (second media file tai (items ++ a) (first media file tai items h))
+feeds_more old mid new a b first second media file options items h =
+    subst (StandsFor media file options new) (append_assoc items a b)
+    (second media file options (items ++ a) (first media file options items h))
 
 -- the largest number of packets that one of these judges was fed
 abbrev pub most_fed : List (MediaFlow Judging) → ℕ

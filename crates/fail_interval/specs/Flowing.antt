@@ -1,6 +1,7 @@
 -- The state of a `Flow` after the packets that it was fed. Packets count from 0.
 use Rattle.std.specs.Prelude.{◌≡◌, ◌≤◌, ◌<◌, ◌+◌, ◌^◌, ℕ, List, [], ◌∷◌, ◌++◌, length, map, vec_len, vec_capacity, ⊤}
 use Rattle.std.specs.Prelude.{true, Option, Some, None, Ok}
+use Rattle.timing_base.specs.Shifts.{Shift}
 use Rattle.frame_group.specs.Expected.{after, expected_after, going_on, next_packet}
 use Rattle.frame_group.specs.Stands.{StandsFor as GrouperStandsFor, expected_of}
 use Rattle.timing_base.specs.Captures.{IsStamp}
@@ -18,23 +19,23 @@ use Rattle.fail_interval.specs.declared.flow.Flow.{Flow}
 use Rattle.fail_interval.specs.declared.flow.OpenRun.{OpenRun}
 
 -- the packets before packet i, with gaps at these places, are those of the runs that have ended and of the open one
-pub record IsOpen {M : Type 0} (m : Media) (tai : ℕ) (packets : List FlowPacket) (i : ℕ) (places : List ℕ)
+pub record IsOpen {M : Type 0} (m : Media) (shift : Shift) (packets : List FlowPacket) (i : ℕ) (places : List ℕ)
     (so_far : SoFar) (done : List Run) (open_run : OpenRun M) : Type 0 where
   pub some : 0 < i
   pub rec : open_run.rec ≡ (packet packets (last_place (0 ∷ places))).rec
   pub number : open_run.number ≡ (rtp packets (last_place (0 ∷ places))).number
   pub expected : open_run.expected ≡ expected_at packets (last_place (0 ∷ places))
   pub judge : RunStandsFor m open_run.judge so_far
-  pub so_far_is : so_far ≡ so_far_at packets tai (last_place (0 ∷ places)) i
+  pub so_far_is : so_far ≡ so_far_at packets shift (last_place (0 ∷ places)) i
   pub count : length done ≡ length places
-  pub runs : (to : ℕ) → map (run_of m) (runs_between packets tai to 0 places)
-      ≡ done ++ run_of m (run_at packets tai (last_place (0 ∷ places)) to) ∷ []
+  pub runs : (to : ℕ) → map (run_of m) (runs_between packets shift to 0 places)
+      ≡ done ++ run_of m (run_at packets shift (last_place (0 ∷ places)) to) ∷ []
 
 -- the packets before packet i are those of the runs that have ended and of the open one; before packet 0 there is no
 -- run
 abbrev pub OpensAt : {M : Type 0} → Media → ℕ → List FlowPacket → ℕ → SoFar → List Run → Option (OpenRun M) → Type 0
-OpensAt m tai packets i so_far done None = (i ≡ 0) × (done ≡ [])
-OpensAt m tai packets i so_far done (Some open_run) = IsOpen m tai packets i (cuts packets i) so_far done open_run
+OpensAt m shift packets i so_far done None = (i ≡ 0) × (done ≡ [])
+OpensAt m shift packets i so_far done (Some open_run) = IsOpen m shift packets i (cuts packets i) so_far done open_run
 
 -- the open run has ended: its result follows those of the runs before
 abbrev pub IsClosed : {M : Type 0} → Media → List Run → Option (OpenRun M) → List Run → Type 0
@@ -53,19 +54,19 @@ HasRoom flow = 1 ≤ vec_len flow.done → vec_len flow.done < vec_capacity flow
 
 -- the flow was fed exactly these packets, as far as later calls depend on it, whatever packets follow
 pub record StandsFor {M : Type 0} (flow : Flow M) (packets : List FlowPacket) : Type 0 where
-  pub seconds : flow.tai ≤ 1000
+  pub seconds : flow.shift ≤ 1000
   pub grouper : GrouperStandsFor flow.media.pt flow.grouper packets
   pub sound : (rest : List FlowPacket) → first_fault_below (packets ++ rest) flow.media.pt (length packets) ≡ None
   pub so_far : SoFar
-  pub runs : (rest : List FlowPacket) → OpensAt flow.media flow.tai (packets ++ rest)
+  pub runs : (rest : List FlowPacket) → OpensAt flow.media flow.shift (packets ++ rest)
       (length packets) so_far flow.done.items flow.open
   pub room : HasRoom flow
 
 -- packet i has this packet record, this instant and this RTP header
-pub record ComesNext (packets : List FlowPacket) (tai i rec_number at : ℕ) (seen : Rtp) : Type 0 where
+pub record ComesNext (packets : List FlowPacket) (shift : Shift) (i rec_number at : ℕ) (seen : Rtp) : Type 0 where
   pub within : i < length packets
   pub rec : (packet packets i).rec ≡ rec_number
-  pub stamp : stamp_of tai (packet packets i) ≡ at
+  pub stamp : stamp_of shift (packet packets i) ≡ at
   pub reading : (packet packets i).rtp ≡ Ok seen
 
 -- a run starts with packet i, at a gap or at the start of the flow

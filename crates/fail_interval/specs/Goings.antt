@@ -14,7 +14,7 @@ pub record GoesBy {M : Type 0} (step : Flow M → Flow M → Type 0) (old new : 
   pub is : old ≡ Going flow
   pub becomes : new ≡ Going later
   pub media : later.media ≡ flow.media
-  pub tai : later.tai ≡ flow.tai
+  pub shift : later.shift ≡ flow.shift
   pub goes : step flow later
 
 -- a flow without a fault took this packet

@@ -7,6 +7,7 @@ pub mod Telling
 pub mod Measured
 pub mod Meterings
 pub mod Fails
+pub mod Counting
 pub mod Stands
 pub mod BankStands
 pub mod Found

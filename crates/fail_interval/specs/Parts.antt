@@ -2,6 +2,7 @@
 -- its judged packets are those after its first marker, up to and including its last marker. Packets count from 0, runs
 -- from 1; `tai` is in seconds. This project's profile.
 use Rattle.std.specs.Prelude.{ℕ, ◌+◌, List, [], ◌∷◌, ◌++◌, length, slice_index, slice_range, Option, Some, None}
+use Rattle.timing_base.specs.Shifts.{Shift}
 use Rattle.timing_base.specs.Flows.{FirstFault, cuts, last_place, markers, packet}
 use Rattle.timing_base.specs.Judged.{FlowVerdict, RunOutcome, in_one_run, in_runs, judged, no_whole_frame, run_outcome}
 use Rattle.timing_base.specs.Judged.{whole_frames}
@@ -23,37 +24,37 @@ part_by m number first packets (whole_frames run) =
     record { number = number; first = first; values = judged_values m run; packets = packets } ∷ []
 
 -- the run of this number from packet `from` on and before packet `to`
-abbrev pub part_between : Media → List FlowPacket → (tai number from to : ℕ) → List JudgedPart
-part_between m packets tai number from to =
-    part_by m number (packet packets from) (judged_packets packets from to) (run_outcome packets tai from to)
+abbrev pub part_between : Media → List FlowPacket → (shift : Shift) (number from to : ℕ) → List JudgedPart
+part_between m packets shift number from to =
+    part_by m number (packet packets from) (judged_packets packets from to) (run_outcome packets shift from to)
 
 -- the judged runs from packet `from` on, up to the last of these gaps; the first run has this number
-abbrev pub parts_over : Media → List FlowPacket → (tai number from : ℕ) → List ℕ → List JudgedPart
-parts_over m packets tai number from [] = []
-parts_over m packets tai number from (cut ∷ rest) =
-    part_between m packets tai number from cut ++ parts_over m packets tai (number + 1) cut rest
+abbrev pub parts_over : Media → List FlowPacket → (shift : Shift) (number from : ℕ) → List ℕ → List JudgedPart
+parts_over m packets shift number from [] = []
+parts_over m packets shift number from (cut ∷ rest) =
+    part_between m packets shift number from cut ++ parts_over m packets shift (number + 1) cut rest
 
 -- the judged runs from packet `from` on and before packet `to`, with these gaps between; the first run has this number
-abbrev pub parts_between : Media → List FlowPacket → (tai to number from : ℕ) → List ℕ → List JudgedPart
-parts_between m packets tai to number from [] = part_between m packets tai number from to
-parts_between m packets tai to number from (cut ∷ rest) =
-    part_between m packets tai number from cut ++ parts_between m packets tai to (number + 1) cut rest
+abbrev pub parts_between : Media → List FlowPacket → (shift : Shift) (to number from : ℕ) → List ℕ → List JudgedPart
+parts_between m packets shift to number from [] = part_between m packets shift number from to
+parts_between m packets shift to number from (cut ∷ rest) =
+    part_between m packets shift number from cut ++ parts_between m packets shift to (number + 1) cut rest
 
 -- the judged runs of a flow with this verdict
-abbrev pub parts_in : Media → List FlowPacket → (tai : ℕ) → FlowVerdict → List JudgedPart
-parts_in m packets tai (in_one_run outcome) =
+abbrev pub parts_in : Media → List FlowPacket → (shift : Shift) → FlowVerdict → List JudgedPart
+parts_in m packets shift (in_one_run outcome) =
     part_by m 1 (packet packets 0) (judged_packets packets 0 (length packets)) outcome
-parts_in m packets tai (in_runs runs) =
-    parts_between m packets tai (length packets) 1 0 (cuts packets (length packets))
-parts_in m packets tai verdict = []
+parts_in m packets shift (in_runs runs) =
+    parts_between m packets shift (length packets) 1 0 (cuts packets (length packets))
+parts_in m packets shift verdict = []
 
 -- the judged runs of the flow of a media
-abbrev pub judged_parts : Media → List FlowPacket → (tai : ℕ) → List JudgedPart
-judged_parts m packets tai = parts_in m packets tai (judged packets m.pt tai)
+abbrev pub judged_parts : Media → List FlowPacket → (shift : Shift) → List JudgedPart
+judged_parts m packets shift = parts_in m packets shift (judged packets m.pt shift)
 
 -- the judged runs that have ended before packet n of a flow
-abbrev pub parts_before : Media → List FlowPacket → (tai n : ℕ) → List JudgedPart
-parts_before m packets tai n = parts_over m packets tai 1 0 (cuts packets n)
+abbrev pub parts_before : Media → List FlowPacket → (shift : Shift) (n : ℕ) → List JudgedPart
+parts_before m packets shift n = parts_over m packets shift 1 0 (cuts packets n)
 
 -- the run of this number, with this first packet and n packets per frame or field
 abbrev pub run_by : (number : ℕ) → (first : FlowPacket) → (n : ℕ) → RunOf
@@ -66,15 +67,15 @@ open_by number first packets (whole_frames run) =
     Some (record { run = run_by number first run.n; packets = packets })
 
 -- the run that is open before packet n of a flow, with gaps at these places before
-abbrev pub open_at : List FlowPacket → (tai : ℕ) → List ℕ → (n : ℕ) → Option OpenPart
-open_at packets tai places n =
+abbrev pub open_at : List FlowPacket → (shift : Shift) → List ℕ → (n : ℕ) → Option OpenPart
+open_at packets shift places n =
     let from = last_place (0 ∷ places) in
     open_by (length places + 1) (packet packets from) (judged_packets packets from n)
-    (run_outcome packets tai from n)
+    (run_outcome packets shift from n)
 
 -- the run that is open before packet n of a flow
-abbrev pub open_before : List FlowPacket → (tai n : ℕ) → Option OpenPart
-open_before packets tai n = open_at packets tai (cuts packets n) n
+abbrev pub open_before : List FlowPacket → (shift : Shift) (n : ℕ) → Option OpenPart
+open_before packets shift n = open_at packets shift (cuts packets n) n
 
 -- the number of packets before the first fault; n if there is none
 abbrev pub sound_before : Option FirstFault → (n : ℕ) → ℕ

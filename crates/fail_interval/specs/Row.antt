@@ -1,5 +1,6 @@
 -- The result of a flow, by its packets. This project's profile.
 use Rattle.std.specs.Prelude.{ℕ, true, false, List, [], ◌∷◌, length, map}
+use Rattle.timing_base.specs.Shifts.{FlowOptions}
 use Rattle.timing_base.specs.Judged.{FlowRun, FlowVerdict, JudgedRun, RunOutcome, absent, gap, in_one_run, in_runs}
 use Rattle.timing_base.specs.Judged.{judged, no_whole_frame, refused, whole_frames}
 use Rattle.timing_base.specs.Media.{Media}
@@ -60,6 +61,6 @@ verdict_of m (gap rec expected got) = verdict.Unjudged (unjudged.Gap rec expecte
 verdict_of m (in_one_run outcome) = one_run_verdict m outcome
 verdict_of m (in_runs runs) = verdict.Runs (map (run_of m) runs)
 
--- the result of a flow of this media, with `tai` seconds added to its capture timestamps
-abbrev pub row : List FlowPacket → FlowKey → Media → (tai : ℕ) → Row
-row packets key m tai = record { key = key; verdict = verdict_of m (judged packets m.pt tai) }
+-- the result of a flow of this media, by the options of the flow
+abbrev pub row : List FlowPacket → FlowKey → Media → FlowOptions → Row
+row packets key m options = record { key = key; verdict = verdict_of m (judged packets m.pt options) }

@@ -91,20 +91,20 @@ Fits (in_groups g) = IsFit g
 
 -- the capture timestamps of the packets from packet `from` on and before packet `to`, with `tai` seconds added
 abbrev pub stamps_from : List FlowPacket → ℕ → ℕ → ℕ → List ℕ
-stamps_from packets tai from to = map (stamp_of tai) (slice_range packets from to)
+stamps_from packets shift from to = map (stamp_of shift) (slice_range packets from to)
 
 -- the state of the run from packet `from` on and before packet `to`, by the places of its markers
 abbrev pub so_far_by : List FlowPacket → ℕ → ℕ → ℕ → List ℕ → SoFar
-so_far_by packets tai from to [] = in_head (to - from)
-so_far_by packets tai from to (a ∷ []) = in_first (a + 1 - from) (stamps_from packets tai (a + 1) to)
-so_far_by packets tai from to (a ∷ b ∷ rest) = in_groups record {
+so_far_by packets shift from to [] = in_head (to - from)
+so_far_by packets shift from to (a ∷ []) = in_first (a + 1 - from) (stamps_from packets shift (a + 1) to)
+so_far_by packets shift from to (a ∷ b ∷ rest) = in_groups record {
   head = a + 1 - from;
   n = b - a;
   groups = length (a ∷ b ∷ rest) - 1;
-  whole = stamps_from packets tai (a + 1) (last_place (a ∷ b ∷ rest) + 1);
-  stamps = stamps_from packets tai (a + 1) to;
+  whole = stamps_from packets shift (a + 1) (last_place (a ∷ b ∷ rest) + 1);
+  stamps = stamps_from packets shift (a + 1) to;
 }
 
 -- the state of the run from packet `from` on and before packet `to`
 abbrev pub so_far_at : List FlowPacket → ℕ → ℕ → ℕ → SoFar
-so_far_at packets tai from to = so_far_by packets tai from to (markers packets from to)
+so_far_at packets shift from to = so_far_by packets shift from to (markers packets from to)

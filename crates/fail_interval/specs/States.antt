@@ -22,9 +22,9 @@ pub record IsRefused (m : Media) (packets : List FlowPacket) (rec : ℕ) (fault 
 
 -- the state is that after these packets of a flow
 abbrev pub IsAt : {M : Type 0} → Media → ℕ → List FlowPacket → State M → Type 0
-IsAt m tai packets (Going flow) = (flow.media ≡ m) × (flow.tai ≡ tai) × FlowStandsFor flow packets
-IsAt m tai packets (Refused rec fault) = IsRefused m packets rec fault
-IsAt m tai packets Spent = ⊥
+IsAt m shift packets (Going flow) = (flow.media ≡ m) × (flow.shift ≡ shift) × FlowStandsFor flow packets
+IsAt m shift packets (Refused rec fault) = IsRefused m packets rec fault
+IsAt m shift packets Spent = ⊥
 
 -- a flow without a fault was fed exactly these packets
 pub record IsFedTo {M : Type 0} (flow : Flow M) (fed : ℕ) (packets : List FlowPacket) : Type 0 where

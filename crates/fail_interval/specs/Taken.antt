@@ -1,7 +1,8 @@
 -- Clauses of the crate's private functions: the packet that a judge expects, and the results of the judges of all
 -- media.
 use Rattle.std.specs.Prelude.{◌≡◌, ℕ, List, ◌++◌, Some}
-use Rattle.frame_group.specs.Expected.{expected_after}
+use Rattle.timing_base.specs.Shifts.{FlowOptions}
+use Rattle.frame_group.specs.Expected.{expected_by_options}
 use Rattle.timing_base.specs.Captures.{Record}
 use Rattle.timing_base.specs.Media.{Media}
 use Rattle.timing_base.specs.declared.key.FlowKey.{FlowKey}
@@ -16,13 +17,13 @@ use Rattle.fail_interval.specs.declared.judge.FlowJudge.{FlowJudge}
 
 -- this packet is the expected one after the packets that the judge was fed
 abbrev pub IsExpected : {M : Type 0} → FlowJudge M → Rtp → Type 0
-IsExpected judge p = (m : Media) (key : FlowKey) (tai : ℕ) (packets : List FlowPacket)
-    → StandsFor m key tai judge packets → Some p ≡ expected_after packets m.pt
+IsExpected judge p = (m : Media) (key : FlowKey) (options : FlowOptions) (packets : List FlowPacket)
+    → StandsFor m key options judge packets → Some p ≡ expected_by_options options packets m.pt
 
 -- `rows`, with the results of the judges that are left, are the results before and then those of all media
-pub record HasRows (tai file : ℕ) (media : List Media) (items : List Record) (before rows : List Row)
-    (left : List (MediaFlow Judging)) : Type 0 where
+pub record HasRows (options : FlowOptions) (file : ℕ) (media : List Media) (items : List Record)
+    (before rows : List Row) (left : List (MediaFlow Judging)) : Type 0 where
   pub number : ℕ
   pub rest : List Media
-  pub stands : AreJudgesOf tai file number rest left items
-  pub whole : rows ++ rows_from tai file number rest items ≡ before ++ rows_of tai file media items
+  pub stands : AreJudgesOf options file number rest left items
+  pub whole : rows ++ rows_from options file number rest items ≡ before ++ rows_of options file media items

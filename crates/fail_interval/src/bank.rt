@@ -1,6 +1,7 @@
 //! The judges of a session's media.
 
 ghost use Rattle.std.specs.Prelude.{◌≡◌, ◌≤◌, ◌++◌, [], ℕ, List, IfOk, length};
+ghost use Rattle.timing_base.specs.Shifts.{FlowOptions as FlowOptionsValue};
 ghost use Rattle.timing_base.specs.Captures.{Record};
 ghost use Rattle.timing_base.specs.Media.{Media as MediaValue};
 ghost use Rattle.flow_demux.specs.Rooms.{IsReady};
@@ -25,10 +26,9 @@ impl Bank {
 
     /// Returns the judges of these media for a file, before its first packet record. `file` counts from 0, and `tai`
     /// seconds are added to the capture timestamps. Returns `Err` if memory runs out.
-    pub fn new(alloc: Global, media: &[Media], file: u32, tai: u64) -> Result<Bank, OutOfMemory>
+    pub fn new(alloc: Global, media: &[Media], file: u32, options: FlowOptions) -> Result<Bank, OutOfMemory>
         requires few { length media.now ≤ 64 }
-        requires tai { tai ≤ 1000 }
-        ensures stands { IfOk result (λ bank. StandsFor media.now file tai bank []) }
+        ensures stands { IfOk result (λ bank. StandsFor media.now file options bank []) }
         ensures none { IfOk result (λ bank. records bank ≡ 0) }
     {
         let mut flows = Vec::new(alloc);
@@ -37,7 +37,7 @@ impl Bank {
                 file,
                 media: number as u32,
             };
-            flows.push(MediaFlow::new(each, Metered::new(alloc, each, key, tai, ())))?;
+            flows.push(MediaFlow::new(each, Metered::new(alloc, each, key, options, ())))?;
         }
         Ok(Bank {
             demux: Demux::new(alloc, flows)?,
@@ -46,9 +46,9 @@ impl Bank {
 
     /// Appends the results of the media to `rows`, in the order of the media. Returns `Err` if memory runs out.
     pub fn finish(self, rows: &mut Vec<Row>) -> Result<(), OutOfMemory>
-        ensures rows { IfOk result (λ _. (media : List MediaValue) (file tai : ℕ) (items : List Record)
-            → StandsFor media file tai self items
-            → rows.new.items ≡ rows.old.items ++ rows_of tai file media items) }
+        ensures rows { IfOk result (λ _. (media : List MediaValue) (file : ℕ) (options : FlowOptionsValue) (items : List Record)
+            → StandsFor media file options self items
+            → rows.new.items ≡ rows.old.items ++ rows_of options file media items) }
     {
         let Bank { demux, .. } = self;
         for flow in demux.into_flows() {

@@ -1,6 +1,7 @@
 //! The first frame or field of a run. Its number of packets isn't known before it is complete.
 
 ghost use Rattle.std.specs.Prelude.{◌≡◌, ◌≤◌, ◌++◌, ◌∷◌, [], ℕ, List, IfOk, length, true};
+ghost use Rattle.timing_base.specs.Shifts.{Shift};
 ghost use Rattle.timing_base.specs.declared.packet.FlowPacket.{FlowPacket};
 ghost use Rattle.run_meter.specs.Runs.{RunOf};
 ghost use Rattle.fail_interval.specs.Metered.{Keeps};
@@ -71,9 +72,9 @@ pub fn meter_first<M: RunMeter>(
     requires some { 1 ≤ length first.now.stamps.items }
     requires fit { AreStamps first.now.stamps.items }
     ensures stands { IfOk result (λ meters. MetersStandFor params.now meters first.now.stamps.items) }
-    ensures told { IfOk result (λ _. (tai : ℕ) (r : RunOf) (packets : List FlowPacket) → r.n ≡ params.now.n
-        → Keeps tai first.now packets → M.stands meter.old params.now.media tai r [] []
-        → M.stands meter.new params.now.media tai r packets []) }
+    ensures told { IfOk result (λ _. (shift : Shift) (r : RunOf) (packets : List FlowPacket) → r.n ≡ params.now.n
+        → Keeps shift first.now packets → M.stands meter.old params.now.media shift r [] []
+        → M.stands meter.new params.now.media shift r packets []) }
 {
     let stamps = first.stamps.as_slice();
     let mut meters = RunMeters::new(params, stamps[0]);

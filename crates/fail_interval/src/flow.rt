@@ -1,6 +1,7 @@
 //! A flow so far, in which no packet has a fault.
 
 ghost use Rattle.std.specs.Prelude.{◌≡◌, ◌≤◌, ◌<◌, ◌+◌, ◌*◌, ◌^◌, ◌++◌, ◌∷◌, [], ℕ, List, length, Ok, None, Some, OnOk, IfOk, true, false};
+ghost use Rattle.timing_base.specs.Shifts.{Shift as ShiftValue};
 ghost use Rattle.timing_base.specs.Captures.{IsStamp};
 ghost use Rattle.timing_base.specs.Flows.{first_fault_below};
 ghost use Rattle.timing_base.specs.declared.packet.FlowPacket.{FlowPacket};
@@ -55,10 +56,10 @@ impl<M: RunMeter> OpenRun<M> {
         ensures expected { IfOk result (λ open_run. open_run.expected ≡ expected) }
         ensures judge { IfOk result (λ open_run. RunStandsFor media.now open_run.judge
             (so_far_next (in_head 0) packet.at marker)) }
-        ensures tells { M.WANTS_LEVELS ≡ true → IfOk result (λ open_run. (past : M.Past) (tai : ℕ)
-            (first : FlowPacket) (over : List JudgedPart) → packet ≡ told_of tai first → Heads first run
-            → M.tells past out.old media.now tai over None
-            → TellsOf M.stands M.tells past media.now tai run.run first over open_run.judge out.new [] []) }
+        ensures tells { M.WANTS_LEVELS ≡ true → IfOk result (λ open_run. (past : M.Past) (shift : ShiftValue)
+            (first : FlowPacket) (over : List JudgedPart) → packet ≡ told_of shift first → Heads first run
+            → M.tells past out.old media.now shift over None
+            → TellsOf M.stands M.tells past media.now shift run.run first over open_run.judge out.new [] []) }
     {
         let mut judge = RunJudge::new();
         judge.feed(alloc, media, &run, packet, marker, out)?;
@@ -102,7 +103,7 @@ pub struct Flow<M: Drop> {
     alloc: Global,
     media: Media,
     /// Seconds added to the capture timestamps.
-    tai: u64,
+    shift: Shift,
     grouper: Grouper,
     /// Runs before the open one. If there are any, there is room for one more.
     done: Vec<Run>,
@@ -116,18 +117,17 @@ impl<M: RunMeter> Flow<M> {
     ghost use Rattle.fail_interval.specs.Telling.{FlowTells, TellsAt, TellsClosed, TellsExpected, TellsTook};
 
     /// Returns the flow before its first packet. `tai` is in seconds.
-    pub fn new(alloc: Global, media: &Media, tai: u64) -> Flow<M>
-        requires { tai ≤ 1000 }
+    pub fn new(alloc: Global, media: &Media, shift: Shift) -> Flow<M>
         ensures media { result.media ≡ media.now }
-        ensures tai { result.tai ≡ tai }
+        ensures shift { result.shift ≡ shift }
         ensures stands { StandsFor result [] }
-        ensures tells { (past : M.Past) (out : M.Out) → M.tells past out media.now tai [] None
+        ensures tells { (past : M.Past) (out : M.Out) → M.tells past out media.now shift [] None
             → FlowTells M.stands M.tells past result [] out }
     {
         Flow {
             alloc,
             media: *media,
-            tai,
+            shift,
             grouper: Grouper::new(media.pt),
             done: Vec::new(alloc),
             open: None,
@@ -137,7 +137,7 @@ impl<M: RunMeter> Flow<M> {
     /// Ends the open run, if there is one. Returns `Err` if memory runs out.
     fn close(&mut self, out: &mut M::Out) -> Result<(), OutOfMemory>
         ensures media { self.new.media ≡ self.old.media }
-        ensures tai { self.new.tai ≡ self.old.tai }
+        ensures shift { self.new.shift ≡ self.old.shift }
         ensures grouper { self.new.grouper ≡ self.old.grouper }
         ensures done { (m : MediaValue) → OnOk result (IsClosed m self.old.done.items self.old.open
             self.new.done.items) }
@@ -164,25 +164,25 @@ impl<M: RunMeter> Flow<M> {
         out: &mut M::Out,
     ) -> Result<(), OutOfMemory>
         ensures media { self.new.media ≡ self.old.media }
-        ensures tai { self.new.tai ≡ self.old.tai }
+        ensures shift { self.new.shift ≡ self.old.shift }
         ensures grouper { self.new.grouper ≡ self.old.grouper }
         ensures room { OnOk result (HasRoom self.old → HasRoom self.new) }
         ensures begins { (packets : List FlowPacket) (i : ℕ) (so_far : SoFar) (rtp : RtpValue)
-            → ComesNext packets self.old.tai i packet.rec packet.at rtp
+            → ComesNext packets self.old.shift i packet.rec packet.at rtp
             → number ≡ rtp.number → marker ≡ rtp.marker
             → expected ≡ cut_at packets i
             → StartsAt packets i self.old.open
-            → OpensAt self.old.media self.old.tai packets i so_far self.old.done.items self.old.open
-            → OnOk result (OpensAt self.new.media self.new.tai packets (i + 1)
+            → OpensAt self.old.media self.old.shift packets i so_far self.old.done.items self.old.open
+            → OnOk result (OpensAt self.new.media self.new.shift packets (i + 1)
             (so_far_next (in_head 0) packet.at rtp.marker) self.new.done.items self.new.open) }
         ensures tells { M.WANTS_LEVELS ≡ true → (past : M.Past) (packets : List FlowPacket) (i : ℕ) (so_far : SoFar)
-            (rtp : RtpValue) → ComesNext packets self.old.tai i packet.rec packet.at rtp
+            (rtp : RtpValue) → ComesNext packets self.old.shift i packet.rec packet.at rtp
             → number ≡ rtp.number → marker ≡ rtp.marker → packet.timestamp ≡ rtp.timestamp
             → StartsAt packets i self.old.open
-            → OpensAt self.old.media self.old.tai packets i so_far self.old.done.items self.old.open
+            → OpensAt self.old.media self.old.shift packets i so_far self.old.done.items self.old.open
             → first_fault_below packets self.old.media.pt i ≡ None
-            → TellsAt M.stands M.tells past self.old.media self.old.tai packets i self.old.open out.old
-            → OnOk result (TellsAt M.stands M.tells past self.new.media self.new.tai packets (i + 1) self.new.open
+            → TellsAt M.stands M.tells past self.old.media self.old.shift packets i self.old.open out.old
+            → OnOk result (TellsAt M.stands M.tells past self.new.media self.new.shift packets (i + 1) self.new.open
             out.new) }
     {
         self.close(out)?;
@@ -212,7 +212,7 @@ impl<M: RunMeter> Flow<M> {
     pub fn feed_judged(&mut self, rec: u64, at: u64) -> Result<bool, OutOfMemory>
         requires { ∥ ((packets : List FlowPacket) × CanGoOn self.old packets at) ∥₁ }
         ensures media { self.new.media ≡ self.old.media }
-        ensures tai { self.new.tai ≡ self.old.tai }
+        ensures shift { self.new.shift ≡ self.old.shift }
         ensures other { result ≡ Ok false → self.new ≡ self.old }
         ensures goes_on { result ≡ Ok true → TookExpected self.old self.new at }
         ensures tells { result ≡ Ok true → M.WANTS_LEVELS ≡ true
@@ -228,7 +228,7 @@ impl<M: RunMeter> Flow<M> {
                 }
                 let packet = RunPacket {
                     rec,
-                    at: at + self.tai * 1_000_000_000,
+                    at: at + self.shift * 1_000_000_000,
                     timestamp: timestamp_of(self.grouper.expected()),
                 };
                 open.judge.feed_whole(packet)?;
@@ -250,7 +250,7 @@ impl<M: RunMeter> Flow<M> {
     ) -> Result<bool, OutOfMemory>
         requires { ∥ ((packets : List FlowPacket) × CanGoOn self.old packets at) ∥₁ }
         ensures media { self.new.media ≡ self.old.media }
-        ensures tai { self.new.tai ≡ self.old.tai }
+        ensures shift { self.new.shift ≡ self.old.shift }
         ensures other { result ≡ Ok false → self.new ≡ self.old }
         ensures out { result ≡ Ok false → out.new ≡ out.old }
         ensures goes_on { result ≡ Ok true
@@ -270,7 +270,7 @@ impl<M: RunMeter> Flow<M> {
                 };
                 let packet = RunPacket {
                     rec,
-                    at: at + self.tai * 1_000_000_000,
+                    at: at + self.shift * 1_000_000_000,
                     timestamp: rtp.timestamp,
                 };
                 open.judge
@@ -291,7 +291,7 @@ impl<M: RunMeter> Flow<M> {
     ) -> Result<Option<PacketFault>, OutOfMemory>
         requires { ∥ ((packets : List FlowPacket) × CanGoOn self.old packets at) ∥₁ }
         ensures media { self.new.media ≡ self.old.media }
-        ensures tai { self.new.tai ≡ self.old.tai }
+        ensures shift { self.new.shift ≡ self.old.shift }
         ensures goes_on { result ≡ Ok None
             → Took self.old self.new (record { rec = rec; at = at; rtp = Ok rtp }) }
         ensures tells { result ≡ Ok None → M.WANTS_LEVELS ≡ true → TellsTook M.stands M.tells self.old self.new
@@ -306,7 +306,7 @@ impl<M: RunMeter> Flow<M> {
         };
         let packet = RunPacket {
             rec,
-            at: at + self.tai * 1_000_000_000,
+            at: at + self.shift * 1_000_000_000,
             timestamp: rtp.timestamp,
         };
         if cut.is_none() {
@@ -329,10 +329,10 @@ impl<M: RunMeter> Flow<M> {
     pub fn verdict(self, out: &mut M::Out) -> Result<Verdict, OutOfMemory>
         requires { ∥ ((packets : List FlowPacket) × StandsFor self packets) ∥₁ }
         ensures verdict { IfOk result (λ verdict. (packets : List FlowPacket) → StandsFor self packets
-            → verdict ≡ verdict_of self.media (judged packets self.media.pt self.tai)) }
+            → verdict ≡ verdict_of self.media (judged packets self.media.pt self.shift)) }
         ensures tells { IfOk result (λ _. (past : M.Past) (packets : List FlowPacket) → StandsFor self packets
             → FlowTells M.stands M.tells past self packets out.old
-            → M.tells past out.new self.media self.tai (judged_parts self.media packets self.tai) None) }
+            → M.tells past out.new self.media self.shift (judged_parts self.media packets self.shift) None) }
     {
         let Flow { mut done, open, .. } = self;
         let open = match open {

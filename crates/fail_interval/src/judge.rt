@@ -1,6 +1,7 @@
 //! The judge of one flow.
 
 ghost use Rattle.std.specs.Prelude.{◌≡◌, ◌≤◌, ◌<◌, ◌+◌, ◌^◌, ◌++◌, ◌∷◌, [], ℕ, List, Ok, Err, IfOk, IsErr, OnErr, OnOk, length, true, false};
+ghost use Rattle.timing_base.specs.Shifts.{FlowOptions as FlowOptionsValue};
 ghost use Rattle.frame_group.specs.Expected.{expected_after};
 ghost use Rattle.timing_base.specs.Captures.{IsStamp};
 ghost use Rattle.timing_base.specs.declared.packet.FlowPacket.{FlowPacket};
@@ -121,17 +122,16 @@ impl<M: RunMeter> FlowJudge<M> {
 
     /// Returns the judge of the flow with this key and this media, before the first packet. `tai` seconds are added to
     /// the capture timestamps of judged packets, but not to those in a reported fault.
-    pub fn new(alloc: Global, media: &Media, key: FlowKey, tai: u64) -> FlowJudge<M>
-        requires { tai ≤ 1000 }
+    pub fn new(alloc: Global, media: &Media, key: FlowKey, options: FlowOptions) -> FlowJudge<M>
         ensures fed { count_fed result ≡ 0 }
-        ensures stands { StandsFor media.now key tai result [] }
-        ensures tells { (past : M.Past) (out : M.Out) → M.tells past out media.now tai [] None
-            → JudgeTells M.stands M.tells past media.now tai [] result out }
+        ensures stands { StandsFor media.now key options result [] }
+        ensures tells { (past : M.Past) (out : M.Out) → M.tells past out media.now options [] None
+            → JudgeTells M.stands M.tells past media.now options [] result out }
     {
         FlowJudge {
             key,
             fed: 0,
-            state: State::Going(Flow::new(alloc, media, tai)),
+            state: State::Going(Flow::new(alloc, media, options)),
         }
     }
 
@@ -139,8 +139,8 @@ impl<M: RunMeter> FlowJudge<M> {
     #[inline(always)]
     pub fn fed(&self) -> u64
         ensures is { result ≡ count_fed self.now }
-        ensures count { (media : MediaValue) (key : KeyValue) (tai : ℕ) (packets : List FlowPacket)
-            → StandsFor media key tai self.now packets → result ≡ length packets }
+        ensures count { (media : MediaValue) (key : KeyValue) (options : FlowOptionsValue) (packets : List FlowPacket)
+            → StandsFor media key options self.now packets → result ≡ length packets }
     {
         self.fed
     }
@@ -150,8 +150,8 @@ impl<M: RunMeter> FlowJudge<M> {
     /// after a fault.
     #[inline(always)]
     pub fn expected(&self) -> Option<Rtp>
-        ensures follows { (media : MediaValue) (key : KeyValue) (tai : ℕ) (packets : List FlowPacket)
-            → StandsFor media key tai self.now packets → result ≡ expected_after packets media.pt }
+        ensures follows { (media : MediaValue) (key : KeyValue) (options : FlowOptionsValue) (packets : List FlowPacket)
+            → StandsFor media key options self.now packets → result ≡ expected_after packets media.pt }
         ensures is { result ≡ expected_of self.now }
     {
         match &self.state {
@@ -326,12 +326,12 @@ impl<M: RunMeter> FlowJudge<M> {
 
     /// Ends the flow, and returns its result. Returns `Err` if memory runs out.
     pub fn finish(self, out: &mut M::Out) -> Result<Row, OutOfMemory>
-        ensures row { IfOk result (λ told. (media : MediaValue) (key : KeyValue) (tai : ℕ) (packets : List FlowPacket)
-            → StandsFor media key tai self packets → told ≡ row packets key media tai) }
-        ensures tells { IfOk result (λ _. (past : M.Past) (media : MediaValue) (key : KeyValue) (tai : ℕ)
-            (packets : List FlowPacket) → StandsFor media key tai self packets
-            → JudgeTells M.stands M.tells past media tai packets self out.old
-            → TellsOfAll M.tells past media tai packets out.new) }
+        ensures row { IfOk result (λ told. (media : MediaValue) (key : KeyValue) (options : FlowOptionsValue) (packets : List FlowPacket)
+            → StandsFor media key options self packets → told ≡ row packets key media options) }
+        ensures tells { IfOk result (λ _. (past : M.Past) (media : MediaValue) (key : KeyValue) (options : FlowOptionsValue)
+            (packets : List FlowPacket) → StandsFor media key options self packets
+            → JudgeTells M.stands M.tells past media options packets self out.old
+            → TellsOfAll M.tells past media options packets out.new) }
     {
         let FlowJudge { key, state, .. } = self;
         let verdict = match state {

@@ -2,6 +2,7 @@
 //! its clauses are the theorem.
 
 ghost use Rattle.std.specs.Prelude.{◌≡◌, ◌≤◌, ◌∷◌, [], ℕ, List, Option, Some, None, true, false, length, map};
+ghost use Rattle.timing_base.specs.Shifts.{FlowOptions};
 ghost use Rattle.timing_base.specs.Captures.{Record};
 ghost use Rattle.timing_base.specs.Examples.{sent};
 ghost use Rattle.timing_base.specs.Keys.{key_of};
@@ -144,31 +145,31 @@ pub fn open_runs_by_hand()
 
 /// The output of a judge's meters contains the runs of the packets fed, up to the first fault.
 pub fn output_tells_so_far<M: RunMeter>()
-    ensures { (past : M.Past) (m : Media) (key : FlowKey) (tai : ℕ) (judge : JudgeValue M) (packets : List FlowPacket)
-        (out : M.Out) → StandsFor m key tai judge packets
-        → JudgeTells M.stands M.tells past m tai packets judge out
-        → TellsSoFar M.tells past m tai packets (length packets) out }
+    ensures { (past : M.Past) (m : Media) (key : FlowKey) (options : FlowOptions) (judge : JudgeValue M) (packets : List FlowPacket)
+        (out : M.Out) → StandsFor m key options judge packets
+        → JudgeTells M.stands M.tells past m options packets judge out
+        → TellsSoFar M.tells past m options packets (length packets) out }
 {}
 
 /// The owner of the output may take results out of it, if the meter's `Past` accounts for what was taken.
 pub fn output_may_be_taken_out<M: RunMeter>()
-    ensures { (past later : M.Past) (m : Media) (tai : ℕ) (judge : JudgeValue M) (packets : List FlowPacket)
-        (out left : M.Out) → ((over : List JudgedPart) (part : Option OpenPart) → M.tells past out m tai over part
-        → M.tells later left m tai over part)
-        → JudgeTells M.stands M.tells past m tai packets judge out
-        → JudgeTells M.stands M.tells later m tai packets judge left }
+    ensures { (past later : M.Past) (m : Media) (options : FlowOptions) (judge : JudgeValue M) (packets : List FlowPacket)
+        (out left : M.Out) → ((over : List JudgedPart) (part : Option OpenPart) → M.tells past out m options over part
+        → M.tells later left m options over part)
+        → JudgeTells M.stands M.tells past m options packets judge out
+        → JudgeTells M.stands M.tells later m options packets judge left }
 {}
 
 /// Media and files are numbered from 0: the results of two media over two files, and of one media over the fourth file
 /// alone.
 pub fn rows_are_numbered()
-    ensures files { (tai : ℕ) (a b : Media) (x y : List Record)
-        → rows_of_files tai 0 (a ∷ b ∷ []) (x ∷ y ∷ [])
-        ≡ row (flow x a) (key_of 0 0) a tai ∷ row (flow x b) (key_of 0 1) b tai
-        ∷ row (flow y a) (key_of 1 0) a tai ∷ row (flow y b) (key_of 1 1) b tai ∷ [] }
-    ensures file { (tai : ℕ) (a : Media) (x : List Record)
-        → rows_of tai 3 (a ∷ []) x ≡ row (flow x a) (key_of 3 0) a tai ∷ [] }
-    ensures none { (tai : ℕ) (x : List Record) → rows_of tai 0 [] x ≡ [] }
+    ensures files { (options : FlowOptions) (a b : Media) (x y : List Record)
+        → rows_of_files options 0 (a ∷ b ∷ []) (x ∷ y ∷ [])
+        ≡ row (flow x a) (key_of 0 0) a options ∷ row (flow x b) (key_of 0 1) b options
+        ∷ row (flow y a) (key_of 1 0) a options ∷ row (flow y b) (key_of 1 1) b options ∷ [] }
+    ensures file { (options : FlowOptions) (a : Media) (x : List Record)
+        → rows_of options 3 (a ∷ []) x ≡ row (flow x a) (key_of 3 0) a options ∷ [] }
+    ensures none { (options : FlowOptions) (x : List Record) → rows_of options 0 [] x ≡ [] }
 {}
 
 /// The flows of two captures worked by hand. In the second the first media has no packet. If they are joined, the
@@ -189,14 +190,14 @@ pub fn flows_by_hand()
 
 /// The results of the two captures: each file by itself, and both joined.
 pub fn rows_by_hand()
-    ensures files { (tai : ℕ) (a b : Media) → target_of a ≡ group → target_of b ≡ next_port
-        → rows_of_files tai 0 (a ∷ b ∷ []) (first_capture ∷ second_capture ∷ [])
-        ≡ row (packet_at 4 130 ∷ packet_at 5 140 ∷ []) (key_of 0 0) a tai
-        ∷ row (packet_at 1 100 ∷ []) (key_of 0 1) b tai
-        ∷ row [] (key_of 1 0) a tai
-        ∷ row (packet_at 1 200 ∷ []) (key_of 1 1) b tai ∷ [] }
-    ensures joined { (tai : ℕ) (a b : Media) → target_of a ≡ group → target_of b ≡ next_port
-        → rows_of tai 0 (a ∷ b ∷ []) joined_captures
-        ≡ row (packet_at 4 130 ∷ packet_at 5 140 ∷ []) (key_of 0 0) a tai
-        ∷ row (packet_at 1 100 ∷ packet_at 6 200 ∷ []) (key_of 0 1) b tai ∷ [] }
+    ensures files { (options : FlowOptions) (a b : Media) → target_of a ≡ group → target_of b ≡ next_port
+        → rows_of_files options 0 (a ∷ b ∷ []) (first_capture ∷ second_capture ∷ [])
+        ≡ row (packet_at 4 130 ∷ packet_at 5 140 ∷ []) (key_of 0 0) a options
+        ∷ row (packet_at 1 100 ∷ []) (key_of 0 1) b options
+        ∷ row [] (key_of 1 0) a options
+        ∷ row (packet_at 1 200 ∷ []) (key_of 1 1) b options ∷ [] }
+    ensures joined { (options : FlowOptions) (a b : Media) → target_of a ≡ group → target_of b ≡ next_port
+        → rows_of options 0 (a ∷ b ∷ []) joined_captures
+        ≡ row (packet_at 4 130 ∷ packet_at 5 140 ∷ []) (key_of 0 0) a options
+        ∷ row (packet_at 1 100 ∷ packet_at 6 200 ∷ []) (key_of 0 1) b options ∷ [] }
 {}

@@ -1,6 +1,7 @@
 //! The judge of a flow, together with the output of the meters of its runs.
 
 ghost use Rattle.std.specs.Prelude.{◌≡◌, ◌≤◌, [], ℕ, List, IfOk, None, true};
+ghost use Rattle.timing_base.specs.Shifts.{FlowOptions as FlowOptionsValue};
 ghost use Rattle.timing_base.specs.Media.{Media as MediaValue};
 ghost use Rattle.timing_base.specs.declared.key.FlowKey.{FlowKey as KeyValue};
 ghost use Rattle.timing_base.specs.declared.packet.FlowPacket.{FlowPacket as PacketValue};
@@ -29,28 +30,27 @@ impl<M: RunMeter<Out = O>, O: Drop> Metered<M, O> {
     /// Returns the judge of the flow with this key and this media, before the first packet. `out` must not contain any
     /// result yet. `tai` seconds are added to the capture timestamps of judged packets, but not to those in a reported
     /// fault.
-    pub fn new(alloc: Global, media: &Media, key: FlowKey, tai: u64, out: O) -> Metered<M, O>
-        requires { tai ≤ 1000 }
-        ensures fed { (past : M.Past) → M.tells past out media.now tai [] None
-            → IsFed M.WANTS_LEVELS M.stands M.tells past media.now key tai result [] }
+    pub fn new(alloc: Global, media: &Media, key: FlowKey, options: FlowOptions, out: O) -> Metered<M, O>
+        ensures fed { (past : M.Past) → M.tells past out media.now options [] None
+            → IsFed M.WANTS_LEVELS M.stands M.tells past media.now key options result [] }
         ensures none { count_fed result.judge ≡ 0 }
-        ensures stands { StandsFor media.now key tai result.judge [] }
+        ensures stands { StandsFor media.now key options result.judge [] }
         ensures out { result.out ≡ out }
     {
         Metered {
-            judge: FlowJudge::new(alloc, media, key, tai),
+            judge: FlowJudge::new(alloc, media, key, options),
             out,
         }
     }
 
     /// Ends the flow, and returns its result and the output of its meters. Returns `Err` if memory runs out.
     pub fn finish(self) -> Result<(Row, O), OutOfMemory>
-        ensures row { IfOk result (λ told. (media : MediaValue) (key : KeyValue) (tai : ℕ) (packets : List PacketValue)
-            → StandsFor media key tai self.judge packets → told.0 ≡ row packets key media tai) }
+        ensures row { IfOk result (λ told. (media : MediaValue) (key : KeyValue) (options : FlowOptionsValue) (packets : List PacketValue)
+            → StandsFor media key options self.judge packets → told.0 ≡ row packets key media options) }
         ensures tells { M.WANTS_LEVELS ≡ true → IfOk result (λ told. (past : M.Past) (media : MediaValue)
-            (key : KeyValue) (tai : ℕ) (packets : List PacketValue)
-            → IsFed M.WANTS_LEVELS M.stands M.tells past media key tai self packets
-            → TellsOfAll M.tells past media tai packets told.1) }
+            (key : KeyValue) (options : FlowOptionsValue) (packets : List PacketValue)
+            → IsFed M.WANTS_LEVELS M.stands M.tells past media key options self packets
+            → TellsOfAll M.tells past media options packets told.1) }
     {
         let Metered { judge, mut out } = self;
         let row = judge.finish(&mut out)?;

@@ -1,6 +1,7 @@
 //! The state of one run between gaps.
 
 ghost use Rattle.std.specs.Prelude.{◌≡◌, ◌≤◌, ◌<◌, ◌+◌, ◌^◌, ◌++◌, ◌∷◌, [], ◌-◌, if◌then◌else◌, ℕ, List, None, Some, IfOk, length, true, false};
+ghost use Rattle.timing_base.specs.Shifts.{Shift};
 ghost use Rattle.timing_base.specs.Media.{Media as MediaValue};
 ghost use Rattle.fail_interval.specs.SoFar.{AreStamps, Groups, SoFar, groups_first, groups_next};
 ghost use Rattle.fail_interval.specs.SoFar.{in_first, in_groups, in_head, outcome_of, so_far_next};
@@ -52,11 +53,11 @@ impl<M: RunMeter> WholeGroups<M> {
         requires most { length first.now.stamps.items ≤ 262144 }
         requires fit { AreStamps first.now.stamps.items }
         ensures whole { IfOk result (λ groups. IsWhole media.now groups (groups_first head first.now.stamps.items)) }
-        ensures told { IfOk result (λ groups. (past : M.Past) (tai : ℕ) (opening : FlowPacket)
+        ensures told { IfOk result (λ groups. (past : M.Past) (shift : Shift) (opening : FlowPacket)
             (over : List JudgedPart) (packets : List FlowPacket) → Heads opening run.now
-            → Keeps tai first.now packets → M.tells past out.old media.now tai over None
-            → M.stands groups.meter media.now tai (run_by run.now.run opening groups.params.n) packets packets
-            × M.tells past out.new media.now tai over (Some (record {
+            → Keeps shift first.now packets → M.tells past out.old media.now shift over None
+            → M.stands groups.meter media.now shift (run_by run.now.run opening groups.params.n) packets packets
+            × M.tells past out.new media.now shift over (Some (record {
               run = run_by run.now.run opening groups.params.n;
               packets = packets;
             }))) }
@@ -85,12 +86,12 @@ impl<M: RunMeter> WholeGroups<M> {
         ensures judged { self.new.judged ≡ self.old.judged }
         ensures meters { (stamps : List ℕ) → CanFollow self.old.params self.old.meters stamps packet.at
             → MetersStandFor self.old.params self.new.meters (stamps ++ packet.at ∷ []) }
-        ensures told { M.WANTS_LEVELS ≡ true → IfOk result (λ _. (tai : ℕ) (r : RunOf) (p : FlowPacket)
+        ensures told { M.WANTS_LEVELS ≡ true → IfOk result (λ _. (shift : Shift) (r : RunOf) (p : FlowPacket)
             (fed committed : List FlowPacket)
-            → CanFollow self.old.params self.old.meters (stamps_of tai fed) packet.at
-            → r.n ≡ self.old.params.n → packet ≡ told_of tai p
-            → M.stands self.old.meter self.old.params.media tai r fed committed
-            → M.stands self.new.meter self.old.params.media tai r (fed ++ p ∷ []) committed) }
+            → CanFollow self.old.params self.old.meters (stamps_of shift fed) packet.at
+            → r.n ≡ self.old.params.n → packet ≡ told_of shift p
+            → M.stands self.old.meter self.old.params.media shift r fed committed
+            → M.stands self.new.meter self.old.params.media shift r (fed ++ p ∷ []) committed) }
     {
         if M::WANTS_LEVELS {
             let level = self.meters.feed_level(&self.params, packet.at);
@@ -107,11 +108,11 @@ impl<M: RunMeter> WholeGroups<M> {
         requires { ∥ ((m : MediaValue) × (so_far : Groups) × CanGoOn m self.old so_far packet.at false) ∥₁ }
         ensures whole { (m : MediaValue) (so_far : Groups) → CanGoOn m self.old so_far packet.at false
             → IsWhole m self.new (groups_next so_far packet.at false) }
-        ensures told { M.WANTS_LEVELS ≡ true → IfOk result (λ _. (m : MediaValue) (so_far : Groups) (tai number : ℕ)
+        ensures told { M.WANTS_LEVELS ≡ true → IfOk result (λ _. (m : MediaValue) (so_far : Groups) (shift : Shift) (number : ℕ)
             (first p : FlowPacket) (fed committed : List FlowPacket) → CanGoOn m self.old so_far packet.at false
-            → so_far.stamps ≡ stamps_of tai fed → packet ≡ told_of tai p
-            → M.stands self.old.meter m tai (run_by number first self.old.params.n) fed committed
-            → M.stands self.new.meter m tai (run_by number first self.new.params.n) (fed ++ p ∷ []) committed) }
+            → so_far.stamps ≡ stamps_of shift fed → packet ≡ told_of shift p
+            → M.stands self.old.meter m shift (run_by number first self.old.params.n) fed committed
+            → M.stands self.new.meter m shift (run_by number first self.new.params.n) (fed ++ p ∷ []) committed) }
         ensures n { self.new.params.n ≡ self.old.params.n }
     {
         self.put(packet)
@@ -125,18 +126,18 @@ impl<M: RunMeter> WholeGroups<M> {
             → CanGoOn m self.old so_far packet.at marker
             → IsWhole m self.new (groups_next so_far packet.at marker)) }
         ensures told { M.WANTS_LEVELS ≡ true → IfOk result (λ _. (past : M.Past) (m : MediaValue) (so_far : Groups)
-            (tai number : ℕ) (first p : FlowPacket) (over : List JudgedPart) (fed committed : List FlowPacket)
+            (shift : Shift) (number : ℕ) (first p : FlowPacket) (over : List JudgedPart) (fed committed : List FlowPacket)
             → CanGoOn m self.old so_far packet.at marker
-            → so_far.stamps ≡ stamps_of tai fed → packet ≡ told_of tai p
+            → so_far.stamps ≡ stamps_of shift fed → packet ≡ told_of shift p
             → (marker ≡ true → AreWhole so_far.n (fed ++ p ∷ []))
-            → M.stands self.old.meter m tai (run_by number first self.old.params.n) fed committed
-            → M.tells past out.old m tai over (Some (record {
+            → M.stands self.old.meter m shift (run_by number first self.old.params.n) fed committed
+            → M.tells past out.old m shift over (Some (record {
               run = run_by number first self.old.params.n;
               packets = committed;
             }))
-            → M.stands self.new.meter m tai (run_by number first self.new.params.n) (fed ++ p ∷ [])
+            → M.stands self.new.meter m shift (run_by number first self.new.params.n) (fed ++ p ∷ [])
             (if marker then fed ++ p ∷ [] else committed)
-            × M.tells past out.new m tai over (Some (record {
+            × M.tells past out.new m shift over (Some (record {
               run = run_by number first self.new.params.n;
               packets = if marker then fed ++ p ∷ [] else committed;
             }))) }
@@ -165,15 +166,15 @@ impl<M: RunMeter> WholeGroups<M> {
               tail = 0;
               stamps = stamps;
             }) }
-        ensures told { IfOk result (λ _. (tai : ℕ) (r : RunOf) (fed committed : List FlowPacket)
+        ensures told { IfOk result (λ _. (shift : Shift) (r : RunOf) (fed committed : List FlowPacket)
             → r.n ≡ self.old.params.n → AreWhole r.n fed
-            → M.stands self.old.meter self.old.params.media tai r fed committed
-            → M.stands self.new.meter self.old.params.media tai r fed fed) }
-        ensures tells { IfOk result (λ _. (past : M.Past) (tai : ℕ) (r : RunOf) (over : List JudgedPart)
+            → M.stands self.old.meter self.old.params.media shift r fed committed
+            → M.stands self.new.meter self.old.params.media shift r fed fed) }
+        ensures tells { IfOk result (λ _. (past : M.Past) (shift : Shift) (r : RunOf) (over : List JudgedPart)
             (fed committed : List FlowPacket) → r.n ≡ self.old.params.n → AreWhole r.n fed
-            → M.stands self.old.meter self.old.params.media tai r fed committed
-            → M.tells past out.old self.old.params.media tai over (Some (record { run = r; packets = committed }))
-            → M.tells past out.new self.old.params.media tai over (Some (record { run = r; packets = fed }))) }
+            → M.stands self.old.meter self.old.params.media shift r fed committed
+            → M.tells past out.old self.old.params.media shift over (Some (record { run = r; packets = committed }))
+            → M.tells past out.new self.old.params.media shift over (Some (record { run = r; packets = fed }))) }
     {
         self.groups += 1;
         self.judged = self.meters.judged(&self.params, self.groups, self.head);
@@ -214,15 +215,15 @@ impl<M: RunMeter> WholeGroups<M> {
               tail = length so_far.stamps - length so_far.whole;
               stamps = so_far.whole;
             })) }
-        ensures tells { IfOk result (λ judged. (past : M.Past) (m : MediaValue) (so_far : Groups) (tai number : ℕ)
+        ensures tells { IfOk result (λ judged. (past : M.Past) (m : MediaValue) (so_far : Groups) (shift : Shift) (number : ℕ)
             (first : FlowPacket) (over : List JudgedPart) (fed committed : List FlowPacket) → IsWhole m self so_far
-            → AreJudged tai so_far committed
-            → M.stands self.meter m tai (run_by number first self.params.n) fed committed
-            → M.tells past out.old m tai over (Some (record {
+            → AreJudged shift so_far committed
+            → M.stands self.meter m shift (run_by number first self.params.n) fed committed
+            → M.tells past out.old m shift over (Some (record {
               run = run_by number first self.params.n;
               packets = committed;
             }))
-            → M.tells past out.new m tai (over ++ part_of (run_by number first self.params.n) judged committed ∷ [])
+            → M.tells past out.new m shift (over ++ part_of (run_by number first self.params.n) judged committed ∷ [])
             None) }
     {
         let judged = self.judged();
@@ -350,8 +351,8 @@ impl<M: RunMeter> RunJudge<M> {
     fn begin_first(&mut self, alloc: Global)
         ensures takes { (m : MediaValue) (packets : ℕ) → self.old ≡ Head packets
             → StandsFor m self.new (in_first packets []) }
-        ensures told { (m : MediaValue) (tai number : ℕ) (first : FlowPacket) (packets : ℕ) → self.old ≡ Head packets
-            → IsTold M.stands m tai number first self.new [] [] }
+        ensures told { (m : MediaValue) (shift : Shift) (number : ℕ) (first : FlowPacket) (packets : ℕ) → self.old ≡ Head packets
+            → IsTold M.stands m shift number first self.new [] [] }
     {
         if let RunJudge::Head { packets } = self {
             *self = RunJudge::First {
@@ -375,10 +376,10 @@ impl<M: RunMeter> RunJudge<M> {
         requires { IsWholeFirst self.old }
         ensures takes { IfOk result (λ _. (head : ℕ) (group : _) → self.old ≡ First head group
             → StandsFor media.now self.new (in_groups (groups_first head group.stamps.items))) }
-        ensures tells { IfOk result (λ _. (past : M.Past) (tai : ℕ) (first : FlowPacket) (over : List JudgedPart)
+        ensures tells { IfOk result (λ _. (past : M.Past) (shift : Shift) (first : FlowPacket) (over : List JudgedPart)
             (packets : List FlowPacket) (head : ℕ) (group : _) → self.old ≡ First head group → Heads first run.now
-            → Keeps tai group packets → M.tells past out.old media.now tai over None
-            → TellsOf M.stands M.tells past media.now tai run.now.run first over self.new out.new packets packets) }
+            → Keeps shift group packets → M.tells past out.old media.now shift over None
+            → TellsOf M.stands M.tells past media.now shift run.now.run first over self.new out.new packets packets) }
     {
         if let RunJudge::First { head, group } = self {
             *self = RunJudge::Groups(WholeGroups::first(alloc, media, run, *head, group, out)?);
@@ -390,11 +391,11 @@ impl<M: RunMeter> RunJudge<M> {
     pub fn close(self, out: &mut M::Out) -> Result<RunVerdict, OutOfMemory>
         ensures verdict { IfOk result (λ verdict. (m : MediaValue) (so_far : SoFar) → StandsFor m self so_far
             → verdict ≡ run_verdict_of m (outcome_of so_far)) }
-        ensures tells { IfOk result (λ _. (past : M.Past) (m : MediaValue) (tai number : ℕ) (first : FlowPacket)
+        ensures tells { IfOk result (λ _. (past : M.Past) (m : MediaValue) (shift : Shift) (number : ℕ) (first : FlowPacket)
             (over : List JudgedPart) (so_far : SoFar) (fed committed : List FlowPacket) → StandsFor m self so_far
-            → HaveWhole tai so_far committed
-            → TellsOf M.stands M.tells past m tai number first over self out.old fed committed
-            → M.tells past out.new m tai (over ++ part_by m number first committed (outcome_of so_far)) None) }
+            → HaveWhole shift so_far committed
+            → TellsOf M.stands M.tells past m shift number first over self out.old fed committed
+            → M.tells past out.new m shift (over ++ part_by m number first committed (outcome_of so_far)) None) }
     {
         match self {
             RunJudge::Head { packets } => Ok(RunVerdict::NoWholeFrame { head: packets }),

@@ -2,6 +2,7 @@
 use Rattle.std.proofs.Common.{◌≡◌, ◌<◌, ◌≤◌, ◌+◌, ◌*◌, ◌^◌, ◌++◌, ◌∷◌, [], ℕ, Bool, List, length, map, Option, Some, None, MatchOption, refl, ap, ◌∙◌, sym}
 use Rattle.std.proofs.Common.{subst, arith}
 use Rattle.std.proofs.lemmas.List.{length-map, map-append}
+use Rattle.timing_base.specs.Shifts.{Shift}
 use Rattle.sender_params.specs.Ticks.{NeverFall}
 use Rattle.timing_base.specs.Flows.{read_or_zeros}
 use Rattle.timing_base.specs.Judged.{stamp_of}
@@ -26,8 +27,8 @@ use Rattle.flow_measure.specs.declared.numbers.MeasuredRun.{MeasuredRun}
 use Rattle.flow_measure.specs.declared.numbers.RunNumbers.{RunNumbers}
 
 -- what the packets have, and one more
-pub stamps-more : (tai : ℕ) (before : List FlowPacket) (p : FlowPacket) → stamps_of tai (before ++ p ∷ []) ≡ stamps_of tai before ++ stamp_of tai p ∷ []
-stamps-more tai before p = map-append (stamp_of tai) before (p ∷ [])
+pub stamps-more : (shift : Shift) (before : List FlowPacket) (p : FlowPacket) → stamps_of shift (before ++ p ∷ []) ≡ stamps_of shift before ++ stamp_of shift p ∷ []
+stamps-more shift before p = map-append (stamp_of shift) before (p ∷ [])
 
 pub records-more : (before : List FlowPacket) (p : FlowPacket) → records_of (before ++ p ∷ []) ≡ records_of before ++ p.rec ∷ []
 records-more before p = map-append (λ (q : FlowPacket). q.rec) before (p ∷ [])
@@ -36,8 +37,8 @@ pub timestamps-more : (before : List FlowPacket) (p : FlowPacket)
     → timestamps_of (before ++ p ∷ []) ≡ timestamps_of before ++ (read_or_zeros p.rtp).timestamp ∷ []
 timestamps-more before p = map-append (λ (q : FlowPacket). (read_or_zeros q.rtp).timestamp) before (p ∷ [])
 
-pub stamps-long : (tai : ℕ) (packets : List FlowPacket) → length (stamps_of tai packets) ≡ length packets
-stamps-long tai packets = length-map packets (stamp_of tai)
+pub stamps-long : (shift : Shift) (packets : List FlowPacket) → length (stamps_of shift packets) ≡ length packets
+stamps-long shift packets = length-map packets (stamp_of shift)
 
 -- what a call says of the meters of a run
 abbrev pub TakesPacket : Media → (n : ℕ) → (old new : RunMeters) → RunPacket → Level → Type 0
@@ -46,20 +47,20 @@ TakesPacket m n old new packet level = (stamps records timestamps : List ℕ) �
     → Measures m n new (stamps ++ packet.at ∷ []) (records ++ packet.rec ∷ []) (timestamps ++ packet.timestamp ∷ [])
 
 -- so of the packets of a run
-pub fed-packet : (m : Media) (n tai : ℕ) (old new : RunMeters) (packet : RunPacket) (level : Level) (before : List FlowPacket) (p : FlowPacket)
+pub fed-packet : (m : Media) (n : ℕ) (shift : Shift) (old new : RunMeters) (packet : RunPacket) (level : Level) (before : List FlowPacket) (p : FlowPacket)
     → TakesPacket m n old new packet level
-    → packet ≡ told_of tai p
-    → NeverFall (stamps_of tai (before ++ p ∷ []))
-    → IsLevel m n (stamps_of tai (before ++ p ∷ [])) (length before) level
-    → Measures m n old (stamps_of tai before) (records_of before) (timestamps_of before)
-    → Measures m n new (stamps_of tai (before ++ p ∷ [])) (records_of (before ++ p ∷ [])) (timestamps_of (before ++ p ∷ []))
-fed-packet m n tai old new packet level before p takes told rising is h =
-    let stamps = stamps_of tai before in
-    let told_p = told_of tai p in
-    let more = stamps-more tai before p in
+    → packet ≡ told_of shift p
+    → NeverFall (stamps_of shift (before ++ p ∷ []))
+    → IsLevel m n (stamps_of shift (before ++ p ∷ [])) (length before) level
+    → Measures m n old (stamps_of shift before) (records_of before) (timestamps_of before)
+    → Measures m n new (stamps_of shift (before ++ p ∷ [])) (records_of (before ++ p ∷ [])) (timestamps_of (before ++ p ∷ []))
+fed-packet m n shift old new packet level before p takes told rising is h =
+    let stamps = stamps_of shift before in
+    let told_p = told_of shift p in
+    let more = stamps-more shift before p in
     let takes_p = subst (λ (q : RunPacket). TakesPacket m n old new q level) told takes in
     let fed = takes_p stamps (records_of before) (timestamps_of before) h (subst NeverFall more rising)
-    (subst (λ k. IsLevel m n (stamps ++ told_p.at ∷ []) k level) (sym (stamps-long tai before)) (subst (λ l. IsLevel m n l (length before) level) more is)) in
+    (subst (λ k. IsLevel m n (stamps ++ told_p.at ∷ []) k level) (sym (stamps-long shift before)) (subst (λ l. IsLevel m n l (length before) level) more is)) in
     subst (λ l. Measures m n new l (records_of (before ++ p ∷ [])) (timestamps_of (before ++ p ∷ []))) (sym more)
     (subst (λ l. Measures m n new (stamps ++ told_p.at ∷ []) l (timestamps_of (before ++ p ∷ []))) (sym (records-more before p))
     (subst (Measures m n new (stamps ++ told_p.at ∷ []) (records_of before ++ told_p.rec ∷ [])) (sym (timestamps-more before p)) fed))
@@ -86,15 +87,15 @@ Finishes m n x result = (groups : ℕ) (named : List (Option ℕ)) (stamps recor
     → length stamps ≡ n * groups → AreFirst m n stamps named → MatchOption result (groups ≡ 0) (IsMeasured m n groups stamps records timestamps named)
 
 -- so of the numbers of a run that is over
-pub finished : (m : Media) (tai : ℕ) (r : RunOf) (x : RunMeters) (packets : List FlowPacket) (values : Judged) (result : Option RunNumbers)
+pub finished : (m : Media) (shift : Shift) (r : RunOf) (x : RunMeters) (packets : List FlowPacket) (values : Judged) (result : Option RunNumbers)
     → Finishes m r.n x result
-    → IsJudgedOf m tai r packets values
-    → Measures m r.n x (stamps_of tai packets) (records_of packets) (timestamps_of packets)
-    → MatchOption result (values.frames ≡ 0) (HasNumbers m tai (part_of r values packets))
-finished m tai r x packets values result finishes j h =
-    let stamps = stamps_of tai packets in
+    → IsJudgedOf m shift r packets values
+    → Measures m r.n x (stamps_of shift packets) (records_of packets) (timestamps_of packets)
+    → MatchOption result (values.frames ≡ 0) (HasNumbers m shift (part_of r values packets))
+finished m shift r x packets values result finishes j h =
+    let stamps = stamps_of shift packets in
     let named = map named_by values.kinds in
-    let told = finishes values.frames named stamps (records_of packets) (timestamps_of packets) h (stamps-long tai packets ∙ j.whole)
+    let told = finishes values.frames named stamps (records_of packets) (timestamps_of packets) h (stamps-long shift packets ∙ j.whole)
     (are-first m r.n stamps values.kinds j.names) in
     subst (λ k. MatchOption result (values.frames ≡ 0) (IsMeasured m k values.frames stamps (records_of packets) (timestamps_of packets) named))
     (sym j.n_is) told

@@ -1,6 +1,7 @@
 -- The measurements of the judged runs of a flow. Capture timestamps are nanoseconds of TAI, with `tai` seconds added.
 -- Runs and packet records count from 1. This project's profile.
 use Rattle.std.specs.Prelude.{◌≡◌, ℕ, ⊤, List, [], ◌∷◌, map, Option, Some, None}
+use Rattle.timing_base.specs.Shifts.{Shift}
 use Rattle.timing_base.specs.Flows.{read_or_zeros}
 use Rattle.timing_base.specs.Media.{Media}
 use Rattle.timing_base.specs.declared.row.KindVerdict.{KindVerdict}
@@ -17,9 +18,9 @@ named_by kind_verdict.Pass = None
 named_by (kind_verdict.Fail proof) = Some proof.to
 
 -- the measurements of a judged run of a media: those of its judged packets
-abbrev pub HasNumbers : Media → (tai : ℕ) → JudgedPart → RunNumbers → Type 0
-HasNumbers m tai part numbers =
-    IsMeasured m part.values.n part.values.frames (stamps_of tai part.packets) (records_of part.packets)
+abbrev pub HasNumbers : Media → (shift : Shift) → JudgedPart → RunNumbers → Type 0
+HasNumbers m shift part numbers =
+    IsMeasured m part.values.n part.values.frames (stamps_of shift part.packets) (records_of part.packets)
     (timestamps_of part.packets) (map named_by part.values.kinds) numbers
 
 -- a judged run with its measurements, which satisfy `Numbers`

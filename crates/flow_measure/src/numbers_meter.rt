@@ -52,7 +52,7 @@ impl RunMeter for NumbersMeter {
 
     ghost stands = { StandsFor };
 
-    ghost tells = { λ _ out m tai over _. AreMeasured (HasNumbers m tai) over out.runs.items };
+    ghost tells = { λ _ out m shift over _. AreMeasured (HasNumbers m shift) over out.runs.items };
 
     fn begin(
         _alloc: Global,

@@ -4,6 +4,7 @@
 use Rattle.std.specs.Prelude.{ℕ, ◌+◌, List, [], ◌++◌, codes, Option, Some, None}
 use Rattle.std.specs.Fmt.{decimal}
 use Rattle.std.specs.List.{flat_map}
+use Rattle.timing_base.specs.Shifts.{Shift}
 use Rattle.timing_base.specs.Media.{Media}
 use Rattle.timing_base.specs.Targets.{target_of, target_text}
 use Rattle.timing_base.specs.declared.capture.FileNote.{FileNote}
@@ -40,9 +41,9 @@ run_heading run place first last =
     ++ codes " s.</p>\n")))))))
 
 -- the list of the results of all types, in words
-abbrev pub words_list : List TypeShown → (group : List ℕ) → (tai : ℕ) → List ℕ
-words_list types group tai =
-    codes "<ul class=\"words\">\n" ++ (flat_map (λ t. type_words t group tai) types ++ codes "</ul>\n")
+abbrev pub words_list : List TypeShown → (group : List ℕ) → (shift : Shift) → List ℕ
+words_list types group shift =
+    codes "<ul class=\"words\">\n" ++ (flat_map (λ t. type_words t group shift) types ++ codes "</ul>\n")
 
 -- the pictures of a run, in a grid
 unfoldable pub run_grid : Media → ShownRun → List TypeShown → List ℕ
@@ -57,26 +58,26 @@ run_tables media s types runs =
     numbers_table media s.run.numbers ++ (types_table media types ++ runs_table media runs)
 
 -- the part of a run
-unfoldable pub run_part : (tai : ℕ) → Media → MeasuredFlow → ShownRun → List TypeShown → List ℕ
-run_part tai media flow s types =
+unfoldable pub run_part : (shift : Shift) → Media → MeasuredFlow → ShownRun → List TypeShown → List ℕ
+run_part shift media flow s types =
     flow_heading (flow.media + 1) (target_of media)
-    ++ (run_heading s.run.run s.run.«record» (file_time tai s.first_at) (file_time tai s.last_at)
-    ++ (words_list types (group_name media.interlaced) tai
+    ++ (run_heading s.run.run s.run.«record» (file_time shift s.first_at) (file_time shift s.last_at)
+    ++ (words_list types (group_name media.interlaced) shift
     ++ (steps_line media s.run.judged.frames s.run.numbers.step
     ++ (run_grid media s types ++ run_tables media s types flow.runs))))
 
 -- the part of a flow, if a run is shown
-abbrev pub part_if : (tai : ℕ) → Media → MeasuredFlow → Option ShownRun → List ℕ
-part_if tai media flow None = []
-part_if tai media flow (Some s) = run_part tai media flow s (types_shown s.run.judged s.run.numbers)
+abbrev pub part_if : (shift : Shift) → Media → MeasuredFlow → Option ShownRun → List ℕ
+part_if shift media flow None = []
+part_if shift media flow (Some s) = run_part shift media flow s (types_shown s.run.judged s.run.numbers)
 
 -- the part of a flow of the page
-abbrev pub flow_part : (tai : ℕ) → Media → FlowPage → List ℕ
-flow_part tai media f = part_if tai media f.flow f.shown
+abbrev pub flow_part : (shift : Shift) → Media → FlowPage → List ℕ
+flow_part shift media f = part_if shift media f.flow f.shown
 
 -- the parts of all flows
-abbrev pub flow_parts : (tai : ℕ) → List Media → List FlowPage → List ℕ
-flow_parts tai session flows = flat_map (λ f. flow_part tai (flow_media session f) f) flows
+abbrev pub flow_parts : (shift : Shift) → List Media → List FlowPage → List ℕ
+flow_parts shift session flows = flat_map (λ f. flow_part shift (flow_media session f) f) flows
 
 -- the start of the section on what the capture contains, with these lines
 abbrev pub contents_told : List ℕ → List ℕ
@@ -87,7 +88,7 @@ unfoldable pub contents_part : List ℕ → List ℕ
 contents_part lines = contents_told lines ++ codes "</pre></div>\n"
 
 -- the page of a capture with this name and this end; `lines` is what the capture contains
-abbrev pub page_of : List ℕ → FileNote → (tai : ℕ) → List Media → List FlowPage → List ℕ → List ℕ
-page_of name note tai session flows lines =
-    page_start name ++ (note_line note ++ (media_table session flows ++ (legend ++ (flow_parts tai session flows
+abbrev pub page_of : List ℕ → FileNote → (shift : Shift) → List Media → List FlowPage → List ℕ → List ℕ
+page_of name note shift session flows lines =
+    page_start name ++ (note_line note ++ (media_table session flows ++ (legend ++ (flow_parts shift session flows
     ++ (contents_part lines ++ page_end)))))

@@ -3,6 +3,7 @@
 use Rattle.std.specs.Prelude.{ℕ, ℤ, pos, ◌/◌, ◌%◌, ◌-◌, ◌*◌, ◌==◌, nat_lt, int_lt, unsigned_abs, if◌then◌else◌}
 use Rattle.std.specs.Prelude.{List, [], ◌++◌, codes}
 use Rattle.std.specs.Fmt.{decimal}
+use Rattle.timing_base.specs.Shifts.{Shift}
 use Rattle.flow_page.specs.chart.Grid.{ns_name, scale_of_ns}
 
 -- the last three digits of a number
@@ -50,8 +51,8 @@ span_text ns =
     if nat_lt ns 1000000 then micro_text ns ++ codes " &#181;s" else milli_text ns ++ codes " ms"
 
 -- a capture timestamp as the file has it: without the seconds that were added
-abbrev pub file_time : (tai stamp : ℕ) → ℕ
-file_time tai stamp = stamp - tai * 1000000000
+abbrev pub file_time : (shift : Shift) (stamp : ℕ) → ℕ
+file_time shift stamp = stamp - shift * 1000000000
 
 -- a capture timestamp in seconds of the epoch, with nine decimals
 unfoldable pub epoch_text : ℕ → List ℕ

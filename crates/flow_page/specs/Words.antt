@@ -4,6 +4,7 @@ use Rattle.std.specs.Prelude.{ℕ, ℤ, pos, unsigned_abs, if◌then◌else◌, 
 use Rattle.std.specs.Prelude.{Option, Some, None}
 use Rattle.std.specs.Fmt.{decimal, signed_decimal}
 use Rattle.std.specs.Ordering.{int_eq}
+use Rattle.timing_base.specs.Shifts.{Shift}
 use Rattle.timing_base.specs.declared.fail.FailProof.{FailProof}
 use Rattle.timing_base.specs.declared.row.KindVerdict.{KindVerdict}
 use Rattle.timing_base.specs.declared.row.KindVerdict.TheVariants.{Pass, Fail}
@@ -45,11 +46,11 @@ late_text late slack (Some first) =
 
 -- the text on the place in the capture of the last packet of the violation: its packet record and its capture timestamp
 -- as the file has it
-abbrev pub named_text : (to tai : ℕ) → Option Place → List ℕ
-named_text to tai None = []
-named_text to tai (Some place) =
+abbrev pub named_text : (to : ℕ) (shift : Shift) → Option Place → List ℕ
+named_text to shift None = []
+named_text to shift (Some place) =
     codes ". Packet " ++ (decimal to ++ (codes ", with which the verdict's fail ends, is record "
-    ++ (decimal place.«record» ++ (codes ", capture timestamp " ++ epoch_text (file_time tai place.stamp)))))
+    ++ (decimal place.«record» ++ (codes ", capture timestamp " ++ epoch_text (file_time shift place.stamp)))))
 
 -- the text on how many frames or fields break the type
 unfoldable pub broken_text : TypeShown → (group : List ℕ) → List ℕ
@@ -62,10 +63,10 @@ over_text t =
     above_text (codes "bucket") t.above_bucket t.first_bucket ++ above_text (codes "buffer") t.above_buffer t.first_over
 
 -- the text on how a type fails
-abbrev pub breaks_text : TypeShown → (group : List ℕ) → (tai : ℕ) → FailProof → List ℕ
-breaks_text t group tai proof =
+abbrev pub breaks_text : TypeShown → (group : List ℕ) → (shift : Shift) → FailProof → List ℕ
+breaks_text t group shift proof =
     broken_text t group ++ (over_text t ++ (late_text t.late t.slack t.first_empty
-    ++ named_text proof.to tai t.named))
+    ++ named_text proof.to shift t.named))
 
 -- the text on the slack of a type that passes
 unfoldable pub later_text : (slack : ℤ) → List ℕ
@@ -73,9 +74,9 @@ later_text slack =
     codes "; each packet may come " ++ (minus_of slack ++ (span_text (unsigned_abs slack) ++ codes " later"))
 
 -- the slack of a type that passes, or how it fails
-abbrev pub outcome_words : TypeShown → (group : List ℕ) → (tai : ℕ) → KindVerdict → List ℕ
-outcome_words t group tai Pass = later_text t.slack
-outcome_words t group tai (Fail proof) = breaks_text t group tai proof
+abbrev pub outcome_words : TypeShown → (group : List ℕ) → (shift : Shift) → KindVerdict → List ℕ
+outcome_words t group shift Pass = later_text t.slack
+outcome_words t group shift (Fail proof) = breaks_text t group shift proof
 
 -- the peaks and the limits of a type
 abbrev pub peaks_words : TypeShown → List ℕ
@@ -84,7 +85,7 @@ peaks_words t =
     ++ (decimal t.buffer_peak ++ (codes " of " ++ decimal t.vrx_full))))))
 
 -- the result of a type
-abbrev pub type_words : TypeShown → (group : List ℕ) → (tai : ℕ) → List ℕ
-type_words t group tai =
+abbrev pub type_words : TypeShown → (group : List ℕ) → (shift : Shift) → List ℕ
+type_words t group shift =
     codes "<li>" ++ (sign_text t.verdict ++ (codes " <b>" ++ (kind_name t.kind ++ (peaks_words t
-    ++ (outcome_words t group tai t.verdict ++ codes ".</li>\n")))))
+    ++ (outcome_words t group shift t.verdict ++ codes ".</li>\n")))))

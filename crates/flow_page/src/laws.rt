@@ -32,7 +32,7 @@ ghost use Rattle.flow_page.specs.declared.timings.Timing.TheVariants.{First, Las
 #[tactic(auto, unfolding(crate::proofs::Numerals::numerals, crate::proofs::Numerals::times, crate::proofs::Numerals::rates))]
 pub fn epochs_by_hand()
     ensures plain { epoch_text (file_time 0 1600000000001764000) ≡ codes "1600000000.001764000" }
-    ensures tai { epoch_text (file_time 37 1600000037000000009) ≡ codes "1600000000.000000009" }
+    ensures shift { epoch_text (file_time 37 1600000037000000009) ≡ codes "1600000000.000000009" }
 {}
 
 /// The result in words of a type that passes, and of one that fails.

@@ -64,12 +64,12 @@ fn add_words_list(
     text: &mut String,
     types: &[TypeShown],
     group: &'static str,
-    tai: u32,
+    shift: u32,
 ) -> Result<(), OutOfMemory>
-    ensures { IfOk result (λ _. string_bytes text.new ≡ string_bytes text.old ++ words_list types.now group.now tai) }
+    ensures { IfOk result (λ _. string_bytes text.new ≡ string_bytes text.old ++ words_list types.now group.now shift) }
 {
     add_markup(text, "<ul class=\"words\">\n")?;
-    add_words(text, types, group, tai)?;
+    add_words(text, types, group, shift)?;
     add_markup(text, "</ul>\n")
 }
 
@@ -121,13 +121,13 @@ fn add_flow_title(text: &mut String, media: &Media, flow: &MeasuredFlow) -> Resu
 }
 
 /// Adds the line that names the run that is shown, with the times of its packets.
-fn add_run_title(text: &mut String, tai: u32, shown: &ShownRun) -> Result<(), OutOfMemory>
+fn add_run_title(text: &mut String, shift: u32, shown: &ShownRun) -> Result<(), OutOfMemory>
     ensures { IfOk result (λ _. string_bytes text.new ≡ string_bytes text.old
         ++ run_heading shown.now.run.run shown.now.run.«record»
-        (file_time tai shown.now.first_at) (file_time tai shown.now.last_at)) }
+        (file_time shift shown.now.first_at) (file_time shift shown.now.last_at)) }
 {
-    let first = file_time(tai, shown.first_at);
-    let last = file_time(tai, shown.last_at);
+    let first = file_time(shift, shown.first_at);
+    let last = file_time(shift, shown.last_at);
     add_run_heading(text, shown.run.run, shown.run.record, first, last)
 }
 
@@ -136,13 +136,13 @@ fn add_types_told(
     text: &mut String,
     media: &Media,
     types: &[TypeShown],
-    tai: u32,
+    shift: u32,
 ) -> Result<(), OutOfMemory>
     ensures { IfOk result (λ _. string_bytes text.new
-        ≡ string_bytes text.old ++ words_list types.now (group_name media.now.interlaced) tai) }
+        ≡ string_bytes text.old ++ words_list types.now (group_name media.now.interlaced) shift) }
 {
     let group = group_name(media.interlaced);
-    add_words_list(text, types, group, tai)
+    add_words_list(text, types, group, shift)
 }
 
 /// Adds the line on RTP timestamps of a run whose steps differ from those that the SDP's rate gives.
@@ -157,19 +157,19 @@ fn add_steps(text: &mut String, media: &Media, shown: &ShownRun) -> Result<(), O
 fn add_shown(
     text: &mut String,
     alloc: Global,
-    tai: u32,
+    shift: u32,
     media: &Media,
     flow: &MeasuredFlow,
     shown: &ShownRun,
 ) -> Result<(), OutOfMemory>
     ensures { IfOk result (λ _. string_bytes text.new
-        ≡ string_bytes text.old ++ part_if tai media.now flow.now (Some shown.now)) }
+        ≡ string_bytes text.old ++ part_if shift media.now flow.now (Some shown.now)) }
 {
     let types = types_shown(alloc, &shown.run.judged, &shown.run.numbers)?;
     let types = types.as_slice();
     add_flow_title(text, media, flow)?;
-    add_run_title(text, tai, shown)?;
-    add_types_told(text, media, types, tai)?;
+    add_run_title(text, shift, shown)?;
+    add_types_told(text, media, types, shift)?;
     add_steps(text, media, shown)?;
     add_run_grid(text, alloc, media, shown, types)?;
     add_run_tables(text, media, shown, types, flow.runs.as_slice())
@@ -179,15 +179,15 @@ fn add_shown(
 fn add_flow_part(
     text: &mut String,
     alloc: Global,
-    tai: u32,
+    shift: u32,
     media: &Media,
     page: &FlowPage,
 ) -> Result<(), OutOfMemory>
-    ensures { IfOk result (λ _. string_bytes text.new ≡ string_bytes text.old ++ flow_part tai media.now page.now) }
+    ensures { IfOk result (λ _. string_bytes text.new ≡ string_bytes text.old ++ flow_part shift media.now page.now) }
 {
     match &page.shown {
         None => Ok(()),
-        Some(shown) => add_shown(text, alloc, tai, media, &page.flow, shown),
+        Some(shown) => add_shown(text, alloc, shift, media, &page.flow, shown),
     }
 }
 
@@ -195,16 +195,16 @@ fn add_flow_part(
 fn add_flow_parts(
     text: &mut String,
     alloc: Global,
-    tai: u32,
+    shift: u32,
     session: &Session,
     flows: &[FlowPage],
 ) -> Result<(), OutOfMemory>
     requires { AreOfMedia session.now flows.now }
     ensures { IfOk result (λ _. string_bytes text.new
-        ≡ string_bytes text.old ++ flow_parts tai session.now flows.now) }
+        ≡ string_bytes text.old ++ flow_parts shift session.now flows.now) }
 {
     for page in flows {
-        add_flow_part(text, alloc, tai, flow_media(session, page), page)?;
+        add_flow_part(text, alloc, shift, flow_media(session, page), page)?;
     }
     Ok(())
 }
@@ -238,20 +238,20 @@ pub fn page_text(
     alloc: Global,
     name: &str,
     note: FileNote,
-    tai: u32,
+    shift: u32,
     session: &Session,
     flows: &[FlowPage],
     contents: &str,
 ) -> Result<String, OutOfMemory>
     requires { AreOfMedia session.now flows.now }
-    ensures { IfOk result (λ s. string_bytes s ≡ page_of name.now note tai session.now flows.now contents.now) }
+    ensures { IfOk result (λ s. string_bytes s ≡ page_of name.now note shift session.now flows.now contents.now) }
 {
     let mut text = String::new(alloc);
     add_page_start(&mut text, name)?;
     add_note_line(&mut text, note)?;
     add_media_table(&mut text, alloc, session, flows)?;
     add_legend(&mut text)?;
-    add_flow_parts(&mut text, alloc, tai, session, flows)?;
+    add_flow_parts(&mut text, alloc, shift, session, flows)?;
     add_contents_part(&mut text, contents)?;
     add_page_end(&mut text)?;
     Ok(text)

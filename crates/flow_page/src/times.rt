@@ -292,8 +292,8 @@ impl fmt::Display for Thousandths {
 }
 
 /// Returns a capture timestamp as the file has it, in nanoseconds: `stamp` less the `tai` seconds that were added.
-pub(crate) fn file_time(tai: u32, stamp: u64) -> u64
-    ensures { result ≡ file_time tai stamp }
+pub(crate) fn file_time(shift: u32, stamp: u64) -> u64
+    ensures { result ≡ file_time shift stamp }
 {
-    stamp.saturating_sub(u64::from(tai) * 1_000_000_000)
+    stamp.saturating_sub(u64::from(shift) * 1_000_000_000)
 }

@@ -156,7 +156,7 @@ impl fmt::Display for Late {
 #[derive(Clone, Copy)]
 struct Named {
     to: u64,
-    tai: u32,
+    shift: u32,
     place: Option<Place>,
 }
 
@@ -164,14 +164,14 @@ impl fmt::Display for Named {
     ghost use Rattle.std.specs.Prelude.{Some};
     ghost use Rattle.flow_page.specs.Words.{named_text};
 
-    ghost output = { λ named. Some (named_text named.to named.tai named.place) };
+    ghost output = { λ named. Some (named_text named.to named.shift named.place) };
 
     fn fmt<W: fmt::Write>(&self, f: &mut fmt::Formatter<W>) -> fmt::Result {
         match self.place {
             None => Ok(()),
             Some(place) => {
                 let epoch = Epoch {
-                    ns: file_time(self.tai, place.stamp),
+                    ns: file_time(self.shift, place.stamp),
                 };
                 write!(
                     f,
@@ -211,14 +211,14 @@ struct Outcome {
     shown: TypeShown,
     /// "frame" or "field".
     group: &'static str,
-    tai: u32,
+    shift: u32,
 }
 
 impl fmt::Display for Outcome {
     ghost use Rattle.std.specs.Prelude.{Some};
     ghost use Rattle.flow_page.specs.Words.{outcome_words};
 
-    ghost output = { λ o. Some (outcome_words o.shown o.group.now o.tai o.shown.verdict) };
+    ghost output = { λ o. Some (outcome_words o.shown o.group.now o.shift o.shown.verdict) };
 
     fn fmt<W: fmt::Write>(&self, f: &mut fmt::Formatter<W>) -> fmt::Result {
         match self.shown.verdict {
@@ -232,7 +232,7 @@ impl fmt::Display for Outcome {
                 let breaks = Breaks {
                     shown: self.shown,
                     group: self.group,
-                    tai: self.tai,
+                    shift: self.shift,
                     proof,
                 };
                 write!(f, "{breaks}")
@@ -297,7 +297,7 @@ impl fmt::Display for OverText {
 struct Breaks {
     shown: TypeShown,
     group: &'static str,
-    tai: u32,
+    shift: u32,
     proof: FailProof,
 }
 
@@ -305,7 +305,7 @@ impl fmt::Display for Breaks {
     ghost use Rattle.std.specs.Prelude.{Some};
     ghost use Rattle.flow_page.specs.Words.{breaks_text};
 
-    ghost output = { λ b. Some (breaks_text b.shown b.group.now b.tai b.proof) };
+    ghost output = { λ b. Some (breaks_text b.shown b.group.now b.shift b.proof) };
 
     fn fmt<W: fmt::Write>(&self, f: &mut fmt::Formatter<W>) -> fmt::Result {
         let t = self.shown;
@@ -321,7 +321,7 @@ impl fmt::Display for Breaks {
         };
         let named = Named {
             to: self.proof.to,
-            tai: self.tai,
+            shift: self.shift,
             place: t.named,
         };
         write!(f, "{broken}{over}{late}{named}")
@@ -355,10 +355,10 @@ fn add_type_words(
     text: &mut String,
     shown: &TypeShown,
     group: &'static str,
-    tai: u32,
+    shift: u32,
 ) -> Result<(), OutOfMemory>
     ensures { IfOk result (λ _. string_bytes text.new
-        ≡ string_bytes text.old ++ type_words shown.now group.now tai) }
+        ≡ string_bytes text.old ++ type_words shown.now group.now shift) }
 {
     let shown = *shown;
     let sign = Sign {
@@ -366,7 +366,7 @@ fn add_type_words(
     };
     let name = kind_name(shown.kind);
     let peaks = Peaks { shown };
-    let outcome = Outcome { shown, group, tai };
+    let outcome = Outcome { shown, group, shift };
     writeln!(text, "<li>{sign} <b>{name}{peaks}{outcome}.</li>")
 }
 
@@ -375,13 +375,13 @@ pub(crate) fn add_words(
     text: &mut String,
     types: &[TypeShown],
     group: &'static str,
-    tai: u32,
+    shift: u32,
 ) -> Result<(), OutOfMemory>
     ensures { IfOk result (λ _. string_bytes text.new
-        ≡ string_bytes text.old ++ flat_map (λ t. type_words t group.now tai) types.now) }
+        ≡ string_bytes text.old ++ flat_map (λ t. type_words t group.now shift) types.now) }
 {
     for shown in types {
-        add_type_words(text, shown, group, tai)?;
+        add_type_words(text, shown, group, shift)?;
     }
     Ok(())
 }

@@ -8,6 +8,7 @@ use Rattle.std.proofs.lemmas.Bool.{and_parts, eqb-true}
 use Rattle.std.proofs.lemmas.List.{drop_more, get_or_default, map-append, take_more}
 use Rattle.std.proofs.lemmas.List.Concat.{flat_map-append}
 use Rattle.std.proofs.lemmas.List.Elements.{All-weaker, filter_map-append}
+use Rattle.timing_base.specs.Shifts.{FlowOptions}
 use Rattle.timing_base.specs.Media.{Media}
 use Rattle.timing_base.specs.Keys.{key_of, media_of, no_media}
 use Rattle.timing_base.specs.Routes.{route}
@@ -112,8 +113,8 @@ feeds-none before p old new i d place at within none same written s worker file 
 pub feeds-some : (before : ℕ) (p : Packet) (old new : Judges) (i : ℕ) (d : Option PlainJudge) (judge next : PlainJudge) → i ≡ p.media → i
     < length old.places.items
     → get_or old.places.items i d ≡ Some judge → new.places.items ≡ set old.places.items i (Some next)
-    → ((m : Media) (key : FlowKey) (tai : ℕ) (packets : List FlowPacket) → StandsFor m key tai judge packets
-    → StandsFor m key tai next (packets ++ raised_packet before (flow_packet p) ∷ []))
+    → ((m : Media) (key : FlowKey) (options : FlowOptions) (packets : List FlowPacket) → StandsFor m key options judge packets
+    → StandsFor m key options next (packets ++ raised_packet before (flow_packet p) ∷ []))
     → Feeds before (p ∷ []) old new
 feeds-some before p old new i d judge next at within some written feeds s worker file fed h =
     let key = key_of file p.media in
@@ -122,19 +123,19 @@ feeds-some before p old new i d judge next at within some written feeds s worker
     let is = place-at s worker file fed old p.media d (Some judge) below was h in
     let e : new.places.items ≡ set old.places.items p.media (Some next) = written ∙ ap (λ (n : ℕ). set old.places.items n (Some next)) at in
     feeds-place before p old new (Some next) below e s worker file fed h
-    (is.0, subst (StandsFor (media_of s.media key) key s.tai next) (with-one before p fed key refl) (feeds (media_of s.media key) key s.tai (fed key) is.1))
+    (is.0, subst (StandsFor (media_of s.media key) key s.options next) (with-one before p fed key refl) (feeds (media_of s.media key) key s.options (fed key) is.1))
 
 -- where its judge takes it
 pub feeds-some_if : {X E : Type 0} (r : Result X E) (before : ℕ) (p : Packet) (old new : Judges) (i : ℕ) (d : Option PlainJudge) (judge next : PlainJudge)
     (q : FlowPacket) → i ≡ p.media
     → i < length old.places.items → get_or old.places.items i d ≡ Some judge → new.places.items ≡ set old.places.items i (Some next) → q ≡ flow_packet p
-    → ((m : Media) (key : FlowKey) (tai : ℕ) (packets : List FlowPacket) → StandsFor m key tai judge packets
-    → OnOk r (StandsFor m key tai next (packets ++ raised_packet before q ∷ [])))
+    → ((m : Media) (key : FlowKey) (options : FlowOptions) (packets : List FlowPacket) → StandsFor m key options judge packets
+    → OnOk r (StandsFor m key options next (packets ++ raised_packet before q ∷ [])))
     → IfOk r (λ _. Feeds before (p ∷ []) old new)
 feeds-some_if (Ok x) before p old new i d judge next q at within some written same feeds =
     feeds-some before p old new i d judge next at within some written
-    (subst (λ (y : FlowPacket). (m : Media) (key : FlowKey) (tai : ℕ) (packets : List FlowPacket) → StandsFor m key tai judge packets
-    → StandsFor m key tai next (packets ++ raised_packet before y ∷ [])) same feeds)
+    (subst (λ (y : FlowPacket). (m : Media) (key : FlowKey) (options : FlowOptions) (packets : List FlowPacket) → StandsFor m key options judge packets
+    → StandsFor m key options next (packets ++ raised_packet before y ∷ [])) same feeds)
 feeds-some_if (Err e) before p old new i d judge next q at within some written same feeds = tt
 
 -- two truths that are the same
@@ -177,12 +178,12 @@ same-packet a b o first second = cc
 
 -- a judge that took the packet that it expects was fed that one
 pub takes-expected : (old new : PlainJudge) (rec_number at : ℕ) (rtp : Result Rtp PacketFault) → Expects old rtp → TakesExpected old new at
-    → (m : Media) (key : FlowKey) (tai : ℕ) (packets : List FlowPacket) → StandsFor m key tai old packets
-    → StandsFor m key tai new (packets ++ record { rec = rec_number; at = at; rtp = rtp } ∷ [])
-takes-expected old new rec_number at (Err fault) expects takes m key tai packets h = absurd expects
-takes-expected old new rec_number at (Ok rtp) expects takes m key tai packets h =
-    subst (λ (p : Rtp). StandsFor m key tai new (packets ++ record { rec = rec_number; at = at; rtp = Ok p } ∷ []))
-    (same-packet rtp _ _ (expects m key tai packets h) (takes.expects m key tai packets h)) (takes.stands m key tai packets rec_number h)
+    → (m : Media) (key : FlowKey) (options : FlowOptions) (packets : List FlowPacket) → StandsFor m key options old packets
+    → StandsFor m key options new (packets ++ record { rec = rec_number; at = at; rtp = rtp } ∷ [])
+takes-expected old new rec_number at (Err fault) expects takes m key options packets h = absurd expects
+takes-expected old new rec_number at (Ok rtp) expects takes m key options packets h =
+    subst (λ (p : Rtp). StandsFor m key options new (packets ++ record { rec = rec_number; at = at; rtp = Ok p } ∷ []))
+    (same-packet rtp _ _ (expects m key options packets h) (takes.expects m key options packets h)) (takes.stands m key options packets rec_number h)
 
 -- packets, and then more
 pub feeds-append : (before : ℕ) (xs ys : List Packet) (old mid new : Judges) → Feeds before xs old mid → Feeds before ys mid new
@@ -219,11 +220,11 @@ room-same m n judges e h = subst (λ (k : ℕ). HaveRoom k judges) e h
 pub place-new : (s : Setting) (worker file n : ℕ) (m : Media) (place : Option PlainJudge) (own : Bool) → n < length s.media → get_or s.media n m ≡ m
     → (if s.joined then 0 else file) ≡ file
     → own ≡ eqb (route (key_of file n) (length s.media) s.workers) worker
-    → IfSome place (λ judge. IsTrue own × StandsFor m (key_of file n) s.tai judge []) → IfNone place (IsTrue own → ⊥)
+    → IfSome place (λ judge. IsTrue own × StandsFor m (key_of file n) s.options judge []) → IfNone place (IsTrue own → ⊥)
     → IsPlace s worker (key_of file n) [] place
 place-new s worker file n m (Some judge) own within media dealt e some none =
     let own_is : is_own s worker (key_of file n) ≡ own = ap (λ (f : ℕ). eqb (route (key_of f n) (length s.media) s.workers) worker) dealt ∙ sym e in
-    (own_is ∙ some.0, subst (λ (x : Media). StandsFor x (key_of file n) s.tai judge []) (sym (get_or_default s.media n no_media m within ∙ media)) some.1)
+    (own_is ∙ some.0, subst (λ (x : Media). StandsFor x (key_of file n) s.options judge []) (sym (get_or_default s.media n no_media m within ∙ media)) some.1)
 place-new s worker file n m None own within media dealt e some none =
     let own_is : is_own s worker (key_of file n) ≡ own = ap (λ (f : ℕ). eqb (route (key_of f n) (length s.media) s.workers) worker) dealt ∙ sym e in
     own_is ∙ elim own as (λ b. (IsTrue b → ⊥) → b ≡ false) [ true ↦ λ none. absurd (none refl) | false ↦ λ none. refl ] none

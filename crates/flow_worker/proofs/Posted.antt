@@ -1,6 +1,7 @@
 -- The rows that the judges of a file give, by rising media.
 use Rattle.std.proofs.Common.{◌≡◌, ◌+◌, ℕ, Bool, true, false, cond, List, [], ◌∷◌, ◌++◌, length, map, Some, None, sym, ap, ◌∙◌, subst, append_assoc, append-nil}
 use Rattle.std.specs.Prelude.{Option, filter}
+use Rattle.timing_base.specs.Shifts.{FlowOptions}
 use Rattle.timing_base.specs.Media.{Media}
 use Rattle.timing_base.specs.Keys.{key_of, keys_of_file, media_of}
 use Rattle.timing_base.specs.declared.key.FlowKey.{FlowKey}
@@ -65,14 +66,14 @@ rows-none s worker file fed before rows place left later e none h =
 pub rows-some : (s : Setting) (worker file : ℕ) (fed : FlowKey → List FlowPacket) (before rows more : List Row) (place : Option PlainJudge) (judge : PlainJudge)
     (left later : List (Option PlainJudge)) (r : Row)
     → left ≡ place ∷ later → place ≡ Some judge
-    → ((m : Media) (key : FlowKey) (tai : ℕ) (packets : List FlowPacket) → StandsFor m key tai judge packets → r ≡ row packets key m tai)
+    → ((m : Media) (key : FlowKey) (options : FlowOptions) (packets : List FlowPacket) → StandsFor m key options judge packets → r ≡ row packets key m options)
     → more ≡ rows ++ r ∷ [] → HasRows s worker file fed before rows left → HasRows s worker file fed before more later
 rows-some s worker file fed before rows more place judge left later r e some gives pushed h =
     let P : ℕ → Option PlainJudge → Type 0 = λ n. IsPlace s worker (key_of file n) (fed (key_of file n)) in
     let each = subst (EachFrom P h.number) e h.each in
     let key = key_of file h.number in
     let own = subst (P h.number) some each.0 in
-    let is : r ≡ row_over s key (fed key) = gives (media_of s.media key) key s.tai (fed key) own.1 in
+    let is : r ≡ row_over s key (fed key) = gives (media_of s.media key) key s.options (fed key) own.1 in
     let rest : List Row = own_rows s worker fed (keys_of_file file (h.number + 1) (length later)) in
     record {
       number = h.number + 1;

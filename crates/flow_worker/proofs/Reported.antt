@@ -17,19 +17,19 @@ use Rattle.flow_worker.specs.Posting.{judged_files, key_records, key_row, keys, 
 rows-keys_from : (s : Setting) (captures : List Capture) (file number : ℕ) (ms : List Media) (items : List Record) → key_records s captures (key_of file 0)
     ≡ items
     → ((i : ℕ) (m : Media) → slice_get ms i ≡ Some m → media_of s.media (key_of file (number + i)) ≡ m)
-    → map (key_row s captures) (keys_of_file file number (length ms)) ≡ rows_from s.tai file number ms items
+    → map (key_row s captures) (keys_of_file file number (length ms)) ≡ rows_from s.options file number ms items
 rows-keys_from s captures file number [] items at media = refl
 rows-keys_from s captures file number (m ∷ ms) items at media =
     let here : media_of s.media (key_of file number) ≡ m =
     let z : number ≡ number + 0 = omega arith in ap (λ (x : ℕ). media_of s.media (key_of file x)) z ∙ media 0 m refl in
     ap₂ (λ (r : Row) (rs : List Row). r ∷ rs)
-    (ap₂ (λ (l : List Record) (x : Media). row (flow l x) (key_of file number) x s.tai) at here)
+    (ap₂ (λ (l : List Record) (x : Media). row (flow l x) (key_of file number) x s.options) at here)
     (rows-keys_from s captures file (number + 1) ms items at
     (λ i n e. let z : number + 1 + i ≡ number + suc i = omega arith in ap (λ (x : ℕ). media_of s.media (key_of file x)) z ∙ media (suc i) n e))
 
 -- the rows of all media of a file
 rows-file : (s : Setting) (captures : List Capture) (file : ℕ) (items : List Record) → key_records s captures (key_of file 0) ≡ items
-    → map (key_row s captures) (keys_of_file file 0 (length s.media)) ≡ rows_of s.tai file s.media items
+    → map (key_row s captures) (keys_of_file file 0 (length s.media)) ≡ rows_of s.options file s.media items
 rows-file s captures file items at =
     rows-keys_from s captures file 0 s.media items at
     (λ i m e. let z : 0 + i ≡ i = omega arith in ap (λ (x : ℕ). get_or s.media x no_media) z ∙ get_or_from_slice_get s.media i m no_media e)
@@ -37,7 +37,7 @@ rows-file s captures file items at =
 -- the rows of the last files
 rows-files : (s : Setting) (captures : List Capture) (first : ℕ) (cs : List Capture)
     → ((i : ℕ) (c : Capture) → slice_get cs i ≡ Some c → key_records s captures (key_of (first + i) 0) ≡ c.records)
-    → map (key_row s captures) (keys_of_files first (length cs) (length s.media)) ≡ rows_of_files s.tai first s.media (map (λ (c : Capture). c.records) cs)
+    → map (key_row s captures) (keys_of_files first (length cs) (length s.media)) ≡ rows_of_files s.options first s.media (map (λ (c : Capture). c.records) cs)
 rows-files s captures first [] at = refl
 rows-files s captures first (c ∷ cs) at =
     let here : key_records s captures (key_of first 0) ≡ c.records =
@@ -50,12 +50,12 @@ rows-files s captures first (c ∷ cs) at =
 -- the files for themselves, or as one
 rows-keys_by : (s : Setting) (captures : List Capture) (b : Bool) → s.joined ≡ b
     → map (key_row s captures) (keys_of_files 0 (if b then 1 else length captures) (length s.media))
-    ≡ rows_of_files s.tai 0 s.media (if b then joined (map (λ (c : Capture). c.records) captures) ∷ [] else map (λ (c : Capture). c.records) captures)
+    ≡ rows_of_files s.options 0 s.media (if b then joined (map (λ (c : Capture). c.records) captures) ∷ [] else map (λ (c : Capture). c.records) captures)
 rows-keys_by s captures true e =
     let files : List (List Record) = map (λ (c : Capture). c.records) captures in
     let at : key_records s captures (key_of 0 0) ≡ joined files = ap (λ (b : Bool). if b then joined files else records_if (slice_get captures 0)) e in
     ap (map (key_row s captures)) (append-nil (keys_of_file 0 0 (length s.media)))
-    ∙ rows-file s captures 0 (joined files) at ∙ sym (append-nil (rows_of s.tai 0 s.media (joined files)))
+    ∙ rows-file s captures 0 (joined files) at ∙ sym (append-nil (rows_of s.options 0 s.media (joined files)))
 rows-keys_by s captures false e =
     let files : List (List Record) = map (λ (c : Capture). c.records) captures in
     rows-files s captures 0 captures
@@ -66,5 +66,5 @@ rows-keys_by s captures false e =
 
 -- the rows of all keys
 pub rows-keys : (s : Setting) (captures : List Capture) → map (key_row s captures) (keys s (length captures))
-    ≡ rows_of_files s.tai 0 s.media (judged_files s captures)
+    ≡ rows_of_files s.options 0 s.media (judged_files s captures)
 rows-keys s captures = rows-keys_by s captures s.joined refl

@@ -4,6 +4,7 @@ use Rattle.std.proofs.Common.{arith}
 use Rattle.std.specs.Prelude.{map, Option, None, Some}
 use Rattle.std.proofs.lemmas.Bool.{cases_lt}
 use Rattle.std.proofs.lemmas.List.Elements.{filter_map-append}
+use Rattle.timing_base.specs.Shifts.{FlowOptions}
 use Rattle.timing_base.specs.Captures.{Record, raised}
 use Rattle.timing_base.specs.Keys.{key_of}
 use Rattle.timing_base.specs.Media.{Media}
@@ -137,13 +138,13 @@ begun-early r o items end h =
     }
 
 -- the setting by which a file is routed
-abbrev setting_by : Routing → (joined : Bool) → (tai : ℕ) → Setting
-setting_by r joined tai = record { media = r.media.now; workers = r.lanes; joined = joined; tai = tai }
+abbrev setting_by : Routing → (joined : Bool) → (options : FlowOptions) → Setting
+setting_by r joined options = record { media = r.media.now; workers = r.lanes; joined = joined; options = options }
 
 -- what is to be sent of a file, for the whole run
-sends-are : (r : Routing) (joined : Bool) (tai file w : ℕ) (items : List Record) (note : FileNote) → r.file ≡ (if joined then 0 else file)
-    → sends_to r file w items note ≡ lane_sends (setting_by r joined tai) file (record { records = items; note = note }) w
-sends-are r joined tai file w items note e =
+sends-are : (r : Routing) (joined : Bool) (options : FlowOptions) (file w : ℕ) (items : List Record) (note : FileNote) → r.file ≡ (if joined then 0 else file)
+    → sends_to r file w items note ≡ lane_sends (setting_by r joined options) file (record { records = items; note = note }) w
+sends-are r joined options file w items note e =
     ap (λ (f : ℕ). for_lane w (sent_of 256 file (λ p. route (key_of f p.media) (length r.media.now) r.lanes) (session_packets r.media.now items) r.lanes
     (ending file note (length items)))) e
 
@@ -193,27 +194,27 @@ of-same old new same =
     subst (λ (l : List LaneId). HaveSent old.file l (sent_to new) new.passes.items) same.lanes first
 
 -- all was sent, or all of the records before a read that failed
-pub told-file : (r : Routing) (old new : Outboxes) (joined : Bool) (tai : ℕ) (note end : FileNote) (items : List Record) → r.file
+pub told-file : (r : Routing) (old new : Outboxes) (joined : Bool) (options : FlowOptions) (note end : FileNote) (items : List Record) → r.file
     ≡ (if joined then 0 else old.file) → AreSame old new
     → HasSentFile r new note items end
-    → HasTold (setting_by r joined tai) old.file old.lanes.now (record { records = items; note = end }) (Some note) new.passes.items
-told-file r old new joined tai note end items e same h =
-    let s = setting_by r joined tai in
+    → HasTold (setting_by r joined options) old.file old.lanes.now (record { records = items; note = end }) (Some note) new.passes.items
+told-file r old new joined options note end items e same h =
+    let s = setting_by r joined options in
     let sent : SentTo s old.file old.lanes.now new.passes.items h.before note =
     HaveSent-as old.file old.lanes.now new.passes.items (sent_to new) (lane_sends s old.file (record { records = h.before; note = note }))
     (λ w below.
     let within : w < length new.lanes.now = omega (arith, ap length same.lanes) in
-    h.all w within ∙ ap (λ (f : ℕ). sends_to r f w h.before note) same.file ∙ sends-are r joined tai old.file w h.before note e)
+    h.all w within ∙ ap (λ (f : ℕ). sends_to r f w h.before note) same.file ∙ sends-are r joined options old.file w h.before note e)
     (of-same old new same) in
     told-by s old.file old.lanes.now new.passes.items note end items h.before h.later h.whole h.ends sent
 
 -- memory ran out
-pub told-stopped : (r : Routing) (old new : Outboxes) (joined : Bool) (tai : ℕ) (end : FileNote) (items : List Record) → r.file
+pub told-stopped : (r : Routing) (old new : Outboxes) (joined : Bool) (options : FlowOptions) (end : FileNote) (items : List Record) → r.file
     ≡ (if joined then 0 else old.file) → AreSame old new
     → HasBegunFile r new items end
-    → HasBegun (setting_by r joined tai) old.file old.lanes.now (record { records = items; note = end }) new.passes.items
-told-stopped r old new joined tai end items e same h =
-    let s = setting_by r joined tai in
+    → HasBegun (setting_by r joined options) old.file old.lanes.now (record { records = items; note = end }) new.passes.items
+told-stopped r old new joined options end items e same h =
+    let s = setting_by r joined options in
     let have = of-same old new same in
     record {
       part = record { records = h.before; note = h.note };
@@ -226,7 +227,7 @@ told-stopped r old new joined tai end items e same h =
             | inl below ↦
                 let within : w < length new.lanes.now = omega (arith, below, ap length same.lanes) in
                 let t = h.begins w within in
-                (t.0, t.1 ∙ ap (λ (f : ℕ). sends_to r f w h.before h.note) same.file ∙ sends-are r joined tai old.file w h.before h.note e)
+                (t.0, t.1 ∙ ap (λ (f : ℕ). sends_to r f w h.before h.note) same.file ∙ sends-are r joined options old.file w h.before h.note e)
             | inr past ↦ (whole, ap (λ (l : List Message). l ++ whole) (sent_of-past new.passes.items w (omega (arith, past, have.count))))
           ];
     }

@@ -33,7 +33,7 @@ is_own s worker key = key_lane s key == worker
 abbrev pub IsPlace : Setting → (worker : ℕ) → FlowKey → List FlowPacket → Option PlainJudge → Type 0
 IsPlace s worker key packets None = is_own s worker key ≡ false
 IsPlace s worker key packets (Some judge) = (is_own s worker key ≡ true)
-    × StandsFor (media_of s.media key) key s.tai judge packets
+    × StandsFor (media_of s.media key) key s.options judge packets
 
 -- the judges of a file are those of a worker's own flows, and each was fed the packets that `fed` gives for its flow
 pub record AreFed (s : Setting) (worker file : ℕ) (fed : FlowKey → List FlowPacket) (judges : Judges) : Type 0 where

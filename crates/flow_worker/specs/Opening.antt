@@ -29,7 +29,7 @@ pub record Setting : Type 0 where
   -- whether the files are judged as one
   pub joined : Bool
   -- seconds added to the capture timestamps
-  pub tai : ℕ
+  pub options : ℕ
 
 -- there is a worker, and no two media of the session have the same target
 pub record IsSetting (s : Setting) : Type 0 where

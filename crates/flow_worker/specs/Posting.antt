@@ -45,7 +45,7 @@ taken_packets s files taken key =
 
 -- the result for these packets of a flow
 abbrev pub row_over : Setting → FlowKey → List FlowPacket → Row
-row_over s key packets = row packets key (media_of s.media key) s.tai
+row_over s key packets = row packets key (media_of s.media key) s.options
 
 -- the result that a worker makes of what it took
 abbrev pub taken_row : Setting → (files : ℕ) → List Message → FlowKey → Row

@@ -9,7 +9,7 @@ setting_of run = record {
   media = run.media.now;
   workers = length run.lanes.now;
   joined = run.joined;
-  tai = run.tai;
+  options = run.options;
 }
 
 -- the intake is that of one of at most 16 files, and the media and lanes of its run are within their limits
@@ -28,4 +28,4 @@ pub record IsWorker (run : RunSetting) (worker : ℕ) : Type 0 where
   pub few_media : length run.media.now ≤ 64
   pub some_files : 1 ≤ run.files
   pub few_files : run.files ≤ 16
-  pub few_seconds : run.tai ≤ 1000
+  pub few_seconds : run.options ≤ 1000

@@ -43,7 +43,7 @@ media_at target = record {
 
 -- two media and two workers, and the files joined or not
 abbrev pub two_workers : Bool → Setting
-two_workers joined = record { media = media_at group ∷ media_at next_port ∷ []; workers = 2; joined = joined; tai = 0 }
+two_workers joined = record { media = media_at group ∷ media_at next_port ∷ []; workers = 2; joined = joined; options = 0 }
 
 -- five records, the first for the second media and the last two for the first media; and one record for the second
 -- media

@@ -37,7 +37,7 @@ impl Apart {
     /// Returns the files of the run, of which nothing was taken yet. Returns `Err` if memory runs out.
     pub fn new(alloc: Global, run: &RunSetting<'_>, worker: u32) -> Result<Apart, OutOfMemory>
         requires limits { IsWorker run.now worker }
-        ensures stands { IfOk result (λ apart. ApartStandsFor (record { media = run.now.media.now; workers = length run.now.lanes.now; joined = false; tai = run.now.tai })
+        ensures stands { IfOk result (λ apart. ApartStandsFor (record { media = run.now.media.now; workers = length run.now.lanes.now; joined = false; options = run.now.options })
             run.now.files worker [] apart) }
     {
         let mut all = Vec::new(alloc);

@@ -2,6 +2,7 @@
 //! workers.
 
 ghost use Rattle.std.specs.Prelude.{◌≡◌, ◌≤◌, ◌<◌, ◌+◌, ◌*◌, ◌^◌, ◌∷◌, [], ℕ, List, None, Some, Bool, IfErr, IfOk, MatchResult, if◌then◌else◌, length};
+ghost use Rattle.timing_base.specs.Shifts.{FlowOptions};
 ghost use Rattle.timing_base.specs.Captures.{IsStamp, Record};
 ghost use Rattle.timing_base.specs.declared.capture.FileNote.{FileNote as NoteValue};
 ghost use Rattle.timing_base.specs.declared.capture.FileNote.TheVariants as file_note;
@@ -159,10 +160,10 @@ fn take_file<'h, R: Wait, S: Source>(
     requires begins { BeginsFile sorter.routing reader sorter.outboxes }
     requires expected { AreExpected sorter.routing.media.now sorter.upcoming }
     ensures passes { AreOfFile sorter.entry.outboxes.file sorter.entry.outboxes.lanes.now result.0.passes.items }
-    ensures told { (joined : Bool) (tai : ℕ) (items : List Record) (end : _)
+    ensures told { (joined : Bool) (options : FlowOptions) (items : List Record) (end : _)
         → sorter.entry.routing.file ≡ (if joined then 0 else sorter.entry.outboxes.file)
         → WillGive S.left reader items end
-        → HasTold (record { media = sorter.entry.routing.media.now; workers = sorter.entry.routing.lanes; joined = joined; tai = tai })
+        → HasTold (record { media = sorter.entry.routing.media.now; workers = sorter.entry.routing.lanes; joined = joined; options = options })
         sorter.entry.outboxes.file sorter.entry.outboxes.lanes.now
         (record { records = items; note = end }) result.0.note result.0.passes.items }
     ensures name { S.name result.0.source ≡ S.name (under reader) }

@@ -43,7 +43,7 @@ impl Joined {
     /// Returns the files of the run, of which nothing was taken yet. Returns `Err` if memory runs out.
     pub fn new(alloc: Global, run: &RunSetting<'_>, worker: u32) -> Result<Joined, OutOfMemory>
         requires limits { IsWorker run.now worker }
-        ensures stands { IfOk result (λ joined. JoinedStandsFor (record { media = run.now.media.now; workers = length run.now.lanes.now; joined = true; tai = run.now.tai })
+        ensures stands { IfOk result (λ joined. JoinedStandsFor (record { media = run.now.media.now; workers = length run.now.lanes.now; joined = true; options = run.now.options })
             run.now.files worker [] joined) }
     {
         let judges = Judges::new(alloc, run, 0, worker)?;

@@ -1,6 +1,7 @@
 //! The judges of a worker for one file, or for joined files.
 
 ghost use Rattle.std.specs.Prelude.{◌≡◌, ◌≤◌, ◌<◌, ◌+◌, ◌^◌, ◌++◌, ◌∷◌, [], ℕ, Bool, List, All, IfOk, IfNone, IfSome, IsTrue, filter, length, map, true};
+ghost use Rattle.timing_base.specs.Shifts.{FlowOptions as FlowOptionsValue};
 ghost use Rattle.timing_base.specs.declared.key.FlowKey.{FlowKey as KeyValue};
 ghost use Rattle.timing_base.specs.declared.packet.FlowPacket.{FlowPacket as PacketValue};
 ghost use Rattle.timing_base.specs.Keys.{keys_of_file};
@@ -42,7 +43,7 @@ impl Judges {
         requires file { file < 16 }
         requires limits { IsWorker run.now worker }
         ensures fed { IfOk result (λ judges. (joined : Bool) → IsDealt joined file
-            → AreFed (record { media = run.now.media.now; workers = length run.now.lanes.now; joined = joined; tai = run.now.tai })
+            → AreFed (record { media = run.now.media.now; workers = length run.now.lanes.now; joined = joined; options = run.now.options })
             worker file (λ key. []) judges) }
     {
         let media = run.media;
@@ -53,7 +54,7 @@ impl Judges {
                 media: number as u32,
             };
             let own = route(key, media.len() as u32, run.lanes.len() as u32) == worker;
-            places.push(own_judge(alloc, each, key, run.tai, own))?;
+            places.push(own_judge(alloc, each, key, run.options, own))?;
         }
         Ok(Judges { places })
     }
@@ -137,15 +138,14 @@ fn own_judge(
     alloc: Global,
     media: &Media,
     key: FlowKey,
-    tai: u64,
+    options: FlowOptions,
     own: bool,
 ) -> Option<FlowJudge<()>>
-    requires { tai ≤ 1000 }
-    ensures judge { IfSome result (λ judge. IsTrue own × StandsFor media.now key tai judge []) }
+    ensures judge { IfSome result (λ judge. IsTrue own × StandsFor media.now key options judge []) }
     ensures none { IfNone result (¬ IsTrue own) }
 {
     if own {
-        Some(FlowJudge::new(alloc, media, key, tai))
+        Some(FlowJudge::new(alloc, media, key, options))
     } else {
         None
     }

@@ -86,7 +86,7 @@ pub fn runs_can_end()
 pub fn keys_in_order()
     ensures { (s : Setting) (captures : List Capture)
         → map (key_row s captures) (keys s (length captures))
-        ≡ rows_of_files s.tai 0 s.media (judged_files s captures) }
+        ≡ rows_of_files s.options 0 s.media (judged_files s captures) }
 {}
 
 /// Worked by hand: a result is posted only if the end of its file was taken, by its own worker, and once.

@@ -1,5 +1,6 @@
 //! The data that the intakes and the workers of a run share.
 
+ghost use Rattle.timing_base.specs.Shifts.{FlowOptions as FlowOptionsValue};
 use ruled_intake::{Lane, Reading, Turn};
 use timing_base::Media;
 
@@ -16,7 +17,7 @@ pub struct RunSetting<'a> {
     /// Whether the files are judged as one.
     pub joined: bool,
     /// Seconds added to the capture timestamps.
-    pub tai: u64,
+    pub options: FlowOptions,
     /// Turn of each file. If a file has none, no intake waits for the end of the file before.
     pub turns: &'a [Turn],
 }

@@ -6,6 +6,7 @@ use Rattle.std.specs.HashMap as hash
 use Rattle.std.specs.HashMap.{HashMap}
 use Rattle.std.proofs.lemmas.Bool.{cases_lt}
 use Rattle.std.proofs.lemmas.Bool.Decides.{nat_tests}
+use Rattle.timing_base.specs.Shifts.{Shift}
 use Rattle.timing_base.specs.Judged.{RunOutcome, no_whole_frame, whole_frames}
 use Rattle.timing_base.specs.declared.fail.FailProof.{FailProof}
 use Rattle.interval_checker.specs.Asking.{AreEnded, AreKept, AsksNoLess, EndsAs, EndsAt, IsAsked, IsRunKept, ending_of, if_asked, stamp_of}
@@ -169,10 +170,10 @@ kept-same : (old new : Asked) (run count : ℕ) (stamps : ℕ → ℕ) → ((p :
     → AreKept new run stamps count
 kept-same old new run count stamps same kept place low there = same place ∙ kept place low (subst IsSome (same place) there)
 
-ends-same : (old new : Asked) (run tai : ℕ) (o : RunOutcome) (e : Ending) → ((p : ℕ) → stamp_of new run p ≡ stamp_of old run p) → EndsAs old run tai o e
-    → EndsAs new run tai o e
-ends-same old new run tai (no_whole_frame head) e same h = h
-ends-same old new run tai (whole_frames j) e same h = (
+ends-same : (old new : Asked) (run : ℕ) (shift : Shift) (o : RunOutcome) (e : Ending) → ((p : ℕ) → stamp_of new run p ≡ stamp_of old run p) → EndsAs old run shift o e
+    → EndsAs new run shift o e
+ends-same old new run shift (no_whole_frame head) e same h = h
+ends-same old new run shift (whole_frames j) e same h = (
   h.0,
   record {
     raw = h.1.raw;
@@ -183,13 +184,13 @@ ends-same old new run tai (whole_frames j) e same h = (
 )
 
 -- the runs that are over are kept as they were
-pub ended-same : (old new : Asked) (tai run : ℕ) (os : List RunOutcome) → ((k : ℕ) → k < length os → IsSameAt old new (run + k)) → AreEnded old tai run os
-    → AreEnded new tai run os
-ended-same old new tai run [] same h = tt
-ended-same old new tai run (o ∷ os) same h =
+pub ended-same : (old new : Asked) (shift : Shift) (run : ℕ) (os : List RunOutcome) → ((k : ℕ) → k < length os → IsSameAt old new (run + k)) → AreEnded old shift run os
+    → AreEnded new shift run os
+ended-same old new shift run [] same h = tt
+ended-same old new shift run (o ∷ os) same h =
     let here : IsSameAt old new run = subst (IsSameAt old new) (omega arith) (same 0 (omega arith)) in (
-      λ e is. ends-same old new run tai o e here.stamps (h.0 e (sym here.ending ∙ is)),
-      ended-same old new tai (suc run) os (λ k low. subst (IsSameAt old new) (omega arith) (same (suc k) (omega (arith, low)))) h.1,
+      λ e is. ends-same old new run shift o e here.stamps (h.0 e (sym here.ending ∙ is)),
+      ended-same old new shift (suc run) os (λ k low. subst (IsSameAt old new) (omega arith) (same (suc k) (omega (arith, low)))) h.1,
     )
 
 came-same : (old new : Asked) (run place at other : ℕ) → Came old new run place at → run ≢ other → IsSameAt old new other
@@ -199,10 +200,10 @@ came-same old new run place at other c ne = record {
 }
 
 -- a packet of a later run
-pub came-ended : (old new : Asked) (tai run place at : ℕ) (os : List RunOutcome) → Came old new run place at → length os ≡ run → AreEnded old tai 0 os
-    → AreEnded new tai 0 os
-came-ended old new tai run place at os c long h =
-    ended-same old new tai 0 os (λ k low. came-same old new run place at (0 + k) c (λ e. omega (arith, e, low, long))) h
+pub came-ended : (old new : Asked) (shift : Shift) (run place at : ℕ) (os : List RunOutcome) → Came old new run place at → length os ≡ run → AreEnded old shift 0 os
+    → AreEnded new shift 0 os
+came-ended old new shift run place at os c long h =
+    ended-same old new shift 0 os (λ k low. came-same old new run place at (0 + k) c (λ e. omega (arith, e, low, long))) h
 
 over-same : (old new : Asked) (run : ℕ) (e : Ending) (other : ℕ) → IsOver old new run e → run ≢ other → IsSameAt old new other
 over-same old new run e other c ne =
@@ -212,14 +213,14 @@ over-same old new run e other c ne =
       ending = asked-other (run == other) e (ending_of old other) (ending_of new other) apart (c.endings other);
     }
 
-ended-append : (a : Asked) (tai run : ℕ) (os : List RunOutcome) (o : RunOutcome) → AreEnded a tai run os
-    → ((e : Ending) → ending_of a (run + length os) ≡ Some e → EndsAs a (run + length os) tai o e) → AreEnded a tai run (os ++ o ∷ [])
-ended-append a tai run [] o h next =
+ended-append : (a : Asked) (shift : Shift) (run : ℕ) (os : List RunOutcome) (o : RunOutcome) → AreEnded a shift run os
+    → ((e : Ending) → ending_of a (run + length os) ≡ Some e → EndsAs a (run + length os) shift o e) → AreEnded a shift run (os ++ o ∷ [])
+ended-append a shift run [] o h next =
     let same : run + 0 ≡ run = omega arith in
-    (subst (λ (r : ℕ). (e : Ending) → ending_of a r ≡ Some e → EndsAs a r tai o e) same next, tt)
-ended-append a tai run (x ∷ os) o h next =
+    (subst (λ (r : ℕ). (e : Ending) → ending_of a r ≡ Some e → EndsAs a r shift o e) same next, tt)
+ended-append a shift run (x ∷ os) o h next =
     let far : run + length (x ∷ os) ≡ suc run + length os = omega arith in
-    (h.0, ended-append a tai (suc run) os o h.1 (subst (λ (r : ℕ). (e : Ending) → ending_of a r ≡ Some e → EndsAs a r tai o e) far next))
+    (h.0, ended-append a shift (suc run) os o h.1 (subst (λ (r : ℕ). (e : Ending) → ending_of a r ≡ Some e → EndsAs a r shift o e) far next))
 
 some-asked : {A : Type 0} (b : Bool) (now got : A) (o n : Option A) → b ≡ true → n ≡ if_asked b now o → n ≡ Some got → now ≡ got
 some-asked b now got None n t e is = cc
@@ -227,38 +228,38 @@ some-asked true now got (Some x) n t e is = cc
 some-asked false now got (Some x) n t e is = cc
 
 -- one run more is over
-pub over-ended : (old new : Asked) (tai run : ℕ) (e : Ending) (os : List RunOutcome) (o : RunOutcome) → IsOver old new run e → length os ≡ run
-    → EndsAs old run tai o e → AreEnded old tai 0 os → AreEnded new tai 0 (os ++ o ∷ [])
-over-ended old new tai run e os o c long ends h =
-    let before : AreEnded new tai 0 os =
-    ended-same old new tai 0 os (λ k low. over-same old new run e (0 + k) c (λ (x : run ≡ 0 + k). omega (arith, x, low, long))) h in
+pub over-ended : (old new : Asked) (shift : Shift) (run : ℕ) (e : Ending) (os : List RunOutcome) (o : RunOutcome) → IsOver old new run e → length os ≡ run
+    → EndsAs old run shift o e → AreEnded old shift 0 os → AreEnded new shift 0 (os ++ o ∷ [])
+over-ended old new shift run e os o c long ends h =
+    let before : AreEnded new shift 0 os =
+    ended-same old new shift 0 os (λ k low. over-same old new run e (0 + k) c (λ (x : run ≡ 0 + k). omega (arith, x, low, long))) h in
     let here : (run == run) ≡ true = grind (arith, nat_tests) in
     let at : 0 + length os ≡ run = omega (arith, long) in
-    ended-append new tai 0 os o before (subst (λ (r : ℕ). (x : Ending) → ending_of new r ≡ Some x → EndsAs new r tai o x) (sym at)
-    (λ x is. subst (EndsAs new run tai o) (some-asked (run == run) e x (ending_of old run) (ending_of new run) here (c.endings run) is)
-    (ends-same old new run tai o e (c.stamps run) ends)))
+    ended-append new shift 0 os o before (subst (λ (r : ℕ). (x : Ending) → ending_of new r ≡ Some x → EndsAs new r shift o x) (sym at)
+    (λ x is. subst (EndsAs new run shift o) (some-asked (run == run) e x (ending_of old run) (ending_of new run) here (c.endings run) is)
+    (ends-same old new run shift o e (c.stamps run) ends)))
 
 -- how a run ended that is over
-pub ended-at : (a : Asked) (tai from run behind : ℕ) (os : List RunOutcome) (e : Ending) → run ≡ from + behind → behind < length os → ending_of a run ≡ Some e
-    → AreEnded a tai from os
-    → EndsAt a run tai os behind e
-ended-at a tai from run behind [] e at low is h = absurd (omega (arith, low))
-ended-at a tai from run zero (o ∷ os) e at low is h =
+pub ended-at : (a : Asked) (shift : Shift) (from run behind : ℕ) (os : List RunOutcome) (e : Ending) → run ≡ from + behind → behind < length os → ending_of a run ≡ Some e
+    → AreEnded a shift from os
+    → EndsAt a run shift os behind e
+ended-at a shift from run behind [] e at low is h = absurd (omega (arith, low))
+ended-at a shift from run zero (o ∷ os) e at low is h =
     let same : from ≡ run = omega (arith, at) in
-    subst (λ (r : ℕ). (x : Ending) → ending_of a r ≡ Some x → EndsAs a r tai o x) same h.0 e is
-ended-at a tai from run (suc behind) (o ∷ os) e at low is h = ended-at a tai (suc from) run behind os e (omega (arith, at)) (omega (arith, low)) is h.1
+    subst (λ (r : ℕ). (x : Ending) → ending_of a r ≡ Some x → EndsAs a r shift o x) same h.0 e is
+ended-at a shift from run (suc behind) (o ∷ os) e at low is h = ended-at a shift (suc from) run behind os e (omega (arith, at)) (omega (arith, low)) is h.1
 
 -- with one run more behind it
-pub at-before : (a : Asked) (tai run behind : ℕ) (os : List RunOutcome) (o : RunOutcome) (e : Ending) → EndsAt a run tai os behind e
-    → EndsAt a run tai (os ++ o ∷ []) behind e
-at-before a tai run behind [] o e h = absurd h
-at-before a tai run zero (x ∷ os) o e h = h
-at-before a tai run (suc behind) (x ∷ os) o e h = at-before a tai run behind os o e h
+pub at-before : (a : Asked) (shift : Shift) (run behind : ℕ) (os : List RunOutcome) (o : RunOutcome) (e : Ending) → EndsAt a run shift os behind e
+    → EndsAt a run shift (os ++ o ∷ []) behind e
+at-before a shift run behind [] o e h = absurd h
+at-before a shift run zero (x ∷ os) o e h = h
+at-before a shift run (suc behind) (x ∷ os) o e h = at-before a shift run behind os o e h
 
 -- the last run
-pub at-last : (a : Asked) (tai run behind : ℕ) (os : List RunOutcome) (o : RunOutcome) (e : Ending) → length os ≡ behind → EndsAs a run tai o e
-    → EndsAt a run tai (os ++ o ∷ []) behind e
-at-last a tai run zero [] o e long h = h
-at-last a tai run zero (x ∷ os) o e long h = absurd (omega (arith, long))
-at-last a tai run (suc behind) [] o e long h = absurd (omega (arith, long))
-at-last a tai run (suc behind) (x ∷ os) o e long h = at-last a tai run behind os o e (omega (arith, long)) h
+pub at-last : (a : Asked) (shift : Shift) (run behind : ℕ) (os : List RunOutcome) (o : RunOutcome) (e : Ending) → length os ≡ behind → EndsAs a run shift o e
+    → EndsAt a run shift (os ++ o ∷ []) behind e
+at-last a shift run zero [] o e long h = h
+at-last a shift run zero (x ∷ os) o e long h = absurd (omega (arith, long))
+at-last a shift run (suc behind) [] o e long h = absurd (omega (arith, long))
+at-last a shift run (suc behind) (x ∷ os) o e long h = at-last a shift run behind os o e (omega (arith, long)) h

@@ -28,11 +28,11 @@ same-read [] [] more on = tt
 same-read [] (n ∷ ns) more on = absurd on
 same-read (o ∷ os) [] more on = absurd on
 same-read (o ∷ os) (n ∷ ns) more on =
-    (record { media = on.0.media; tai = on.0.tai; asked = on.0.asked }, same-read os ns more on.1)
+    (record { media = on.0.media; options = on.0.options; asked = on.0.asked }, same-read os ns more on.1)
 
 pub same-none : (rs : List Reading) → AreSame rs rs
 same-none [] = tt
-same-none (r ∷ rs) = (record { media = refl; tai = refl; asked = no_less-same (asked_by r) }, same-none rs)
+same-none (r ∷ rs) = (record { media = refl; options = refl; asked = no_less-same (asked_by r) }, same-none rs)
 
 pub same-more : (xs ys zs : List Reading) → AreSame xs ys → AreSame ys zs → AreSame xs zs
 same-more [] [] zs ab bc = bc
@@ -42,7 +42,7 @@ same-more (a ∷ xs) (b ∷ ys) [] ab bc = absurd bc
 same-more (a ∷ xs) (b ∷ ys) (c ∷ zs) ab bc = (
   record {
     media = bc.0.media ∙ ab.0.media;
-    tai = bc.0.tai ∙ ab.0.tai;
+    options = bc.0.options ∙ ab.0.options;
     asked = no_less-more (asked_by a) (asked_by b) (asked_by c) ab.0.asked bc.0.asked;
   },
   same-more xs ys zs ab.1 bc.1,

@@ -6,6 +6,7 @@ use Rattle.std.specs.List.{cons_option}
 use Rattle.std.specs.Result.{result_err}
 use Rattle.std.proofs.Math.Seq.{take-append_seam}
 use Rattle.std.proofs.lemmas.List.Elements.{filter_map-append}
+use Rattle.timing_base.specs.Shifts.{FlowOptions}
 use Rattle.timing_base.specs.Captures.{Record, raised}
 use Rattle.timing_base.specs.Judged.{judged}
 use Rattle.timing_base.specs.Media.{Media}
@@ -48,18 +49,18 @@ packet_by m r d b is same =
 -- what follows changes nothing where the flow isn't judged
 refused-more : (x : Reading) (items more : List Record) (why : Unjudged) → HasReadBy (Some why) x items → HasReadBy (Some why) x (items ++ more)
 refused-more x items more why h rest =
-    subst (λ l. IsRefused (judged (flow l x.media) x.media.pt x.tai) why) (sym (append_assoc items more rest)) (h (more ++ rest))
+    subst (λ l. IsRefused (judged (flow l x.media) x.media.pt x.options) why) (sym (append_assoc items more rest)) (h (more ++ rest))
 
 has-none : (o : Option Unjudged) (x : Reading) (items : List Record) (r : Record) → flow_packet x.media r ≡ None → HasReadBy o x items
     → HasReadBy o x (items ++ r ∷ [])
-has-none None x items r e h = subst (StandsFor x.media.pt x.tai x.walk) (sym (flow-append_none x.media items r e)) h
+has-none None x items r e h = subst (StandsFor x.media.pt x.options x.walk) (sym (flow-append_none x.media items r e)) h
 has-none (Some why) x items r e h = refused-more x items (r ∷ []) why h
 
 -- a record that is no packet of the flow
 pub reads-nothing : (x : Reading) (r : Record) → flow_packet x.media r ≡ None → ReadsOn x x (r ∷ [])
 reads-nothing x r e = record {
   media = refl;
-  tai = refl;
+  options = refl;
   asked = no_less-same (asked_by x);
   reads = λ items h. has-none x.refused x items r e h;
 }
@@ -68,7 +69,7 @@ reads-nothing x r e = record {
 pub reads-refused : (x : Reading) (r : Record) (why : Unjudged) → x.refused ≡ Some why → ReadsOn x x (r ∷ [])
 reads-refused x r why e = record {
   media = refl;
-  tai = refl;
+  options = refl;
   asked = no_less-same (asked_by x);
   reads = λ items h.
       subst (λ o. HasReadBy o x (items ++ r ∷ [])) (sym e) (refused-more x items (r ∷ []) why (subst (λ o. HasReadBy o x items) e h));
@@ -76,99 +77,99 @@ reads-refused x r why e = record {
 
 -- a record that is a packet of the flow
 pub reads-packet : (old new : Reading) (r : Record) (p : FlowPacket) → flow_packet old.media r ≡ Some p → old.refused ≡ None → new.refused ≡ None
-    → new.media ≡ old.media → new.tai ≡ old.tai
+    → new.media ≡ old.media → new.options ≡ old.options
     → AsksNoLess (asked_by old) (asked_by new)
-    → ((packets : List FlowPacket) → StandsFor old.media.pt old.tai old.walk packets → StandsFor old.media.pt old.tai new.walk (packets ++ p ∷ []))
+    → ((packets : List FlowPacket) → StandsFor old.media.pt old.options old.walk packets → StandsFor old.media.pt old.options new.walk (packets ++ p ∷ []))
     → ReadsOn old new (r ∷ [])
-reads-packet old new r p e was now media tai asked goes = record {
+reads-packet old new r p e was now media options asked goes = record {
   media = media;
-  tai = tai;
+  options = options;
   asked = asked;
   reads = λ items h.
-      let stands : StandsFor old.media.pt old.tai old.walk (flow items old.media) = subst (λ o. HasReadBy o old items) was h in
-      let more : StandsFor old.media.pt old.tai new.walk (flow (items ++ r ∷ []) old.media) =
-      subst (StandsFor old.media.pt old.tai new.walk) (sym (flow-append_some old.media items r p e)) (goes (flow items old.media) stands) in
-      let at_media = subst (λ (m : Media). StandsFor m.pt old.tai new.walk (flow (items ++ r ∷ []) m)) (sym media) more in
+      let stands : StandsFor old.media.pt old.options old.walk (flow items old.media) = subst (λ o. HasReadBy o old items) was h in
+      let more : StandsFor old.media.pt old.options new.walk (flow (items ++ r ∷ []) old.media) =
+      subst (StandsFor old.media.pt old.options new.walk) (sym (flow-append_some old.media items r p e)) (goes (flow items old.media) stands) in
+      let at_media = subst (λ (m : Media). StandsFor m.pt old.options new.walk (flow (items ++ r ∷ []) m)) (sym media) more in
       let there : HasReadBy None new (items ++ r ∷ []) =
-      subst (λ t. StandsFor new.media.pt t new.walk (flow (items ++ r ∷ []) new.media)) (sym tai) at_media in
+      subst (λ t. StandsFor new.media.pt t new.walk (flow (items ++ r ∷ []) new.media)) (sym options) at_media in
       subst (λ o. HasReadBy o new (items ++ r ∷ [])) (sym now) there;
 }
 
 -- a record with which the flow isn't judged
 pub reads-fault : (old new : Reading) (r : Record) (p : FlowPacket) (why : Unjudged) → flow_packet old.media r ≡ Some p → old.refused ≡ None
     → new.refused ≡ Some why
-    → new.media ≡ old.media → new.tai ≡ old.tai
+    → new.media ≡ old.media → new.options ≡ old.options
     → AsksNoLess (asked_by old) (asked_by new)
-    → ((packets rest : List FlowPacket) → StandsFor old.media.pt old.tai old.walk packets
-    → IsRefused (judged (packets ++ p ∷ rest) old.media.pt old.tai) why)
+    → ((packets rest : List FlowPacket) → StandsFor old.media.pt old.options old.walk packets
+    → IsRefused (judged (packets ++ p ∷ rest) old.media.pt old.options) why)
     → ReadsOn old new (r ∷ [])
-reads-fault old new r p why e was now media tai asked ends = record {
+reads-fault old new r p why e was now media options asked ends = record {
   media = media;
-  tai = tai;
+  options = options;
   asked = asked;
   reads = λ items h.
-      let stands : StandsFor old.media.pt old.tai old.walk (flow items old.media) = subst (λ o. HasReadBy o old items) was h in
-      let refused : (rest : List Record) → IsRefused (judged (flow ((items ++ r ∷ []) ++ rest) old.media) old.media.pt old.tai) why = λ rest.
+      let stands : StandsFor old.media.pt old.options old.walk (flow items old.media) = subst (λ o. HasReadBy o old items) was h in
+      let refused : (rest : List Record) → IsRefused (judged (flow ((items ++ r ∷ []) ++ rest) old.media) old.media.pt old.options) why = λ rest.
       let whole : flow (items ++ (r ∷ rest)) old.media ≡ flow items old.media ++ p ∷ flow rest old.media =
       filter_map-append (flow_packet old.media) items (r ∷ rest)
       ∙ ap (λ o. flow items old.media ++ cons_option o (flow rest old.media)) e in
-      subst (λ l. IsRefused (judged (flow l old.media) old.media.pt old.tai) why) (sym (append_assoc items (r ∷ []) rest))
-      (subst (λ f. IsRefused (judged f old.media.pt old.tai) why) (sym whole) (ends (flow items old.media) (flow rest old.media) stands)) in
-      let at_media = subst (λ (m : Media). (rest : List Record) → IsRefused (judged (flow ((items ++ r ∷ []) ++ rest) m) m.pt old.tai) why) (sym media)
+      subst (λ l. IsRefused (judged (flow l old.media) old.media.pt old.options) why) (sym (append_assoc items (r ∷ []) rest))
+      (subst (λ f. IsRefused (judged f old.media.pt old.options) why) (sym whole) (ends (flow items old.media) (flow rest old.media) stands)) in
+      let at_media = subst (λ (m : Media). (rest : List Record) → IsRefused (judged (flow ((items ++ r ∷ []) ++ rest) m) m.pt old.options) why) (sym media)
       refused in
       let there : HasReadBy (Some why) new (items ++ r ∷ []) =
-      subst (λ t. (rest : List Record) → IsRefused (judged (flow ((items ++ r ∷ []) ++ rest) new.media) new.media.pt t) why) (sym tai) at_media in
+      subst (λ t. (rest : List Record) → IsRefused (judged (flow ((items ++ r ∷ []) ++ rest) new.media) new.media.pt t) why) (sym options) at_media in
       subst (λ o. HasReadBy o new (items ++ r ∷ [])) (sym now) there;
 }
 
 -- a record that is a packet of the flow, by what the walk says of it
 reads-fed : {T : Type 0} (result : Result T Unjudged) (old new : Reading) (r : Record) (p : FlowPacket) → flow_packet old.media r ≡ Some p
     → old.refused ≡ None → new.refused ≡ result_err result
-    → new.media ≡ old.media → new.tai ≡ old.tai
+    → new.media ≡ old.media → new.options ≡ old.options
     → AsksNoLess (asked_by old) (asked_by new)
-    → ((tai : ℕ) (packets : List FlowPacket) → StandsFor old.media.pt tai old.walk packets
-    → OnOk result (StandsFor old.media.pt tai new.walk (packets ++ p ∷ [])))
-    → ((tai : ℕ) (packets rest : List FlowPacket) → StandsFor old.media.pt tai old.walk packets
-    → IfErr result (IsRefused (judged (packets ++ p ∷ rest) old.media.pt tai)))
+    → ((options : FlowOptions) (packets : List FlowPacket) → StandsFor old.media.pt options old.walk packets
+    → OnOk result (StandsFor old.media.pt options new.walk (packets ++ p ∷ [])))
+    → ((options : FlowOptions) (packets rest : List FlowPacket) → StandsFor old.media.pt options old.walk packets
+    → IfErr result (IsRefused (judged (packets ++ p ∷ rest) old.media.pt options)))
     → ReadsOn old new (r ∷ [])
-reads-fed (Ok x) old new r p e was now media tai asked goes ends =
-    reads-packet old new r p e was now media tai asked (goes old.tai)
-reads-fed (Err why) old new r p e was now media tai asked goes ends =
-    reads-fault old new r p why e was now media tai asked (ends old.tai)
+reads-fed (Ok x) old new r p e was now media options asked goes ends =
+    reads-packet old new r p e was now media options asked (goes old.options)
+reads-fed (Err why) old new r p e was now media options asked goes ends =
+    reads-fault old new r p why e was now media options asked (ends old.options)
 
 -- the same of a walk and a payload type that are the reading's
 pub reads-inside : {T : Type 0} (result : Result T Unjudged) (old new : Reading) (r : Record) (p : FlowPacket) (walk : Walk) (pt : ℕ)
     → walk ≡ old.walk → pt ≡ old.media.pt
     → flow_packet old.media r ≡ Some p
     → old.refused ≡ None → new.refused ≡ result_err result
-    → new.media ≡ old.media → new.tai ≡ old.tai
+    → new.media ≡ old.media → new.options ≡ old.options
     → AsksNoLess (asked_of walk) (asked_by new)
-    → ((tai : ℕ) (packets : List FlowPacket) → StandsFor pt tai walk packets → OnOk result (StandsFor pt tai new.walk (packets ++ p ∷ [])))
-    → ((tai : ℕ) (packets rest : List FlowPacket) → StandsFor pt tai walk packets → IfErr result (IsRefused (judged (packets ++ p ∷ rest) pt tai)))
+    → ((options : FlowOptions) (packets : List FlowPacket) → StandsFor pt options walk packets → OnOk result (StandsFor pt options new.walk (packets ++ p ∷ [])))
+    → ((options : FlowOptions) (packets rest : List FlowPacket) → StandsFor pt options walk packets → IfErr result (IsRefused (judged (packets ++ p ∷ rest) pt options)))
     → ReadsOn old new (r ∷ [])
-reads-inside result old new r p walk pt same_walk same_pt e was now media tai asked goes ends =
-    reads-fed result old new r p e was now media tai
+reads-inside result old new r p walk pt same_walk same_pt e was now media options asked goes ends =
+    reads-fed result old new r p e was now media options
     (subst (λ (w : Walk). AsksNoLess (asked_of w) (asked_by new)) same_walk asked)
-    (subst (λ (w : Walk). (tai : ℕ) (packets : List FlowPacket) → StandsFor old.media.pt tai w packets
-    → OnOk result (StandsFor old.media.pt tai new.walk (packets ++ p ∷ []))) same_walk
-    (subst (λ (q : ℕ). (tai : ℕ) (packets : List FlowPacket) → StandsFor q tai walk packets
-    → OnOk result (StandsFor q tai new.walk (packets ++ p ∷ []))) same_pt goes))
-    (subst (λ (w : Walk). (tai : ℕ) (packets rest : List FlowPacket) → StandsFor old.media.pt tai w packets
-    → IfErr result (IsRefused (judged (packets ++ p ∷ rest) old.media.pt tai))) same_walk
-    (subst (λ (q : ℕ). (tai : ℕ) (packets rest : List FlowPacket) → StandsFor q tai walk packets
-    → IfErr result (IsRefused (judged (packets ++ p ∷ rest) q tai))) same_pt ends))
+    (subst (λ (w : Walk). (options : FlowOptions) (packets : List FlowPacket) → StandsFor old.media.pt options w packets
+    → OnOk result (StandsFor old.media.pt options new.walk (packets ++ p ∷ []))) same_walk
+    (subst (λ (q : ℕ). (options : FlowOptions) (packets : List FlowPacket) → StandsFor q options walk packets
+    → OnOk result (StandsFor q options new.walk (packets ++ p ∷ []))) same_pt goes))
+    (subst (λ (w : Walk). (options : FlowOptions) (packets rest : List FlowPacket) → StandsFor old.media.pt options w packets
+    → IfErr result (IsRefused (judged (packets ++ p ∷ rest) old.media.pt options))) same_walk
+    (subst (λ (q : ℕ). (options : FlowOptions) (packets rest : List FlowPacket) → StandsFor q options walk packets
+    → IfErr result (IsRefused (judged (packets ++ p ∷ rest) q options))) same_pt ends))
 
 -- the answer where the flow isn't judged
 pub says-refused : (x : Reading) (items : List Record) (why : Unjudged) (kind : Kind) (f : FailProof) (run : ℕ) → x.refused ≡ Some why → HasRead x items
-    → Says x.media kind f run (judged (flow items x.media) x.media.pt x.tai) (Err why)
+    → Says x.media kind f run (judged (flow items x.media) x.media.pt x.options) (Err why)
 says-refused x items why kind f run e h =
     let refused : HasReadBy (Some why) x items = subst (λ o. HasReadBy o x items) e h in
-    let here : IsRefused (judged (flow items x.media) x.media.pt x.tai) why =
-    subst (λ l. IsRefused (judged (flow l x.media) x.media.pt x.tai) why) (append-nil items) (refused []) in
+    let here : IsRefused (judged (flow items x.media) x.media.pt x.options) why =
+    subst (λ l. IsRefused (judged (flow l x.media) x.media.pt x.options) why) (append-nil items) (refused []) in
     here x.media kind f run
 
 -- and where it may be
-pub stands-here : (x : Reading) (items : List Record) → x.refused ≡ None → HasRead x items → StandsFor x.media.pt x.tai x.walk (flow items x.media)
+pub stands-here : (x : Reading) (items : List Record) → x.refused ≡ None → HasRead x items → StandsFor x.media.pt x.options x.walk (flow items x.media)
 stands-here x items e h = subst (λ o. HasReadBy o x items) e h
 
 -- a reading that hasn't come yet is as it was

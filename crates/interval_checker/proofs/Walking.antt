@@ -6,6 +6,7 @@ use Rattle.std.specs.Option.{ForSome}
 use Rattle.std.proofs.lemmas.Bool.{cases_lt}
 use Rattle.std.proofs.lemmas.Bool.Decides.{nat_tests}
 use Rattle.std.proofs.lemmas.List.{length-map, map-append}
+use Rattle.timing_base.specs.Shifts.{Shift}
 use Rattle.timing_base.specs.Flows.{cuts, fault, has_marker, is_cut, last_place, markers, markers_before, packet, rtp, run_start}
 use Rattle.timing_base.specs.Judged.{FlowRun, run_at, run_outcome, runs_between}
 use Rattle.timing_base.specs.declared.packet.FlowPacket.{FlowPacket}
@@ -38,8 +39,8 @@ pub record IsNew (w : Walk) : Type 0 where
 no_mark : (o : Option Marks) (m : Marks) → o ≡ None → o ≡ Some m → ⊥
 no_mark o m e f = cc
 
-pub new-keeps : (pt tai : ℕ) (packets : List FlowPacket) (w : Walk) → IsNew w → Keeps pt tai packets 0 (cuts packets 0) w
-new-keeps pt tai packets w is = record {
+pub new-keeps : (pt : ℕ) (shift : Shift) (packets : List FlowPacket) (w : Walk) → IsNew w → Keeps pt shift packets 0 (cuts packets 0) w
+new-keeps pt shift packets w is = record {
   within = omega arith;
   fed = is.fed;
   sound = refl;
@@ -57,17 +58,17 @@ new-keeps pt tai packets w is = record {
 }
 
 -- the runs that are over, and the open one
-pub with-open : (pt tai : ℕ) (packets : List FlowPacket) (i : ℕ) (places : List ℕ) (w : Walk) (k : Keeps pt tai packets i places w)
-    → map (λ (r : FlowRun). r.outcome) (runs_between packets tai i 0 places)
-    ≡ map (λ (r : FlowRun). r.outcome) k.done ++ run_outcome packets tai (last_place (0 ∷ places)) i ∷ []
-with-open pt tai packets i places w k =
+pub with-open : (pt : ℕ) (shift : Shift) (packets : List FlowPacket) (i : ℕ) (places : List ℕ) (w : Walk) (k : Keeps pt shift packets i places w)
+    → map (λ (r : FlowRun). r.outcome) (runs_between packets shift i 0 places)
+    ≡ map (λ (r : FlowRun). r.outcome) k.done ++ run_outcome packets shift (last_place (0 ∷ places)) i ∷ []
+with-open pt shift packets i places w k =
     ap (map (λ (r : FlowRun). r.outcome)) (k.runs i) ∙ map-append (λ (r : FlowRun). r.outcome) k.done
-    (run_at packets tai (last_place (0 ∷ places)) i ∷ [])
+    (run_at packets shift (last_place (0 ∷ places)) i ∷ [])
 
 -- as many are over as there were cuts
-pub done-long : (pt tai : ℕ) (packets : List FlowPacket) (i : ℕ) (places : List ℕ) (w : Walk) (k : Keeps pt tai packets i places w)
+pub done-long : (pt : ℕ) (shift : Shift) (packets : List FlowPacket) (i : ℕ) (places : List ℕ) (w : Walk) (k : Keeps pt shift packets i places w)
     → length (map (λ (r : FlowRun). r.outcome) k.done) ≡ w.cuts
-done-long pt tai packets i places w k = length-map k.done (λ (r : FlowRun). r.outcome) ∙ (k.count ∙ sym k.cut_count)
+done-long pt shift packets i places w k = length-map k.done (λ (r : FlowRun). r.outcome) ∙ (k.count ∙ sym k.cut_count)
 
 -- what a cut does to a walk
 pub record IsCutOf (old new : Walk) (e : Ending) : Type 0 where
@@ -79,12 +80,12 @@ pub record IsCutOf (old new : Walk) (e : Ending) : Type 0 where
   pub asked : IsOver old.asked new.asked old.cuts e
 
 -- a cut stands at packet i
-pub cut-keeps : (pt tai : ℕ) (packets : List FlowPacket) (i : ℕ) (old new : Walk) (ending : Ending) → Keeps pt tai packets i (cuts packets i) old
+pub cut-keeps : (pt : ℕ) (shift : Shift) (packets : List FlowPacket) (i : ℕ) (old new : Walk) (ending : Ending) → Keeps pt shift packets i (cuts packets i) old
     → is_cut packets i ≡ true
     → IsCutOf old new ending
-    → EndsAs old.asked old.cuts tai (run_outcome packets tai (last_place (0 ∷ cuts packets i)) i) ending
-    → Keeps pt tai packets i (cuts packets (i + 1)) new
-cut-keeps pt tai packets i old new ending k e is ends =
+    → EndsAs old.asked old.cuts shift (run_outcome packets shift (last_place (0 ∷ cuts packets i)) i) ending
+    → Keeps pt shift packets i (cuts packets (i + 1)) new
+cut-keeps pt shift packets i old new ending k e is ends =
     let at : last_place (0 ∷ cuts packets (i + 1)) ≡ i = sym (start-cut packets i e) in
     let more : length (cuts packets (i + 1)) ≡ length (cuts packets i) + 1 = ap length (cuts-here packets i e) ∙ length-append (cuts packets i) (i ∷ []) in
     let from = last_place (0 ∷ cuts packets i) in
@@ -100,21 +101,21 @@ cut-keeps pt tai packets i old new ending k e is ends =
       sized = sized-enter packets i from refl k.sized;
       rising = k.rising;
       kept = λ m f. absurd (no_mark new.marks m is.marks f);
-      done = runs_between packets tai i 0 (cuts packets i);
-      runs = λ to. runs-cut packets tai i from k.done (runs_between packets tai i 0 (cuts packets i))
-          (run_at packets tai from i) e (k.runs i) refl k.runs to
-          ∙ ap (λ s. runs_between packets tai i 0 (cuts packets i) ++ run_at packets tai s to ∷ []) (sym at);
-      count = ap length (k.runs i) ∙ omega (arith, length-append k.done (run_at packets tai from i ∷ []), k.count, more);
-      ended = subst (AreEnded new.asked tai 0) (sym (with-open pt tai packets i (cuts packets i) old k))
-          (over-ended old.asked new.asked tai old.cuts ending (map (λ (r : FlowRun). r.outcome) k.done)
-          (run_outcome packets tai (last_place (0 ∷ cuts packets i)) i) is.asked
-          (done-long pt tai packets i (cuts packets i) old k) ends k.ended);
+      done = runs_between packets shift i 0 (cuts packets i);
+      runs = λ to. runs-cut packets shift i from k.done (runs_between packets shift i 0 (cuts packets i))
+          (run_at packets shift from i) e (k.runs i) refl k.runs to
+          ∙ ap (λ s. runs_between packets shift i 0 (cuts packets i) ++ run_at packets shift s to ∷ []) (sym at);
+      count = ap length (k.runs i) ∙ omega (arith, length-append k.done (run_at packets shift from i ∷ []), k.count, more);
+      ended = subst (AreEnded new.asked shift 0) (sym (with-open pt shift packets i (cuts packets i) old k))
+          (over-ended old.asked new.asked shift old.cuts ending (map (λ (r : FlowRun). r.outcome) k.done)
+          (run_outcome packets shift (last_place (0 ∷ cuts packets i)) i) is.asked
+          (done-long pt shift packets i (cuts packets i) old k) ends k.ended);
     }
 
 -- no cut stands there
-pub other-keeps : (pt tai : ℕ) (packets : List FlowPacket) (i : ℕ) (w : Walk) → Keeps pt tai packets i (cuts packets i) w → is_cut packets i ≡ false
-    → Keeps pt tai packets i (cuts packets (i + 1)) w
-other-keeps pt tai packets i w k e = subst (λ places. Keeps pt tai packets i places w) (sym (cuts-other packets i e)) k
+pub other-keeps : (pt : ℕ) (shift : Shift) (packets : List FlowPacket) (i : ℕ) (w : Walk) → Keeps pt shift packets i (cuts packets i) w → is_cut packets i ≡ false
+    → Keeps pt shift packets i (cuts packets (i + 1)) w
+other-keeps pt shift packets i w k e = subst (λ places. Keeps pt shift packets i places w) (sym (cuts-other packets i e)) k
 
 not_back : (i a b : ℕ) → (nat_lt 0 i && nat_lt a b) ≡ false → 0 < i → b ≤ a
 not_back i a b e h = grind (arith, nat_tests)
@@ -153,22 +154,22 @@ pub record IsPassed (packets : List FlowPacket) (i : ℕ) (old new : Walk) : Typ
   pub some : (o : Marks) → old.marks ≡ Some o → Came old.asked new.asked old.cuts (old.fed - (o.first + 1)) (packet packets i).at
   pub behind : (o : Marks) → old.marks ≡ Some o → o.first < old.fed
 
-marked-next : (pt tai : ℕ) (packets : List FlowPacket) (i : ℕ) (old new : Walk) (b : Bool) → has_marker packets i ≡ b
-    → Keeps pt tai packets i (cuts packets (i + 1)) old → IsPassed packets i old new
+marked-next : (pt : ℕ) (shift : Shift) (packets : List FlowPacket) (i : ℕ) (old new : Walk) (b : Bool) → has_marker packets i ≡ b
+    → Keeps pt shift packets i (cuts packets (i + 1)) old → IsPassed packets i old new
     → AreMarked (markers packets (run_start packets i) (i + 1)) new.marks
-marked-next pt tai packets i old new true e k is =
+marked-next pt shift packets i old new true e k is =
     subst (λ xs. AreMarked xs new.marks) (sym (markers-here packets i e))
     (subst (λ x. AreMarked (markers_before packets i ++ x ∷ []) new.marks) k.fed (is.here (markers_before packets i) k.marks e))
-marked-next pt tai packets i old new false e k is =
+marked-next pt shift packets i old new false e k is =
     subst (λ xs. AreMarked xs new.marks) (sym (markers-other packets i e))
     (subst (AreMarked (markers_before packets i)) (sym (is.other e)) k.marks)
 
-kept-next : (pt tai : ℕ) (packets : List FlowPacket) (i : ℕ) (old new : Walk) (marks : Option Marks) → old.marks ≡ marks
-    → Keeps pt tai packets i (cuts packets (i + 1)) old → IsPassed packets i old new
+kept-next : (pt : ℕ) (shift : Shift) (packets : List FlowPacket) (i : ℕ) (old new : Walk) (marks : Option Marks) → old.marks ≡ marks
+    → Keeps pt shift packets i (cuts packets (i + 1)) old → IsPassed packets i old new
     → (m : Marks) → new.marks ≡ Some m → AreKept new.asked new.cuts (stamp_behind packets m.first) ((i + 1) - (m.first + 1))
-kept-next pt tai packets i old new None e k is m f =
+kept-next pt shift packets i old new None e k is m f =
     kept-none new.asked new.cuts ((i + 1) - (m.first + 1)) (stamp_behind packets m.first) (omega (arith, is.begins m e f, k.fed))
-kept-next pt tai packets i old new (Some o) e k is m f =
+kept-next pt shift packets i old new (Some o) e k is m f =
     let same : o.first ≡ m.first = sym (is.goes_on m o e f) in
     let low : o.first < i = omega (arith, is.behind o e, k.fed) in
     let count : old.fed - (o.first + 1) ≡ i - (o.first + 1) = ap (λ x. x - (o.first + 1)) k.fed in
@@ -181,35 +182,35 @@ kept-next pt tai packets i old new (Some o) e k is m f =
     (subst (λ x. AreKept new.asked old.cuts (stamp_behind packets x) ((i + 1) - (x + 1))) same
     (subst (λ x. AreKept new.asked old.cuts (stamp_behind packets o.first) x) more next))
 
-ended-next : (pt tai : ℕ) (packets : List FlowPacket) (i : ℕ) (old new : Walk) (marks : Option Marks) → old.marks ≡ marks
-    → (k : Keeps pt tai packets i (cuts packets (i + 1)) old) → IsPassed packets i old new
-    → AreEnded new.asked tai 0 (map (λ (r : FlowRun). r.outcome) k.done)
-ended-next pt tai packets i old new None e k is =
-    ended-same old.asked new.asked tai 0 (map (λ (r : FlowRun). r.outcome) k.done)
+ended-next : (pt : ℕ) (shift : Shift) (packets : List FlowPacket) (i : ℕ) (old new : Walk) (marks : Option Marks) → old.marks ≡ marks
+    → (k : Keeps pt shift packets i (cuts packets (i + 1)) old) → IsPassed packets i old new
+    → AreEnded new.asked shift 0 (map (λ (r : FlowRun). r.outcome) k.done)
+ended-next pt shift packets i old new None e k is =
+    ended-same old.asked new.asked shift 0 (map (λ (r : FlowRun). r.outcome) k.done)
     (λ n low. record { stamps = λ p. is.none e (0 + n) p; ending = is.endings (0 + n) }) k.ended
-ended-next pt tai packets i old new (Some o) e k is =
-    came-ended old.asked new.asked tai old.cuts (old.fed - (o.first + 1)) (packet packets i).at (map (λ (r : FlowRun). r.outcome) k.done) (is.some o e)
-    (done-long pt tai packets i (cuts packets (i + 1)) old k) k.ended
+ended-next pt shift packets i old new (Some o) e k is =
+    came-ended old.asked new.asked shift old.cuts (old.fed - (o.first + 1)) (packet packets i).at (map (λ (r : FlowRun). r.outcome) k.done) (is.some o e)
+    (done-long pt shift packets i (cuts packets (i + 1)) old k) k.ended
 
 -- packet i has no fault
-pub pass-keeps : (pt tai : ℕ) (packets : List FlowPacket) (i : ℕ) (old new : Walk) → Keeps pt tai packets i (cuts packets (i + 1)) old → i < length packets
+pub pass-keeps : (pt : ℕ) (shift : Shift) (packets : List FlowPacket) (i : ℕ) (old new : Walk) → Keeps pt shift packets i (cuts packets (i + 1)) old → i < length packets
     → fault packets pt i ≡ None
-    → IsPassed packets i old new → Keeps pt tai packets (i + 1) (cuts packets (i + 1)) new
-pass-keeps pt tai packets i old new k within none is = record {
+    → IsPassed packets i old new → Keeps pt shift packets (i + 1) (cuts packets (i + 1)) new
+pass-keeps pt shift packets i old new k within none is = record {
   within = omega (arith, within);
   fed = is.fed ∙ ap (λ x. x + 1) k.fed;
   sound = no_fault-next packets pt i k.sound none;
   before = subst (ComesAfter packets (i + 1)) (sym is.before_is) is.after;
   cut_count = is.cut_count ∙ k.cut_count;
   start = is.start ∙ k.start;
-  marks = marked-next pt tai packets i old new (has_marker packets i) refl k is;
+  marks = marked-next pt shift packets i old new (has_marker packets i) refl k is;
   sized = sized-next packets pt i none k.sized;
   rising = rising-next packets pt i none k.rising;
-  kept = kept-next pt tai packets i old new old.marks refl k is;
+  kept = kept-next pt shift packets i old new old.marks refl k is;
   done = k.done;
   runs = k.runs;
   count = k.count;
-  ended = ended-next pt tai packets i old new old.marks refl k is;
+  ended = ended-next pt shift packets i old new old.marks refl k is;
 }
 
 -- what the packet after packet i is compared with

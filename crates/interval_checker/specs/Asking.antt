@@ -3,6 +3,7 @@
 use Rattle.std.specs.Prelude.{◌≡◌, ◌<◌, ◌-◌, ℕ, nat_eq, ◌&&◌, Bool, if◌then◌else◌, List, [], ◌∷◌, length, zero, suc, ⊤}
 use Rattle.std.specs.Prelude.{slice_index, ◌+◌, ◌*◌, ◌^◌, Option, Some, None, IsSome, option_map}
 use Rattle.std.specs.HashMap as hash
+use Rattle.timing_base.specs.Shifts.{Shift}
 use Rattle.timing_base.specs.declared.fail.FailProof.{FailProof}
 use Rattle.interval_checker.specs.declared.asked.Asked.{Asked}
 use Rattle.interval_checker.specs.declared.ending.Ending.{Ending}
@@ -49,25 +50,25 @@ AreKept a run stamps count = (place : ℕ) → place < count → IsSome (stamp_o
 
 -- of judged packets with these capture timestamps, in nanoseconds of TAI, which never go back and include `tai`
 -- seconds, those that are asked for are kept
-pub record IsRunKept (a : Asked) (run tai : ℕ) (stamps : List ℕ) : Type 0 where
+pub record IsRunKept (a : Asked) (run : ℕ) (shift : Shift) (stamps : List ℕ) : Type 0 where
   pub raw : ℕ → ℕ
-  pub added : (k : ℕ) → k < length stamps → slice_index stamps k ≡ raw k + tai * 10 ^ 9
+  pub added : (k : ℕ) → k < length stamps → slice_index stamps k ≡ raw k + shift * 10 ^ 9
   pub rising : NeverFall stamps
   pub kept : AreKept a run raw (length stamps)
 
 -- the end of a run, by its outcome
-abbrev pub EndsAs : Asked → (run tai : ℕ) → RunOutcome → Ending → Type 0
-EndsAs a run tai (no_whole_frame head) e = e ≡ ending.NoWholeFrame head
-EndsAs a run tai (whole_frames j) e = IsWhole e j.n (length j.stamps) × IsRunKept a run tai j.stamps
+abbrev pub EndsAs : Asked → (run : ℕ) (shift : Shift) → RunOutcome → Ending → Type 0
+EndsAs a run shift (no_whole_frame head) e = e ≡ ending.NoWholeFrame head
+EndsAs a run shift (whole_frames j) e = IsWhole e j.n (length j.stamps) × IsRunKept a run shift j.stamps
 
 -- the ends of the runs from `run` on that have ended, by their outcomes, are kept if they are asked for
-abbrev pub AreEnded : Asked → (tai run : ℕ) → List RunOutcome → Type 0
-AreEnded a tai run [] = ⊤
-AreEnded a tai run (o ∷ os) = ((e : Ending) → ending_of a run ≡ Some e → EndsAs a run tai o e)
-    × AreEnded a tai (suc run) os
+abbrev pub AreEnded : Asked → (shift : Shift) (run : ℕ) → List RunOutcome → Type 0
+AreEnded a shift run [] = ⊤
+AreEnded a shift run (o ∷ os) = ((e : Ending) → ending_of a run ≡ Some e → EndsAs a run shift o e)
+    × AreEnded a shift (suc run) os
 
 -- the end of the run with the outcome that comes after `behind` others
-abbrev pub EndsAt : Asked → (run tai : ℕ) → List RunOutcome → (behind : ℕ) → Ending → Type 0
-EndsAt a run tai [] behind e = ⊥
-EndsAt a run tai (o ∷ os) zero e = EndsAs a run tai o e
-EndsAt a run tai (o ∷ os) (suc behind) e = EndsAt a run tai os behind e
+abbrev pub EndsAt : Asked → (run : ℕ) (shift : Shift) → List RunOutcome → (behind : ℕ) → Ending → Type 0
+EndsAt a run shift [] behind e = ⊥
+EndsAt a run shift (o ∷ os) zero e = EndsAs a run shift o e
+EndsAt a run shift (o ∷ os) (suc behind) e = EndsAt a run shift os behind e

@@ -17,7 +17,7 @@ media_of r = r.media
 
 -- seconds added to its capture timestamps
 abbrev pub tai_of : Reading → ℕ
-tai_of r = r.tai
+tai_of r = r.options
 
 -- what is asked for of the flow
 abbrev pub asked_by : Reading → Asked
@@ -29,9 +29,9 @@ count_taken r = count_fed r.walk
 
 -- the flow so far was read; if it isn't judged, the reason holds whatever records follow
 abbrev pub HasReadBy : Option Unjudged → Reading → List Record → Type 0
-HasReadBy None r items = StandsFor r.media.pt r.tai r.walk (flow items r.media)
+HasReadBy None r items = StandsFor r.media.pt r.options r.walk (flow items r.media)
 HasReadBy (Some why) r items =
-    (rest : List Record) → IsRefused (judged (flow (items ++ rest) r.media) r.media.pt r.tai) why
+    (rest : List Record) → IsRefused (judged (flow (items ++ rest) r.media) r.media.pt r.options) why
 
 -- exactly these records were read
 abbrev pub HasRead : Reading → List Record → Type 0
@@ -40,7 +40,7 @@ HasRead r items = HasReadBy r.refused r items
 -- `new` is `old` after exactly these records more
 pub record ReadsOn (old new : Reading) (more : List Record) : Type 0 where
   pub media : media_of new ≡ media_of old
-  pub tai : tai_of new ≡ tai_of old
+  pub options : tai_of new ≡ tai_of old
   pub asked : AsksNoLess (asked_by old) (asked_by new)
   pub reads : (items : List Record) → HasRead old items → HasRead new (items ++ more)
 
@@ -58,7 +58,7 @@ ReadOn olds news more = ⊥
 -- `new` is a reading of the same media, and asks for everything that `old` asks for
 pub record IsSame (old new : Reading) : Type 0 where
   pub media : media_of new ≡ media_of old
-  pub tai : tai_of new ≡ tai_of old
+  pub options : tai_of new ≡ tai_of old
   pub asked : AsksNoLess (asked_by old) (asked_by new)
 
 -- `news` are readings of the same media as `olds`, in order, and ask for everything that those ask for

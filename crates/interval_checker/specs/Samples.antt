@@ -1,5 +1,6 @@
 -- The capture timestamps of packets that a `Sample` has. Packets count from 0.
 use Rattle.std.specs.Prelude.{◌≡◌, ◌≤◌, ◌<◌, ◌+◌, ◌-◌, ◌*◌, ◌^◌, ℕ, List, length, slice_index}
+use Rattle.timing_base.specs.Shifts.{FlowOptions}
 use Rattle.sender_params.specs.Ticks.{NeverFall}
 use Rattle.timing_base.specs.declared.fail.FailProof.{FailProof}
 use Rattle.interval_checker.specs.declared.sample.Sample.{Sample}
@@ -14,8 +15,8 @@ pub record IsSample (f : FailProof) (stamps : ℕ → ℕ) (count : ℕ) (s : Sa
 
 -- the sample has the capture timestamps of judged packets, in nanoseconds of TAI, which never go back and include `tai`
 -- seconds
-pub record AreSampled (f : FailProof) (tai : ℕ) (stamps : List ℕ) (s : Sample) : Type 0 where
+pub record AreSampled (f : FailProof) (options : FlowOptions) (stamps : List ℕ) (s : Sample) : Type 0 where
   pub raw : ℕ → ℕ
-  pub added : (k : ℕ) → k < length stamps → slice_index stamps k ≡ raw k + tai * 10 ^ 9
+  pub added : (k : ℕ) → k < length stamps → slice_index stamps k ≡ raw k + options * 10 ^ 9
   pub rising : NeverFall stamps
   pub sample : IsSample f raw (length stamps) s

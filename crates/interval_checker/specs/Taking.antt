@@ -28,7 +28,7 @@ HasRoom number count c = HaveRoom count c.readings.items
 reads-none : (r : Reading) → ReadsOn r r []
 reads-none r = record {
   media = refl;
-  tai = refl;
+  options = refl;
   asked = record { stamps = λ x p s. s; endings = λ x s. s };
   reads = λ items h. subst (HasRead r) (sym (append-nil items)) h;
 }
@@ -46,7 +46,7 @@ reads-more : (a b c : Reading) (first second : List Record) → ReadsOn a b firs
     → ReadsOn a c (first ++ second)
 reads-more a b c first second ab bc = record {
   media = bc.media ∙ ab.media;
-  tai = bc.tai ∙ ab.tai;
+  options = bc.options ∙ ab.options;
   asked = record {
     stamps = λ x p s. bc.asked.stamps x p (ab.asked.stamps x p s);
     endings = λ x s. bc.asked.endings x (ab.asked.endings x s);

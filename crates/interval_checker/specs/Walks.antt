@@ -1,5 +1,6 @@
 -- The state of a `Walk` after the packets that it was fed. Packets, runs and judged packets count from 0.
 use Rattle.std.specs.Prelude.{◌≡◌, ◌≤◌, ◌<◌, ◌+◌, ◌-◌, ℕ, List, [], ◌∷◌, ◌++◌, length, map, Some, None}
+use Rattle.timing_base.specs.Shifts.{Shift}
 use Rattle.timing_base.specs.Flows.{cuts, first_fault_below, last_place, markers, packet}
 use Rattle.timing_base.specs.Grouped.{IsSized}
 use Rattle.timing_base.specs.Judged.{FlowRun, run_at, runs_between}
@@ -25,7 +26,7 @@ stamp_behind packets first k = (packet packets (first + 1 + k)).at
 
 -- the state before packet i, with gaps at these places, which are those before packet i or those up to it; the packets
 -- before i have no fault, whatever packets follow
-pub record Keeps (pt tai : ℕ) (packets : List FlowPacket) (i : ℕ) (places : List ℕ) (w : Walk) : Type 0 where
+pub record Keeps (pt : ℕ) (shift : Shift) (packets : List FlowPacket) (i : ℕ) (places : List ℕ) (w : Walk) : Type 0 where
   pub within : i ≤ length packets
   pub fed : w.fed ≡ i
   pub sound : first_fault_below packets pt i ≡ None
@@ -39,12 +40,12 @@ pub record Keeps (pt tai : ℕ) (packets : List FlowPacket) (i : ℕ) (places : 
   pub kept : (m : Marks) → w.marks ≡ Some m → AreKept w.asked w.cuts (stamp_behind packets m.first) (i - (m.first + 1))
   -- the runs that have ended
   pub done : List FlowRun
-  pub runs : (to : ℕ) → runs_between packets tai to 0 places
-      ≡ done ++ run_at packets tai (last_place (0 ∷ places)) to ∷ []
+  pub runs : (to : ℕ) → runs_between packets shift to 0 places
+      ≡ done ++ run_at packets shift (last_place (0 ∷ places)) to ∷ []
   pub count : length done ≡ length places
-  pub ended : AreEnded w.asked tai 0 (map (λ r. r.outcome) done)
+  pub ended : AreEnded w.asked shift 0 (map (λ r. r.outcome) done)
 
 -- the walk was fed exactly these packets, as far as later calls depend on it, whatever packets follow
-pub record StandsFor (pt tai : ℕ) (w : Walk) (packets : List FlowPacket) : Type 0 where
-  pub ahead : (rest : List FlowPacket) → Keeps pt tai (packets ++ rest) (length packets)
+pub record StandsFor (pt : ℕ) (shift : Shift) (w : Walk) (packets : List FlowPacket) : Type 0 where
+  pub ahead : (rest : List FlowPacket) → Keeps pt shift (packets ++ rest) (length packets)
       (cuts (packets ++ rest) (length packets)) w

@@ -1,5 +1,6 @@
 //! The claim of a violation.
 
+ghost use Rattle.timing_base.specs.Shifts.{FlowOptions as FlowOptionsValue};
 ghost use Rattle.std.specs.Prelude.{◌≡◌, ◌≤◌, ◌<◌, ◌*◌, ◌^◌};
 
 use timing_base::{FailProof, Kind, Media};
@@ -16,16 +17,16 @@ pub struct Claim {
     /// Claimed violation.
     pub proof: FailProof,
     /// Seconds added to the capture timestamps.
-    pub tai: u64,
-    ghost seconds: { tai ≤ 1000 },
+    pub options: FlowOptions,
+    ghost seconds: { options ≤ 1000 },
 }
 
 impl Claim {
     /// Returns the nanoseconds added to the capture timestamps.
     pub fn added(&self) -> u64
-        ensures value { result ≡ self.now.tai * 10 ^ 9 }
+        ensures value { result ≡ self.now.options * 10 ^ 9 }
         ensures small { result < 2 ^ 40 }
     {
-        self.tai * 1_000_000_000
+        self.options * 1_000_000_000
     }
 }

@@ -20,7 +20,7 @@ pub fn is_confirmed(claim: &Claim, size: u32, count: u64, sample: &Sample) -> bo
     requires some { 1 ≤ size }
     requires most { size ≤ 262144 }
     ensures { (stamps : List ℕ) → length stamps ≡ count
-        → AreSampled claim.now.proof claim.now.tai stamps sample.now
+        → AreSampled claim.now.proof claim.now.options stamps sample.now
         → IsTrue result ↔ Confirms claim.now.media size stamps claim.now.kind claim.now.proof }
 {
     if claim.proof.to < claim.proof.from || claim.proof.to >= count {
@@ -39,7 +39,7 @@ fn breaks_bucket(claim: &Claim, params: &Params, sample: &Sample) -> bool
     requires order { claim.now.proof.from ≤ claim.now.proof.to }
     requires few { claim.now.proof.to < 2 ^ 64 - 1 }
     ensures { (stamps : List ℕ) → claim.now.proof.to < length stamps
-        → AreSampled claim.now.proof claim.now.tai stamps sample.now
+        → AreSampled claim.now.proof claim.now.options stamps sample.now
         → IsTrue result
         ↔ BreaksLimit params.now.media params.now.n stamps claim.now.kind claim.now.proof Bucket }
 {
@@ -57,7 +57,7 @@ fn load(claim: &Claim, params: &Params, sample: &Sample) -> u128
     requires order { claim.now.proof.from ≤ claim.now.proof.to }
     requires few { claim.now.proof.to < 2 ^ 64 - 1 }
     ensures { (stamps : List ℕ) → claim.now.proof.to < length stamps
-        → AreSampled claim.now.proof claim.now.tai stamps sample.now
+        → AreSampled claim.now.proof claim.now.options stamps sample.now
         → result ≡ load_of params.now.media params.now.n stamps claim.now.proof.from claim.now.proof.to }
 {
     let added = claim.added();
@@ -71,7 +71,7 @@ fn load(claim: &Claim, params: &Params, sample: &Sample) -> u128
 /// Returns the reads of the type's schedule.
 fn reads(claim: &Claim, params: &Params, sample: &Sample) -> Reads
     ensures { (stamps : List ℕ) → 0 < length stamps
-        → AreSampled claim.now.proof claim.now.tai stamps sample.now
+        → AreSampled claim.now.proof claim.now.options stamps sample.now
         → AreReads params.now.media params.now.n
         (anchor_of params.now.media (slice_index stamps 0)) (gapped_of claim.now.kind) result }
 {
@@ -87,7 +87,7 @@ fn reads(claim: &Claim, params: &Params, sample: &Sample) -> Reads
 fn breaks_over(claim: &Claim, params: &Params, sample: &Sample) -> bool
     requires few { claim.now.proof.to < 2 ^ 64 - 1 }
     ensures { (stamps : List ℕ) → claim.now.proof.to < length stamps
-        → AreSampled claim.now.proof claim.now.tai stamps sample.now
+        → AreSampled claim.now.proof claim.now.options stamps sample.now
         → IsTrue result
         ↔ BreaksLimit params.now.media params.now.n stamps claim.now.kind claim.now.proof Over }
 {
@@ -109,7 +109,7 @@ fn is_held(claim: &Claim, params: &Params, sample: &Sample) -> bool
     requires few { claim.now.proof.to < 2 ^ 64 - 1 }
     requires some { 1 ≤ claim.now.proof.count }
     ensures { (stamps : List ℕ) → claim.now.proof.to < length stamps
-        → AreSampled claim.now.proof claim.now.tai stamps sample.now
+        → AreSampled claim.now.proof claim.now.options stamps sample.now
         → IsTrue result ↔ (claim.now.proof.count
         ≡ held_at params.now.media params.now.n stamps (gapped_of claim.now.kind) claim.now.proof.to) }
 {
@@ -129,7 +129,7 @@ fn is_held(claim: &Claim, params: &Params, sample: &Sample) -> bool
 fn breaks_empty(claim: &Claim, params: &Params, sample: &Sample) -> bool
     requires few { claim.now.proof.to < 2 ^ 64 - 1 }
     ensures { (stamps : List ℕ) → claim.now.proof.to < length stamps
-        → AreSampled claim.now.proof claim.now.tai stamps sample.now
+        → AreSampled claim.now.proof claim.now.options stamps sample.now
         → IsTrue result
         ↔ BreaksLimit params.now.media params.now.n stamps claim.now.kind claim.now.proof Empty }
 {
@@ -150,7 +150,7 @@ fn breaks_empty(claim: &Claim, params: &Params, sample: &Sample) -> bool
 fn has_arrived(claim: &Claim, params: &Params, sample: &Sample) -> bool
     requires few { claim.now.proof.count ≤ claim.now.proof.to }
     ensures { (stamps : List ℕ) → claim.now.proof.to < length stamps
-        → AreSampled claim.now.proof claim.now.tai stamps sample.now
+        → AreSampled claim.now.proof claim.now.options stamps sample.now
         → IsTrue result ↔ (claim.now.proof.count
         ≡ arrived_by_read params.now.media params.now.n stamps claim.now.kind claim.now.proof.to) }
 {

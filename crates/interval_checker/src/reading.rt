@@ -1,6 +1,7 @@
 //! A flow that is read for the claims on it.
 
 ghost use Rattle.std.specs.Prelude.{◌≡◌, ◌≤◌, ◌<◌, ◌+◌, ◌∷◌, [], ◌^◌, Some, ℕ, List};
+ghost use Rattle.timing_base.specs.Shifts.{FlowOptions as FlowOptionsValue};
 ghost use Rattle.timing_base.specs.Captures.{IsStamp, Record};
 ghost use Rattle.timing_base.specs.Judged.{judged};
 ghost use Rattle.udp_rtp.specs.Flow.{flow, flow_packet};
@@ -19,11 +20,11 @@ use udp_rtp::{Datagram, read_rtp};
 pub struct Reading {
     media: Media,
     /// Seconds added to the capture timestamps.
-    tai: u64,
+    options: FlowOptions,
     walk: Walk,
     /// Reason why the flow isn't judged, once that is known.
     refused: Option<Unjudged>,
-    ghost seconds: { tai ≤ 1000 },
+    ghost seconds: { options ≤ 1000 },
 }
 
 impl Reading {
@@ -31,17 +32,16 @@ impl Reading {
 
     /// Returns the reading of this media's flow, before the first packet record. `tai` seconds are added to the capture
     /// timestamps.
-    pub fn new(media: &Media, tai: u64, asked: Asked) -> Reading
-        requires { tai ≤ 1000 }
+    pub fn new(media: &Media, options: FlowOptions, asked: Asked) -> Reading
         ensures media { media_of result ≡ media.now }
-        ensures tai { tai_of result ≡ tai }
+        ensures options { tai_of result ≡ options }
         ensures asked { asked_by result ≡ asked }
         ensures none { count_taken result ≡ 0 }
         ensures read { HasRead result [] }
     {
         Reading {
             media: *media,
-            tai,
+            options,
             walk: Walk::new(asked),
             refused: None,
         }
@@ -102,7 +102,7 @@ impl Reading {
             kind,
             run,
             proof: *proof,
-            tai: self.tai,
+            options: self.options,
         };
         self.walk.finish(&claim)
     }

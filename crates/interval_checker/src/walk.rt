@@ -2,6 +2,7 @@
 
 ghost use Rattle.std.specs.Prelude.{◌≡◌, ◌≤◌, ◌<◌, ◌+◌, ◌-◌, ◌^◌, ◌++◌, ◌∷◌, ◌==◌, ◌&&◌, [], ℕ, List, None, Some, Err, true, false, length, map, IsSome, OnOk, IfErr, MatchOption};
 ghost use Rattle.std.specs.Option.{ForSome};
+ghost use Rattle.timing_base.specs.Shifts.{Shift};
 ghost use Rattle.timing_base.specs.Captures.{IsStamp};
 ghost use Rattle.timing_base.specs.Flows.{cuts, fault, first_of, has_marker, is_cut, is_second_source, last_place, order_fault, size_fault};
 ghost use Rattle.timing_base.specs.Judged.{RunOutcome as OutcomeValue, judged, run_outcome, runs_between};
@@ -48,7 +49,7 @@ impl Walk {
     pub fn new(asked: Asked) -> Walk
         ensures fed { count_fed result ≡ 0 }
         ensures asked { asked_of result ≡ asked }
-        ensures stands { (pt tai : ℕ) → StandsFor pt tai result [] }
+        ensures stands { (pt : ℕ) (shift : Shift) → StandsFor pt shift result [] }
     {
         Walk {
             fed: 0,
@@ -67,10 +68,10 @@ impl Walk {
         requires stamp { IsStamp packet.at }
         ensures fed { count_fed self.new ≤ count_fed self.old + 1 }
         ensures asked { AsksNoLess (asked_of self.old) (asked_of self.new) }
-        ensures goes_on { (tai : ℕ) (packets : List PacketValue) → StandsFor pt tai self.old packets
-            → OnOk result (StandsFor pt tai self.new (packets ++ packet ∷ [])) }
-        ensures ends { (tai : ℕ) (packets rest : List PacketValue) → StandsFor pt tai self.old packets
-            → IfErr result (IsRefused (judged (packets ++ packet ∷ rest) pt tai)) }
+        ensures goes_on { (shift : Shift) (packets : List PacketValue) → StandsFor pt shift self.old packets
+            → OnOk result (StandsFor pt shift self.new (packets ++ packet ∷ [])) }
+        ensures ends { (shift : Shift) (packets rest : List PacketValue) → StandsFor pt shift self.old packets
+            → IfErr result (IsRefused (judged (packets ++ packet ∷ rest) pt shift)) }
     {
         let fault = match packet.rtp {
             Ok(rtp) => self.step(pt, packet.at, rtp),
@@ -88,12 +89,12 @@ impl Walk {
         requires stamp { IsStamp at }
         ensures fed { count_fed self.new ≤ count_fed self.old + 1 }
         ensures asked { AsksNoLess (asked_of self.old) (asked_of self.new) }
-        ensures goes_on { (tai : ℕ) (packets : List PacketValue) (i : ℕ)
-            → Keeps pt tai packets i (cuts packets i) self.old
+        ensures goes_on { (shift : Shift) (packets : List PacketValue) (i : ℕ)
+            → Keeps pt shift packets i (cuts packets i) self.old
             → IsRead packets i at rtp → i < length packets → result ≡ None
-            → Keeps pt tai packets (i + 1) (cuts packets (i + 1)) self.new }
-        ensures ends { (tai : ℕ) (packets : List PacketValue) (i : ℕ)
-            → Keeps pt tai packets i (cuts packets i) self.old
+            → Keeps pt shift packets (i + 1) (cuts packets (i + 1)) self.new }
+        ensures ends { (shift : Shift) (packets : List PacketValue) (i : ℕ)
+            → Keeps pt shift packets i (cuts packets i) self.old
             → IsRead packets i at rtp → i < length packets
             → result ≡ fault packets pt i }
     {
@@ -111,8 +112,8 @@ impl Walk {
 
     /// Returns whether there is a gap before the next packet.
     fn is_cut(&self, rtp: Rtp) -> bool
-        ensures is { (pt tai : ℕ) (packets : List PacketValue) (i at : ℕ)
-            → Keeps pt tai packets i (cuts packets i) self.now
+        ensures is { (pt : ℕ) (shift : Shift) (packets : List PacketValue) (i at : ℕ)
+            → Keeps pt shift packets i (cuts packets i) self.now
             → IsRead packets i at rtp → result ≡ is_cut packets i }
         ensures begun { result ≡ true → IsSome self.now.before }
     {
@@ -125,8 +126,8 @@ impl Walk {
     /// Returns the fault of the next packet by itself and by the packets before it, except for the size of its frame or
     /// field.
     fn fault(&self, pt: u8, at: u64, rtp: Rtp, cut: bool) -> Option<PacketFault>
-        ensures is { (tai : ℕ) (packets : List PacketValue) (i : ℕ)
-            → Keeps pt tai packets i (cuts packets i) self.now
+        ensures is { (shift : Shift) (packets : List PacketValue) (i : ℕ)
+            → Keeps pt shift packets i (cuts packets i) self.now
             → IsRead packets i at rtp → cut ≡ is_cut packets i
             → result ≡ first_of (read_fault pt rtp (is_second_source packets i))
             (order_fault 1024 packets i) }
@@ -149,8 +150,8 @@ impl Walk {
 
     /// Returns the fault of the next packet by the size of its frame or field; `None` before the first marker of a run.
     fn group_fault(&self, marker: bool) -> Option<PacketFault>
-        ensures is { (pt tai : ℕ) (packets : List PacketValue) (i : ℕ)
-            → Keeps pt tai packets i (cuts packets (i + 1)) self.now
+        ensures is { (pt : ℕ) (shift : Shift) (packets : List PacketValue) (i : ℕ)
+            → Keeps pt shift packets i (cuts packets (i + 1)) self.now
             → has_marker packets i ≡ marker → result ≡ size_fault 262144 packets i }
         ensures fits { result ≡ None → ForSome self.now.marks
             (λ m. m.size ≡ None → self.now.fed ≤ m.last + 262144) }
@@ -169,9 +170,9 @@ impl Walk {
         ensures fed { self.new.fed ≡ self.old.fed }
         ensures before { self.new.before ≡ self.old.before }
         ensures asked { AsksNoLess (asked_of self.old) (asked_of self.new) }
-        ensures keeps { (pt tai : ℕ) (packets : List PacketValue) (i : ℕ)
-            → Keeps pt tai packets i (cuts packets i) self.old → is_cut packets i ≡ true
-            → Keeps pt tai packets i (cuts packets (i + 1)) self.new }
+        ensures keeps { (pt : ℕ) (shift : Shift) (packets : List PacketValue) (i : ℕ)
+            → Keeps pt shift packets i (cuts packets i) self.old → is_cut packets i ≡ true
+            → Keeps pt shift packets i (cuts packets (i + 1)) self.new }
     {
         let ending = self.ending_here();
         self.asked.over(self.cuts, ending);
@@ -187,9 +188,9 @@ impl Walk {
         ensures fed { self.new.fed ≡ self.old.fed }
         ensures before { self.new.before ≡ self.old.before }
         ensures asked { AsksNoLess (asked_of self.old) (asked_of self.new) }
-        ensures keeps { (pt tai : ℕ) (packets : List PacketValue) (i : ℕ)
-            → Keeps pt tai packets i (cuts packets i) self.old → cut ≡ is_cut packets i
-            → Keeps pt tai packets i (cuts packets (i + 1)) self.new }
+        ensures keeps { (pt : ℕ) (shift : Shift) (packets : List PacketValue) (i : ℕ)
+            → Keeps pt shift packets i (cuts packets i) self.old → cut ≡ is_cut packets i
+            → Keeps pt shift packets i (cuts packets (i + 1)) self.new }
     {
         if cut {
             self.cut();
@@ -200,8 +201,8 @@ impl Walk {
     #[inline]
     fn next_before(&self, at: u64, rtp: Rtp) -> Before
         ensures at { result.at ≡ at }
-        ensures after { (pt tai : ℕ) (packets : List PacketValue) (i : ℕ) (places : List ℕ)
-            → Keeps pt tai packets i places self.now
+        ensures after { (pt : ℕ) (shift : Shift) (packets : List PacketValue) (i : ℕ) (places : List ℕ)
+            → Keeps pt shift packets i places self.now
             → IsRead packets i at rtp → IsAfter packets (i + 1) result }
     {
         let source = match self.before {
@@ -266,11 +267,11 @@ impl Walk {
         requires fits { ForSome self.old.marks (λ m. m.size ≡ None → self.old.fed ≤ m.last + 262144) }
         ensures fed { count_fed self.new ≡ count_fed self.old + 1 }
         ensures asked { AsksNoLess (asked_of self.old) (asked_of self.new) }
-        ensures keeps { (pt tai : ℕ) (packets : List PacketValue) (i : ℕ)
-            → Keeps pt tai packets i (cuts packets (i + 1)) self.old
+        ensures keeps { (pt : ℕ) (shift : Shift) (packets : List PacketValue) (i : ℕ)
+            → Keeps pt shift packets i (cuts packets (i + 1)) self.old
             → IsRead packets i at rtp → i < length packets
             → fault packets pt i ≡ None
-            → Keeps pt tai packets (i + 1) (cuts packets (i + 1)) self.new }
+            → Keeps pt shift packets (i + 1) (cuts packets (i + 1)) self.new }
     {
         let before = self.next_before(at, rtp);
         let marks = self.next_marks(rtp.marker);
@@ -282,10 +283,10 @@ impl Walk {
 
     /// Returns the end of the open run if it ends here.
     fn ending_here(&self) -> Ending
-        ensures { (pt tai : ℕ) (packets : List PacketValue) (i : ℕ) (places : List ℕ)
-            → Keeps pt tai packets i places self.now
-            → EndsAs (asked_of self.now) self.now.cuts tai
-            (run_outcome packets tai (last_place (0 ∷ places)) i) result }
+        ensures { (pt : ℕ) (shift : Shift) (packets : List PacketValue) (i : ℕ) (places : List ℕ)
+            → Keeps pt shift packets i places self.now
+            → EndsAs (asked_of self.now) self.now.cuts shift
+            (run_outcome packets shift (last_place (0 ∷ places)) i) result }
     {
         let fed = self.fed;
         match self.marks {
@@ -306,12 +307,12 @@ impl Walk {
 
     /// Returns the end of a run that was asked for if the flow ends here, or `None` if the flow has no such run.
     fn ending(&self, run: u64) -> Option<Ending>
-        ensures { (pt tai : ℕ) (f : ProofValue) (packets : List PacketValue) (i : ℕ) (places : List ℕ)
-            → Keeps pt tai packets i places self.now → IsAsked (asked_of self.now) run f
+        ensures { (pt : ℕ) (shift : Shift) (f : ProofValue) (packets : List PacketValue) (i : ℕ) (places : List ℕ)
+            → Keeps pt shift packets i places self.now → IsAsked (asked_of self.now) run f
             → MatchOption result
-            (length (map (λ r. r.outcome) (runs_between packets tai i 0 places)) ≤ run)
-            (EndsAt (asked_of self.now) run tai
-            (map (λ r. r.outcome) (runs_between packets tai i 0 places)) run) }
+            (length (map (λ r. r.outcome) (runs_between packets shift i 0 places)) ≤ run)
+            (EndsAt (asked_of self.now) run shift
+            (map (λ r. r.outcome) (runs_between packets shift i 0 places)) run) }
     {
         if run == self.cuts {
             return Some(self.ending_here());
@@ -325,7 +326,7 @@ impl Walk {
     /// Returns the answer on a claim on this run, which ends with `ending`.
     fn answer(&self, claim: &Claim, run: u64, ending: Ending) -> Result<bool, Unjudged>
         ensures { (o : OutcomeValue) → IsAsked (asked_of self.now) run claim.now.proof
-            → EndsAs (asked_of self.now) run claim.now.tai o ending
+            → EndsAs (asked_of self.now) run claim.now.shift o ending
             → SaysOutcome claim.now.media claim.now.kind claim.now.proof o result }
     {
         match ending {
@@ -340,10 +341,10 @@ impl Walk {
     /// Returns the answer on a claim on a run of the flow, if the flow ends here.
     fn answer_here(&self, claim: &Claim) -> Result<bool, Unjudged>
         ensures { (pt : ℕ) (packets : List PacketValue) (i : ℕ) (places : List ℕ)
-            → Keeps pt claim.now.tai packets i places self.now
+            → Keeps pt claim.now.shift packets i places self.now
             → IsAsked (asked_of self.now) claim.now.run claim.now.proof
             → SaysAt claim.now.media claim.now.kind claim.now.proof
-            (map (λ r. r.outcome) (runs_between packets claim.now.tai i 0 places))
+            (map (λ r. r.outcome) (runs_between packets claim.now.shift i 0 places))
             claim.now.run result }
     {
         let run = u64::from(claim.run);
@@ -355,10 +356,10 @@ impl Walk {
 
     /// Returns the answer on a claim that was asked for, if the flow ends here.
     pub fn finish(&self, claim: &Claim) -> Result<bool, Unjudged>
-        ensures { (packets : List PacketValue) → StandsFor claim.now.media.pt claim.now.tai self.now packets
+        ensures { (packets : List PacketValue) → StandsFor claim.now.media.pt claim.now.shift self.now packets
             → IsAsked (asked_of self.now) claim.now.run claim.now.proof
             → Says claim.now.media claim.now.kind claim.now.proof claim.now.run
-            (judged packets claim.now.media.pt claim.now.tai) result }
+            (judged packets claim.now.media.pt claim.now.shift) result }
     {
         if self.fed == 0 {
             return Err(Unjudged::Absent);

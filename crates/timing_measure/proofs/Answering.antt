@@ -2,6 +2,7 @@
 use Rattle.std.specs.Prelude.{◌<◌, All}
 use Rattle.std.proofs.Common.{◌≡◌, ◌+◌, ℕ, List, [], ◌∷◌, length, arith}
 use Rattle.std.proofs.lemmas.List.Elements.{All-cons, All-nil, All-weaker}
+use Rattle.timing_base.specs.Shifts.{FlowOptions}
 use Rattle.timing_base.specs.Captures.{Record}
 use Rattle.timing_base.specs.Jobs.{CaptureJob}
 use Rattle.timing_base.specs.Media.{Media}
@@ -17,26 +18,26 @@ use Rattle.timing_measure.specs.flows.Taken.{IsCaptureIn, IsCaptureOf}
 use Rattle.timing_measure.specs.declared.measured.MeasuredCapture.{MeasuredCapture}
 
 -- each flow is of a media of the session
-flows-of : (tai : ℕ) (items : List Record) (number : ℕ) (media : List Media) (flows : List MeasuredFlow)
-    → EachOf (λ n m f. IsMeasuredFlow m n tai (flow items m) f) number media flows
+flows-of : (options : FlowOptions) (items : List Record) (number : ℕ) (media : List Media) (flows : List MeasuredFlow)
+    → EachOf (λ n m f. IsMeasuredFlow m n options (flow items m) f) number media flows
     → All (λ (f : MeasuredFlow). f.media < number + length media) flows
-flows-of tai items number [] [] h =
+flows-of options items number [] [] h =
     let none : List Media = [] in All-nil (λ (f : MeasuredFlow). f.media < number + length none)
-flows-of tai items number [] (f ∷ flows) h = absurd h
-flows-of tai items number (m ∷ media) [] h = All-nil (λ (f : MeasuredFlow). f.media < number + length (m ∷ media))
-flows-of tai items number (m ∷ media) (f ∷ flows) h =
+flows-of options items number [] (f ∷ flows) h = absurd h
+flows-of options items number (m ∷ media) [] h = All-nil (λ (f : MeasuredFlow). f.media < number + length (m ∷ media))
+flows-of options items number (m ∷ media) (f ∷ flows) h =
     All-cons (λ (f : MeasuredFlow). f.media < number + length (m ∷ media)) f flows (omega (arith, (h.0).media))
     (All-weaker (λ (f : MeasuredFlow). f.media < number + 1 + length media) (λ (f : MeasuredFlow). f.media < number + length (m ∷ media))
-    (λ f few. omega (arith, few)) flows (flows-of tai items (number + 1) media flows h.1))
+    (λ f few. omega (arith, few)) flows (flows-of options items (number + 1) media flows h.1))
 
-pub of-media : (tai : ℕ) (media : List Media) (r : MeasuredCapture) → IsCaptureOf (AreFlows tai media) r → AreOfMedia media r.flows.items
-of-media tai media r h =
+pub of-media : (options : FlowOptions) (media : List Media) (r : MeasuredCapture) → IsCaptureOf (AreFlows options media) r → AreOfMedia media r.flows.items
+of-media options media r h =
     All-weaker (λ (f : MeasuredFlow). f.media < 0 + length media) (λ (f : MeasuredFlow). f.media < length media) (λ f few. omega (arith, few)) r.flows.items
-    (flows-of tai h.items 0 media r.flows.items h.are)
+    (flows-of options h.items 0 media r.flows.items h.are)
 
 -- the answer on what was read
 pub has-measure : (job : CaptureJob) (media : List Media) (text : List ℕ) (r : MeasuredCapture) (answer : Answer)
-    → IsCaptureIn (AreFlows job.tai media) text r
+    → IsCaptureIn (AreFlows job.options media) text r
     → answer ≡ measured job.capture r.note media r.flows.items → HasAnswer (measure_query job) media (text ∷ []) answer
 has-measure job media text r answer h e = record {
   files = h.items ∷ [];

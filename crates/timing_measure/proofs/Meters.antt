@@ -20,8 +20,8 @@ pub meter-took : {M O Past : Type 0} (wants : Bool) (stands : Standing M) (tells
     → ((packets : List FlowPacket) → old.source ≡ first_source packets → new.source ≡ first_source (packets ++ p ∷ []))
     → Feeds wants stands tells m old.metered new.metered (r ∷ [])
     → TakesOn wants stands tells m old new (r ∷ [])
-meter-took wants stands tells m old new r p is source feeds past number tai packets h = record {
-  metered_is = feeds past (key_of 0 number) tai packets h.metered_is;
+meter-took wants stands tells m old new r p is source feeds past number options packets h = record {
+  metered_is = feeds past (key_of 0 number) options packets h.metered_is;
   source_is = one-packet (λ l. new.source ≡ first_source l) packets (Some p) (flow_packet m r) is (source packets h.source_is);
 }
 

@@ -2,6 +2,7 @@
 use Rattle.std.proofs.Common.{◌≡◌, ◌≤◌, ◌∙◌, ◌^◌, ℕ, Bool, List, [], ◌∷◌, sym, subst}
 use Rattle.std.specs.Prelude.{All}
 use Rattle.std.proofs.lemmas.List.Elements.{All-weaker}
+use Rattle.timing_base.specs.Shifts.{FlowOptions}
 use Rattle.timing_base.specs.Captures.{Record}
 use Rattle.timing_base.specs.Media.{Media}
 use Rattle.timing_base.specs.declared.packet.FlowPacket.{FlowPacket}
@@ -25,24 +26,24 @@ use Rattle.timing_measure.specs.declared.flows.take.TakenFlows.{TakenFlows}
 use Rattle.timing_measure.proofs.Eaches.{each-pairs}
 
 -- a flow that was begun
-pub new-flow : {M O Past : Type 0} (wants : Bool) (stands : Standing M) (tells : Telling Past O) (tai n : ℕ) (m : Media) (meter : FlowMeter M O)
+pub new-flow : {M O Past : Type 0} (wants : Bool) (stands : Standing M) (tells : Telling Past O) (options : FlowOptions) (n : ℕ) (m : Media) (meter : FlowMeter M O)
     (f : MediaFlow (FlowMeter M O)) → f.media ≡ m → f.taker ≡ meter
-    → ((past : Past) → StandsFor wants stands tells past m n tai meter [])
-    → IsFlowOf wants stands tells tai [] n m f
-new-flow wants stands tells tai n m meter f media taker h = record {
+    → ((past : Past) → StandsFor wants stands tells past m n options meter [])
+    → IsFlowOf wants stands tells options [] n m f
+new-flow wants stands tells options n m meter f media taker h = record {
   media_is = media;
-  stood = λ past. subst (λ x. StandsFor wants stands tells past m n tai x []) (sym taker) (h past);
+  stood = λ past. subst (λ x. StandsFor wants stands tells past m n options x []) (sym taker) (h past);
 }
 
 -- what takes it took the flow of these records
-flow-fed : {M O Past : Type 0} (wants : Bool) (stands : Standing M) (tells : Telling Past O) (tai : ℕ) (items : List Record) (n : ℕ) (m : Media)
-    (old new : MediaFlow (FlowMeter M O)) → IsFlowOf wants stands tells tai [] n m old
+flow-fed : {M O Past : Type 0} (wants : Bool) (stands : Standing M) (tells : Telling Past O) (options : FlowOptions) (items : List Record) (n : ℕ) (m : Media)
+    (old new : MediaFlow (FlowMeter M O)) → IsFlowOf wants stands tells options [] n m old
     → TakesFlow (λ m x y l. TakesOn wants stands tells m x y l) old new items
-    → IsFlowOf wants stands tells tai items n m new
-flow-fed wants stands tells tai items n m old new h t =
+    → IsFlowOf wants stands tells options items n m new
+flow-fed wants stands tells options items n m old new h t =
     let fed : TakesOn wants stands tells m old.taker new.taker items =
     subst (λ (x : Media). TakesOn wants stands tells x old.taker new.taker items) h.media_is t.fed in
-    record { media_is = t.media ∙ h.media_is; stood = λ past. fed past n tai [] (h.stood past) }
+    record { media_is = t.media ∙ h.media_is; stood = λ past. fed past n options [] (h.stood past) }
 
 -- two lists, item by item
 zip-pairs : {F : Type 0} (takes : Media → F → F → List Record → Type 0) (olds news : List (MediaFlow F)) (items : List Record)
@@ -53,12 +54,12 @@ zip-pairs takes (x ∷ olds) [] items h = absurd h
 zip-pairs takes (x ∷ olds) (y ∷ news) items h = (h.0, zip-pairs takes olds news items h.1)
 
 -- so of all media
-pub flows-fed : {M O Past : Type 0} (wants : Bool) (stands : Standing M) (tells : Telling Past O) (tai : ℕ) (media : List Media) (items : List Record)
-    (olds news : List (MediaFlow (FlowMeter M O))) → AreMetered wants stands tells tai media [] olds
-    → TakesAll (λ m x y l. TakesOn wants stands tells m x y l) olds news items → AreMetered wants stands tells tai media items news
-flows-fed wants stands tells tai media items olds news h taken =
-    each-pairs (IsFlowOf wants stands tells tai []) (λ old new. TakesFlow (λ m x y l. TakesOn wants stands tells m x y l) old new items)
-    (IsFlowOf wants stands tells tai items) (flow-fed wants stands tells tai items) 0 media olds news h
+pub flows-fed : {M O Past : Type 0} (wants : Bool) (stands : Standing M) (tells : Telling Past O) (options : FlowOptions) (media : List Media) (items : List Record)
+    (olds news : List (MediaFlow (FlowMeter M O))) → AreMetered wants stands tells options media [] olds
+    → TakesAll (λ m x y l. TakesOn wants stands tells m x y l) olds news items → AreMetered wants stands tells options media items news
+flows-fed wants stands tells options media items olds news h taken =
+    each-pairs (IsFlowOf wants stands tells options []) (λ old new. TakesFlow (λ m x y l. TakesOn wants stands tells m x y l) old new items)
+    (IsFlowOf wants stands tells options items) (flow-fed wants stands tells options items) 0 media olds news h
     (zip-pairs (λ m x y l. TakesOn wants stands tells m x y l) olds news items taken)
 
 -- what both take of each record
@@ -67,29 +68,29 @@ abbrev pub BothTake : {M O B Past : Type 0} → (wants : Bool) → Standing M �
 BothTake wants stands tells takes old new items =
     TakesAll (λ m x y l. TakesOn wants stands tells m x y l) (flows_of old.first) (flows_of new.first) items × takes old.second new.second items
 
-pub taken-in : {M O B Past : Type 0} (wants : Bool) (stands : Standing M) (tells : Telling Past O) (takes : B → B → List Record → Type 0) (tai : ℕ)
+pub taken-in : {M O B Past : Type 0} (wants : Bool) (stands : Standing M) (tells : Telling Past O) (takes : B → B → List Record → Type 0) (options : FlowOptions)
     (media : List Media) (text : List ℕ) (old new : Both (Demux (FlowMeter M O)) B) (read : Taken) (taken : TakenFlows M O B)
-    → AreMetered wants stands tells tai media [] (flows_of old.first) → TakesText (BothTake wants stands tells takes) text 0 old new read
+    → AreMetered wants stands tells options media [] (flows_of old.first) → TakesText (BothTake wants stands tells takes) text 0 old new read
     → taken.note ≡ read.note → taken.flows.items ≡ flows_of new.first → taken.beside ≡ new.second
-    → AreTakenIn wants stands tells takes tai media text old.second taken
-taken-in wants stands tells takes tai media text old new read taken h t note flows beside =
+    → AreTakenIn wants stands tells takes options media text old.second taken
+taken-in wants stands tells takes options media text old new read taken h t note flows beside =
     let fed = fed-alone (BothTake wants stands tells takes) text old new read t in
     record {
       items = t.items;
       records = subst (λ n. Records text (2 ^ 40) t.items n) (sym note) t.records;
-      are = subst (AreMetered wants stands tells tai media t.items) (sym flows)
-          (flows-fed wants stands tells tai media t.items (flows_of old.first) (flows_of new.first) h fed.0);
+      are = subst (AreMetered wants stands tells options media t.items) (sym flows)
+          (flows-fed wants stands tells options media t.items (flows_of old.first) (flows_of new.first) h fed.0);
       beside = subst (λ b. takes old.second b t.items) (sym beside) fed.1;
     }
 
 pub taken-of : {M O B Past : Type 0} (wants : Bool) (stands : Standing M) (tells : Telling Past O) (takes : B → B → List Record → Type 0)
-    (tai most : ℕ) (media : List Media) (old new : Both (Demux (FlowMeter M O)) B) (taken : TakenFlows M O B)
-    → AreMetered wants stands tells tai media [] (flows_of old.first) → TakesFew (BothTake wants stands tells takes) most old new
-    → taken.flows.items ≡ flows_of new.first → AreTakenOf wants stands tells tai media taken
-taken-of wants stands tells takes tai most media old new taken h t flows = record {
+    (options : FlowOptions) (most : ℕ) (media : List Media) (old new : Both (Demux (FlowMeter M O)) B) (taken : TakenFlows M O B)
+    → AreMetered wants stands tells options media [] (flows_of old.first) → TakesFew (BothTake wants stands tells takes) most old new
+    → taken.flows.items ≡ flows_of new.first → AreTakenOf wants stands tells options media taken
+taken-of wants stands tells takes options most media old new taken h t flows = record {
   items = t.items;
-  are = subst (AreMetered wants stands tells tai media t.items) (sym flows)
-      (flows-fed wants stands tells tai media t.items (flows_of old.first) (flows_of new.first) h t.taken.0);
+  are = subst (AreMetered wants stands tells options media t.items) (sym flows)
+      (flows-fed wants stands tells options media t.items (flows_of old.first) (flows_of new.first) h t.taken.0);
 }
 
 -- each has room
@@ -100,12 +101,12 @@ flows-room few many flows le h =
 
 -- what the flows come to, one by one
 pub flows-end : {M O E Past : Type 0} (wants : Bool) (stands : Standing M) (tells : Telling Past O) (past : Past)
-    (Ends : MediaFlow (FlowMeter M O) → E → Type 0) (IsEnd : Media → (number tai : ℕ) → List FlowPacket → E → Type 0) (tai : ℕ)
+    (Ends : MediaFlow (FlowMeter M O) → E → Type 0) (IsEnd : Media → (number : ℕ) (options : FlowOptions) → List FlowPacket → E → Type 0) (options : FlowOptions)
     (media : List Media) (items : List Record) (flows : List (MediaFlow (FlowMeter M O))) (ends : List E)
     → ((f : MediaFlow (FlowMeter M O)) (e : E) → Ends f e → (m : Media) (number : ℕ) (packets : List FlowPacket)
-    → StandsFor wants stands tells past m number tai f.taker packets → IsEnd m number tai packets e)
-    → AreMetered wants stands tells tai media items flows → AllPairs Ends flows ends
-    → EachOf (λ n m e. IsEnd m n tai (flow items m) e) 0 media ends
-flows-end wants stands tells past Ends IsEnd tai media items flows ends told h ended =
-    each-pairs (IsFlowOf wants stands tells tai items) Ends (λ n m e. IsEnd m n tai (flow items m) e)
+    → StandsFor wants stands tells past m number options f.taker packets → IsEnd m number options packets e)
+    → AreMetered wants stands tells options media items flows → AllPairs Ends flows ends
+    → EachOf (λ n m e. IsEnd m n options (flow items m) e) 0 media ends
+flows-end wants stands tells past Ends IsEnd options media items flows ends told h ended =
+    each-pairs (IsFlowOf wants stands tells options items) Ends (λ n m e. IsEnd m n options (flow items m) e)
     (λ n m f e is end. told f e end m n (flow items m) (is.stood past)) 0 media flows ends h ended

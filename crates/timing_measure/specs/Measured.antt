@@ -1,6 +1,7 @@
 -- The numbers of the flow of a media. Packets and media count from 0. A source is an SSRC (RFC 3550, section 5.1). This
 -- project's profile.
 use Rattle.std.specs.Prelude.{◌≡◌, ℕ, List, [], ◌∷◌, length, Option, Some, None, Result, Ok, Err}
+use Rattle.timing_base.specs.Shifts.{FlowOptions}
 use Rattle.timing_base.specs.Judged.{judged}
 use Rattle.timing_base.specs.Media.{Media}
 use Rattle.timing_base.specs.declared.packet.FlowPacket.{FlowPacket}
@@ -22,9 +23,9 @@ first_source [] = None
 first_source (p ∷ packets) = source_or p.rtp (first_source packets)
 
 -- the flow with these packets, of the media with this number, has these numbers; `tai` is in seconds
-pub record IsMeasuredFlow (m : Media) (number tai : ℕ) (packets : List FlowPacket) (flow : MeasuredFlow) : Type 0 where
+pub record IsMeasuredFlow (m : Media) (number : ℕ) (options : FlowOptions) (packets : List FlowPacket) (flow : MeasuredFlow) : Type 0 where
   pub media : flow.media ≡ number
   pub count : flow.packets ≡ length packets
   pub source : flow.ssrc ≡ first_source packets
-  pub verdict_is : flow.verdict ≡ verdict_of m (judged packets m.pt tai)
-  pub runs : AreMeasured (HasNumbers m tai) (judged_parts m packets tai) flow.runs
+  pub verdict_is : flow.verdict ≡ verdict_of m (judged packets m.pt options)
+  pub runs : AreMeasured (HasNumbers m options) (judged_parts m packets options) flow.runs

@@ -3,6 +3,7 @@
 -- nanoseconds of TAI, with `--tai` added; media count from 0, and packet records from 1. This project's profile.
 use Rattle.std.specs.Prelude.{◌≡◌, ◌&&◌, if◌then◌else◌, ℕ, Bool, not, nat_lt, List, length, map}
 use Rattle.std.specs.List.{list_any}
+use Rattle.timing_base.specs.Shifts.{FlowOptions}
 use Rattle.timing_base.specs.Captures.{Record}
 use Rattle.timing_base.specs.Jobs.{CaptureJob}
 use Rattle.timing_base.specs.Media.{Media}
@@ -21,9 +22,9 @@ use Rattle.timing_measure.specs.Each.{EachOf}
 use Rattle.timing_measure.specs.Measured.{IsMeasuredFlow}
 
 -- the numbers of the flow of each media of a session, in a capture with these packet records
-abbrev pub AreFlows : (tai : ℕ) → List Media → List Record → List MeasuredFlow → Type 0
-AreFlows tai media items flows =
-    EachOf (λ number m f. IsMeasuredFlow m number tai (flow items m) f) 0 media flows
+abbrev pub AreFlows : (options : FlowOptions) → List Media → List Record → List MeasuredFlow → Type 0
+AreFlows options media items flows =
+    EachOf (λ number m f. IsMeasuredFlow m number options (flow items m) f) 0 media flows
 
 -- the flow has a judged run
 abbrev pub has_run : MeasuredFlow → Bool
@@ -45,7 +46,7 @@ measured name note media flows = record {
 pub record DefinesMeasure (job : CaptureJob) (media : List Media) (items : List Record) (note : FileNote)
     (answer : Answer) : Type 0 where
   pub flows : List MeasuredFlow
-  pub are : AreFlows job.tai media items flows
+  pub are : AreFlows job.options media items flows
   pub answer_is : answer ≡ measured job.capture note media flows
 
 -- what `measure` asks: the answer is over all media of the SDP

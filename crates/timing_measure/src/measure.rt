@@ -30,8 +30,8 @@ fn read_flows<H: Shelf>(
     requires few { length media.now ≤ 64 }
     ensures told { IfOk result (λ capture. (text : List ℕ)
         → classic_texts (H.text shelf.old) job.now.capture ≡ Some text
-        → IsCaptureIn (AreFlows job.now.tai media.now) text capture) }
-    ensures some { IfOk result (IsCaptureOf (AreFlows job.now.tai media.now)) }
+        → IsCaptureIn (AreFlows job.now.options media.now) text capture) }
+    ensures some { IfOk result (IsCaptureOf (AreFlows job.now.options media.now)) }
     ensures cause { IfErr result (λ e. OnReadFault e (λ i. (i ≡ Input.Capture 0)
         × Rose (H.faults shelf.old job.now.capture) (H.faults shelf.new job.now.capture))) }
     ensures there { IfOk result (λ _. ¬ H.lacks shelf.old job.now.capture) }

@@ -1,6 +1,7 @@
 //! The numbers of the flows of a session.
 
 ghost use Rattle.std.specs.Prelude.{◌≡◌, ℕ, List, IfOk};
+ghost use Rattle.timing_base.specs.Shifts.{FlowOptions};
 ghost use Rattle.timing_base.specs.Media.{Media as MediaValue};
 ghost use Rattle.timing_base.specs.declared.packet.FlowPacket.{FlowPacket as PacketValue};
 ghost use Rattle.timing_measure.specs.Each.{AllPairs};
@@ -36,8 +37,8 @@ fn judged_runs(alloc: Global, verdict: &Verdict, measured: MeasuredRuns) -> Item
 
 /// Returns the numbers of a flow that has ended.
 pub fn measured_flow(alloc: Global, end: FlowEnd<MeasuredRuns>) -> MeasuredFlow
-    ensures { (m : MediaValue) (number tai : ℕ) (packets : List PacketValue)
-        → IsMeasuredEnd m number tai packets end → IsMeasuredFlow m number tai packets result }
+    ensures { (m : MediaValue) (number : ℕ) (options : FlowOptions) (packets : List PacketValue)
+        → IsMeasuredEnd m number options packets end → IsMeasuredFlow m number options packets result }
 {
     let FlowEnd {
         media,

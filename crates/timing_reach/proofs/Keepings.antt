@@ -8,6 +8,7 @@ use Rattle.std.specs.declared.vec.Vec.{Vec}
 use Rattle.std.proofs.lemmas.List.{drop-map, length-map, take-map}
 use Rattle.std.proofs.lemmas.List.Elements.{All-push, filter_map-append}
 use Rattle.std.proofs.lemmas.Nat.{mul-le}
+use Rattle.timing_base.specs.Shifts.{FlowOptions}
 use Rattle.timing_base.specs.Captures.{IsStamp, Record}
 use Rattle.timing_base.specs.Grouped.{IsGrouped, IsGroupedVerdict}
 use Rattle.timing_base.specs.Judged.{JudgedRun, in_one_run, judged, stamp_of, whole_frames}
@@ -63,14 +64,14 @@ pub reads-packet : (old new : Reading) (p : FlowPacket) (frame : List ℕ) → I
     → Keeps p.at frame old.packets new.packets
     → (m : Media) (r : Record) → flow_packet m r ≡ Some p → r.bytes ≡ frame
     → ReadsOn m old new (r ∷ [])
-reads-packet old new p frame stamp short takes keeps = λ m r is carried key tai list items h.
+reads-packet old new p frame stamp short takes keeps = λ m r is carried key options list items h.
     let of = packet-of m r p is in
     let came : r.stamp ≡ p.at = sym of.at in
     let here : CanBeHeld r = record { stamp = omega (arith, came, stamp); short = subst (λ b. length b ≤ 262144) (sym carried) short } in
     let records = records-on m items r (Some p) is in
     record {
-      judge = subst (StandsFor m key tai new.judge.judge) (sym (filter_map-append (flow_packet m) items (r ∷ [])))
-          (judge-took m key tai old.judge new.judge (r ∷ []) (flow items m) (takes m r is carried) h.judge);
+      judge = subst (StandsFor m key options new.judge.judge) (sym (filter_map-append (flow_packet m) items (r ∷ [])))
+          (judge-took m key options old.judge new.judge (r ∷ []) (flow items m) (takes m r is carried) h.judge);
       packets = record {
         kept = subst (AreKept list new.packets) (sym records) (keeps list (flow_records m items) r came carried h.packets.kept);
         held = subst (All CanBeHeld) (sym records) (All-push CanBeHeld (flow_records m items) r h.packets.held here);
@@ -78,23 +79,23 @@ reads-packet old new p frame stamp short takes keeps = λ m r is carried key tai
     }
 
 -- the records of a text were read
-pub kept-in : (text : List ℕ) (m : Media) (key : FlowKey) (tai : ℕ) (list : Bool) (old new : Reading) (f : KeptFlow) → IsReading m key tai list old []
-    → TakesIn (ReadsOn m) text old new → ((items : List Record) → IsReading m key tai list new items → IsKeptFlow m tai list items f)
-    → IsKeptIn m tai list text f
-kept-in text m key tai list old new f start t finish =
-    record { items = t.items; note = t.note; records = t.records; flow_is = finish t.items (t.fed key tai list [] start) }
+pub kept-in : (text : List ℕ) (m : Media) (key : FlowKey) (options : FlowOptions) (list : Bool) (old new : Reading) (f : KeptFlow) → IsReading m key options list old []
+    → TakesIn (ReadsOn m) text old new → ((items : List Record) → IsReading m key options list new items → IsKeptFlow m options list items f)
+    → IsKeptIn m options list text f
+kept-in text m key options list old new f start t finish =
+    record { items = t.items; note = t.note; records = t.records; flow_is = finish t.items (t.fed key options list [] start) }
 
 -- some records were read, and few
-pub kept-some : (m : Media) (key : FlowKey) (tai most : ℕ) (list : Bool) (old new : Reading) (f : KeptFlow) → IsReading m key tai list old []
-    → TakesFew (ReadsOn m) most old new → ((items : List Record) → IsReading m key tai list new items → IsKeptFlow m tai list items f)
-    → IsRead m tai list f
-kept-some m key tai most list old new f start t finish = record { items = t.items; flow_is = finish t.items (t.taken key tai list [] start) }
+pub kept-some : (m : Media) (key : FlowKey) (options : FlowOptions) (most : ℕ) (list : Bool) (old new : Reading) (f : KeptFlow) → IsReading m key options list old []
+    → TakesFew (ReadsOn m) most old new → ((items : List Record) → IsReading m key options list new items → IsKeptFlow m options list items f)
+    → IsRead m options list f
+kept-some m key options most list old new f start t finish = record { items = t.items; flow_is = finish t.items (t.taken key options list [] start) }
 
-pub read-few : (m : Media) (key : FlowKey) (tai most : ℕ) (list : Bool) (old new : Reading) → IsReading m key tai list old []
+pub read-few : (m : Media) (key : FlowKey) (options : FlowOptions) (most : ℕ) (list : Bool) (old new : Reading) → IsReading m key options list old []
     → TakesFew (ReadsOn m) most old new
     → count_read new ≤ most
-read-few m key tai most list old new start t =
-    let h = t.taken key tai list [] start in omega (arith, h.judge.fed, flow-few m t.items, t.few)
+read-few m key options most list old new start t =
+    let h = t.taken key options list [] start in omega (arith, h.judge.fed, flow-few m t.items, t.few)
 
 -- each packet of a flow has the stamp of its record
 flow-stamps : (m : Media) (items : List Record) → map (λ (p : FlowPacket). p.at) (flow items m) ≡ stamps_of (flow_records m items)
@@ -116,31 +117,31 @@ flow-stamps m (r ∷ items) =
     by r o ps rs is h =
         subst (λ x. map (λ (p : FlowPacket). p.at) (cons_option x ps) ≡ stamps_of (if is_some x then r ∷ rs else rs)) (sym is) (at-each r o ps rs is h)
 
-in-tai : (tai : ℕ) (packets : List FlowPacket) → map (stamp_of tai) packets ≡ in_tai tai (map (λ (p : FlowPacket). p.at) packets)
-in-tai tai [] = refl
-in-tai tai (p ∷ packets) = ap (λ l. stamp_of tai p ∷ l) (in-tai tai packets)
+in-options : (options : FlowOptions) (packets : List FlowPacket) → map (stamp_of options) packets ≡ in_tai options (map (λ (p : FlowPacket). p.at) packets)
+in-options options [] = refl
+in-options options (p ∷ packets) = ap (λ l. stamp_of options p ∷ l) (in-options options packets)
 
 -- the judged packets, by their records
-judged-records : (m : Media) (items : List Record) (tai head count : ℕ)
-    → map (stamp_of tai) (take count (drop head (flow items m))) ≡ judged_stamps tai head count (flow_records m items)
-judged-records m items tai head count =
+judged-records : (m : Media) (items : List Record) (options : FlowOptions) (head count : ℕ)
+    → map (stamp_of options) (take count (drop head (flow items m))) ≡ judged_stamps options head count (flow_records m items)
+judged-records m items options head count =
     let packets = flow items m in
     let at = λ (p : FlowPacket). p.at in
     let stamp = λ (r : Record). r.stamp in
-    in-tai tai (take count (drop head packets))
-    ∙ ap (in_tai tai) (sym (take-map at count (drop head packets)) ∙ ap (take count) (sym (drop-map at head packets))
+    in-options options (take count (drop head packets))
+    ∙ ap (in_tai options) (sym (take-map at count (drop head packets)) ∙ ap (take count) (sym (drop-map at head packets))
     ∙ ap (λ l. take count (drop head l)) (flow-stamps m items)
     ∙ ap (take count) (drop-map stamp head (flow_records m items)) ∙ take-map stamp count (drop head (flow_records m items)))
 
 -- the run of a flow that is judged so
-pub run-kept : (m : Media) (tai : ℕ) (list : Bool) (items : List Record) (f : KeptFlow) (j : Judged) → f.verdict ≡ verdict.Judged j
-    → IsKeptFlow m tai list items f
-    → (run : JudgedRun) × (judged (flow items m) m.pt tai ≡ in_one_run (whole_frames run)) × IsRunOf tai j (flow_records m items) run
-run-kept m tai list items f j is h =
+pub run-kept : (m : Media) (options : FlowOptions) (list : Bool) (items : List Record) (f : KeptFlow) (j : Judged) → f.verdict ≡ verdict.Judged j
+    → IsKeptFlow m options list items f
+    → (run : JudgedRun) × (judged (flow items m) m.pt options ≡ in_one_run (whole_frames run)) × IsRunOf options j (flow_records m items) run
+run-kept m options list items f j is h =
     let packets = flow items m in
-    let found = judged-of m j (judged packets m.pt tai) f.verdict h.verdict_is is in
+    let found = judged-of m j (judged packets m.pt options) f.verdict h.verdict_is is in
     let run = found.0 in
-    let within = within-run packets tai run (one-run packets m.pt tai run found.1) in
+    let within = within-run packets options run (one-run packets m.pt options run found.1) in
     let grouped : IsGrouped run = subst IsGroupedVerdict found.1 h.grouped in
     let head : j.head ≡ run.head = ap (λ (x : Judged). x.head) (sym found.2) in
     let count : j.packets ≡ length run.stamps = ap (λ (x : Judged). x.packets) (sym found.2) in
@@ -155,15 +156,15 @@ run-kept m tai list items f j is h =
         head = head;
         count = count;
         within = omega (arith, within.few, head, count, each, some);
-        stamps = ap (λ k. judged_stamps tai k j.packets (flow_records m items)) head
-            ∙ ap (λ k. judged_stamps tai run.head k (flow_records m items)) count
-            ∙ sym (judged-records m items tai run.head (length run.stamps)) ∙ within.stamps_are;
+        stamps = ap (λ k. judged_stamps options k j.packets (flow_records m items)) head
+            ∙ ap (λ k. judged_stamps options run.head k (flow_records m items)) count
+            ∙ sym (judged-records m items options run.head (length run.stamps)) ∙ within.stamps_are;
         grouped = grouped;
       },
     )
 
-pub can-shape : (m : Media) (tai : ℕ) (list : Bool) (f : KeptFlow) (j : Judged) → f.verdict ≡ verdict.Judged j → IsRead m tai list f
-    → CanShape m tai j f.packets
-can-shape m tai list f j is h =
-    let run = run-kept m tai list h.items f j is h.flow_is in
+pub can-shape : (m : Media) (options : FlowOptions) (list : Bool) (f : KeptFlow) (j : Judged) → f.verdict ≡ verdict.Judged j → IsRead m options list f
+    → CanShape m options j f.packets
+can-shape m options list f j is h =
+    let run = run-kept m options list h.items f j is h.flow_is in
     record { list = list; items = h.items; run = run.0; run_is = run.2; kept = h.flow_is.packets }

@@ -39,9 +39,9 @@ can-follow s stamps origin at is fit =
 
 -- these leave in time
 pub let-in-time : (w : Part) (l : Leaver) (stamps departures : List ℕ) → HasLet w l stamps departures
-    → LeaveInTime w.media w.n w.kind (end_of w.tai) stamps departures
+    → LeaveInTime w.media w.n w.kind (end_of w.options) stamps departures
 let-in-time w l stamps departures h =
-    retold (λ m n kind end. LeaveInTime m n kind end stamps departures) l.params.media w.media l.params.n w.n l.shaper.kind w.kind l.shaper.end (end_of w.tai)
+    retold (λ m n kind end. LeaveInTime m n kind end stamps departures) l.params.media w.media l.params.n w.n l.shaper.kind w.kind l.shaper.end (end_of w.options)
     h.media h.group h.kind h.end (record { shaped = h.stands.shaped; in_time = h.stands.in_time })
 
 -- what its shaper says of a packet
@@ -55,7 +55,7 @@ pub one-leaves : (w : Part) (old new : Leaver) (stamps departures : List ℕ) (a
     → ((arrivals departures : List ℕ) → StandsFor old.params old.shaper arrivals departures → CanFollow old.shaper arrivals (at + old.added)
     → (late : Late) → result ≡ Err late
     → (late.packet ≡ length arrivals) × NoneInTime old.params old.shaper (arrivals ++ (at + old.added) ∷ []) (length arrivals))
-    → HasLet w old stamps departures → Leaves w new stamps departures (at + w.tai * 10 ^ 9) result
+    → HasLet w old stamps departures → Leaves w new stamps departures (at + w.options * 10 ^ 9) result
 one-leaves w old new stamps departures at result params added kind origin end bound stands late h =
     subst (λ x. Leaves w new stamps departures (at + x) result) h.added
     (λ fit. by result (bound stamps departures h.stands (can-follow old.shaper stamps w.origin (at + old.added) h.origin fit))
@@ -86,7 +86,7 @@ one-leaves w old new stamps departures at result params added kind origin end bo
         let none = late e refl in (
           none.0,
           retold (λ m n kind end. IsLate m n kind end (stamps ++ (at + old.added) ∷ []) (length stamps))
-              old.params.media w.media old.params.n w.n old.shaper.kind w.kind old.shaper.end (end_of w.tai) h.media h.group h.kind h.end
+              old.params.media w.media old.params.n w.n old.shaper.kind w.kind old.shaper.end (end_of w.options) h.media h.group h.kind h.end
               (late-last old.params.media old.params.n old.shaper.kind old.shaper.end stamps departures (at + old.added)
               (record { shaped = h.stands.shaped; in_time = h.stands.in_time }) none.1),
         )
@@ -117,12 +117,12 @@ next-leaves w old new stamps departures i at d within is fit leaves =
     (left.0, subst (λ l. HasLet w new l (departures ++ d.at ∷ [])) (sym more) left.1)
 
 pub next-late : (w : Part) (old new : Leaver) (stamps departures : List ℕ) (i at : ℕ) (late : Late) → i < length stamps → at ≡ slice_index stamps i
-    → IsFit w.origin stamps → Leaves w new (take i stamps) departures at (Err late) → IsLate w.media w.n w.kind (end_of w.tai) stamps late.packet
+    → IsFit w.origin stamps → Leaves w new (take i stamps) departures at (Err late) → IsLate w.media w.n w.kind (end_of w.options) stamps late.packet
 next-late w old new stamps departures i at late within is fit leaves =
     let more : take (i + 1) stamps ≡ take i stamps ++ at ∷ [] = take_more stamps i 0 within ∙ ap (λ x. take i stamps ++ x ∷ []) (sym is) in
     let said = leaves (subst (IsFit w.origin) more (fit-take w.origin stamps (i + 1) (omega (arith, within)) fit)) in
     let all : (take i stamps ++ at ∷ []) ++ drop (i + 1) stamps ≡ stamps =
     ap (λ l. l ++ drop (i + 1) stamps) (sym more) ∙ take-append-drop (i + 1) stamps in
-    subst (λ k. IsLate w.media w.n w.kind (end_of w.tai) stamps k) (sym said.0)
-    (subst (λ l. IsLate w.media w.n w.kind (end_of w.tai) l (length (take i stamps))) all
-    (late-more w.media w.n w.kind (end_of w.tai) (take i stamps ++ at ∷ []) (drop (i + 1) stamps) (length (take i stamps)) said.1))
+    subst (λ k. IsLate w.media w.n w.kind (end_of w.options) stamps k) (sym said.0)
+    (subst (λ l. IsLate w.media w.n w.kind (end_of w.options) l (length (take i stamps))) all
+    (late-more w.media w.n w.kind (end_of w.options) (take i stamps ++ at ∷ []) (drop (i + 1) stamps) (length (take i stamps)) said.1))

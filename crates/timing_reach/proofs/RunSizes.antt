@@ -2,6 +2,7 @@
 use Rattle.std.proofs.Common.{◌≡◌, ◌≤◌, ◌==◌, nat_lt, ℕ, List, length, Option, Some, None, refl, arith}
 use Rattle.std.specs.Prelude.{⊤}
 use Rattle.std.proofs.lemmas.Bool.{cond_both, eqb-true, ltb-false}
+use Rattle.timing_base.specs.Shifts.{FlowOptions}
 use Rattle.timing_base.specs.Flows.{FirstFault, cuts, first_fault, markers}
 use Rattle.timing_base.specs.Grouped.{IsSized}
 use Rattle.timing_base.specs.Judged.{FlowVerdict, JudgedRun, RunOutcome, absent, head_len, in_one_run, in_runs, judged, judged_run, judged_runs, no_whole_frame}
@@ -22,10 +23,10 @@ RunHasSize (in_one_run (whole_frames run)) = HasSize run
 RunHasSize verdict = ⊤
 
 -- by the markers of the run
-outcome-size : (packets : List FlowPacket) (tai to : ℕ) → IsSized to (markers packets 0 to) → RunHasSize (in_one_run (run_outcome packets tai 0 to))
-outcome-size packets tai to sized =
+outcome-size : (packets : List FlowPacket) (options : FlowOptions) (to : ℕ) → IsSized to (markers packets 0 to) → RunHasSize (in_one_run (run_outcome packets options 0 to))
+outcome-size packets options to sized =
     let marks = markers packets 0 to in
-    cond_both (nat_lt (length marks) 2) (no_whole_frame (head_len marks 0 to)) (whole_frames (judged_run packets tai 0 to))
+    cond_both (nat_lt (length marks) 2) (no_whole_frame (head_len marks 0 to)) (whole_frames (judged_run packets options 0 to))
     (λ (o : RunOutcome). RunHasSize (in_one_run o))
     (λ _. tt)
     (λ many.
@@ -33,11 +34,11 @@ outcome-size packets tai to sized =
     record { some = omega (arith, sized.some two); few = omega (arith, sized.few two) })
 
 -- of a flow with no fault
-runs-size : (packets : List FlowPacket) (pt tai : ℕ) → first_fault packets pt ≡ None → RunHasSize (judged_runs packets tai)
-runs-size packets pt tai e =
+runs-size : (packets : List FlowPacket) (pt : ℕ) (options : FlowOptions) → first_fault packets pt ≡ None → RunHasSize (judged_runs packets options)
+runs-size packets pt options e =
     let n = length packets in
-    cond_both (length (cuts packets n) == 0) (in_one_run (run_outcome packets tai 0 n)) (in_runs (runs packets tai)) RunHasSize
-    (λ none. outcome-size packets tai n (one_sized packets pt e (eqb-true (length (cuts packets n)) 0 none)))
+    cond_both (length (cuts packets n) == 0) (in_one_run (run_outcome packets options 0 n)) (in_runs (runs packets options)) RunHasSize
+    (λ none. outcome-size packets options n (one_sized packets pt e (eqb-true (length (cuts packets n)) 0 none)))
     (λ _. tt)
 
 refusal-size : (rec : ℕ) (fault : PacketFault) → RunHasSize (refusal rec fault)
@@ -50,9 +51,9 @@ refused-size packets (Some first) verdict h = refusal-size _ first.fault
 refused-size packets None verdict h = h refl
 
 -- of any flow
-pub judged-size : (packets : List FlowPacket) (pt tai : ℕ) → RunHasSize (judged packets pt tai)
-judged-size packets pt tai =
+pub judged-size : (packets : List FlowPacket) (pt : ℕ) (options : FlowOptions) → RunHasSize (judged packets pt options)
+judged-size packets pt options =
     let first = first_fault packets pt in
-    cond_both (length packets == 0) absent (refused_or packets first (judged_runs packets tai)) RunHasSize
+    cond_both (length packets == 0) absent (refused_or packets first (judged_runs packets options)) RunHasSize
     (λ _. tt)
-    (λ _. refused-size packets first (judged_runs packets tai) (λ e. runs-size packets pt tai e))
+    (λ _. refused-size packets first (judged_runs packets options) (λ e. runs-size packets pt options e))

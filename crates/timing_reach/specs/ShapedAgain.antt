@@ -1,6 +1,7 @@
 -- A capture that `shape` wrote, read again with the same `--tai`. Capture timestamps are nanoseconds. This project's
 -- profile.
 use Rattle.std.specs.Prelude.{◌≡◌, ◌≤◌, ◌^◌, ℕ, List, length}
+use Rattle.timing_base.specs.Shifts.{FlowOptions}
 use Rattle.timing_base.specs.Captures.{IsStamp, Record}
 use Rattle.timing_base.specs.Judged.{JudgedRun, in_one_run, judged, whole_frames}
 use Rattle.timing_base.specs.Media.{Media}
@@ -19,7 +20,7 @@ came_at run stamps = record run { stamps = stamps }
 
 -- a capture with these contents is whole, and the flow of this media in it is judged in this one run; `tai` is in
 -- seconds
-pub record IsJudgedAs (tai : ℕ) (m : Media) (text : List ℕ) (run : JudgedRun) : Type 0 where
+pub record IsJudgedAs (options : FlowOptions) (m : Media) (text : List ℕ) (run : JudgedRun) : Type 0 where
   pub items : List Record
   pub records : Records text (2 ^ 40) items End
-  pub verdict_is : judged (flow items m) m.pt tai ≡ in_one_run (whole_frames run)
+  pub verdict_is : judged (flow items m) m.pt options ≡ in_one_run (whole_frames run)

@@ -6,6 +6,7 @@ use Rattle.std.specs.Prelude.{◌≡◌, ◌⊎◌, ◌<◌, ◌≤◌, ◌+◌,
 use Rattle.std.specs.Prelude.{List, [], ◌∷◌, ◌++◌, length, take, slice_index, slice_index_or, is_some, codes}
 use Rattle.std.specs.Fmt.{decimal}
 use Rattle.std.specs.List.{count_by, filter}
+use Rattle.timing_base.specs.Shifts.{FlowOptions}
 use Rattle.pcap_reader.specs.WrittenHeads.{file_head, record_head}
 use Rattle.flow_shaper.specs.Bounds.{BoundAt}
 use Rattle.flow_shaper.specs.Plan.{Plan, Shaped}
@@ -21,8 +22,8 @@ use Rattle.udp_rtp.specs.Flow.{flow_packet}
 
 -- the first instant of TAI that a capture can't have as a timestamp if its clock is `tai` seconds behind, in
 -- nanoseconds
-abbrev pub end_of : (tai : ℕ) → ℕ
-end_of tai = (2 ^ 32 + tai) * 10 ^ 9
+abbrev pub end_of : (options : FlowOptions) → ℕ
+end_of options = (2 ^ 32 + options) * 10 ^ 9
 
 -- packets with these capture timestamps leave at these instants: as early as in any plan, and all before `end`
 pub record LeaveInTime (m : Media) (n : ℕ) (kind : Kind) (end : ℕ) (stamps departures : List ℕ) : Type 0 where
@@ -98,11 +99,11 @@ flow_records m items = filter (λ r. is_some (flow_packet m r)) items
 
 -- the departure of packet k of a flow as a timestamp of its capture. A packet before the judged ones keeps its own
 -- timestamp, a judged one leaves as planned, and one behind them leaves no earlier than the last of them.
-abbrev pub leaves_at : (tai head : ℕ) → (departures : List ℕ) → (k stamp : ℕ) → ℕ
-leaves_at tai head departures k stamp =
+abbrev pub leaves_at : (options : FlowOptions) (head : ℕ) → (departures : List ℕ) → (k stamp : ℕ) → ℕ
+leaves_at options head departures k stamp =
     if nat_lt k head then stamp
-    else if nat_lt k (head + length departures) then slice_index departures (k - head) - tai * 10 ^ 9
-    else max (stamp + tai * 10 ^ 9) (slice_index departures (length departures - 1)) - tai * 10 ^ 9
+    else if nat_lt k (head + length departures) then slice_index departures (k - head) - options * 10 ^ 9
+    else max (stamp + options * 10 ^ 9) (slice_index departures (length departures - 1)) - options * 10 ^ 9
 
 -- the packet records of packets that leave at these instants, the first of which is packet k
 abbrev pub records_text : (leaves : ℕ → ℕ → ℕ) → (k : ℕ) → List Record → List ℕ
@@ -111,22 +112,22 @@ records_text leaves k (r ∷ rs) =
     record_head (leaves k r.stamp) (length r.bytes) ++ (r.bytes ++ records_text leaves (k + 1) rs)
 
 -- the capture of a flow with these packet records; the judged packets, behind `head` others, leave at these instants
-abbrev pub shaped_capture : (tai head : ℕ) → (departures : List ℕ) → List Record → List ℕ
-shaped_capture tai head departures records = file_head ++ records_text (leaves_at tai head departures) 0 records
+abbrev pub shaped_capture : (options : FlowOptions) (head : ℕ) → (departures : List ℕ) → List Record → List ℕ
+shaped_capture options head departures records = file_head ++ records_text (leaves_at options head departures) 0 records
 
 -- the output for packets that leave at these instants: their list, or the capture
-abbrev pub Prints : (list : Bool) → (tai : ℕ) → Kind → Media → List Record → JudgedRun → (departures text : List ℕ)
+abbrev pub Prints : (list : Bool) → (options : FlowOptions) → Kind → Media → List Record → JudgedRun → (departures text : List ℕ)
     → Type 0
-Prints true tai kind m items run departures text = IsList m run.n kind run.stamps departures text
-Prints false tai kind m items run departures text = text ≡ shaped_capture tai run.head departures (flow_records m items)
+Prints true options kind m items run departures text = IsList m run.n kind run.stamps departures text
+Prints false options kind m items run departures text = text ≡ shaped_capture options run.head departures (flow_records m items)
 
 -- all judged packets leave in time
-pub record HasPlan (list : Bool) (tai : ℕ) (kind : Kind) (m : Media) (items : List Record) (run : JudgedRun)
+pub record HasPlan (list : Bool) (options : FlowOptions) (kind : Kind) (m : Media) (items : List Record) (run : JudgedRun)
     (answer : Answer) : Type 0 where
   pub departures : List ℕ
-  pub leave : LeaveInTime m run.n kind (end_of tai) run.stamps departures
+  pub leave : LeaveInTime m run.n kind (end_of options) run.stamps departures
   pub text : List ℕ
-  pub prints : Prints list tai kind m items run departures text
+  pub prints : Prints list options kind m items run departures text
   pub answer_is : answer ≡ record { text = text; status = status.Pass }
 
 -- `not shaped: packet I`, with the newline
@@ -137,11 +138,11 @@ not_shaped packet = record {
 }
 
 -- a judged packet is late
-pub record HasLate (tai : ℕ) (kind : Kind) (m : Media) (run : JudgedRun) (answer : Answer) : Type 0 where
+pub record HasLate (options : FlowOptions) (kind : Kind) (m : Media) (run : JudgedRun) (answer : Answer) : Type 0 where
   pub packet : ℕ
-  pub late : IsLate m run.n kind (end_of tai) run.stamps packet
+  pub late : IsLate m run.n kind (end_of options) run.stamps packet
   pub answer_is : answer ≡ not_shaped packet
 
 -- the answer for the judged packets of this media, in a capture with these packet records
-abbrev pub HasShape : (list : Bool) → (tai : ℕ) → Kind → Media → List Record → JudgedRun → Answer → Type 0
-HasShape list tai kind m items run answer = HasPlan list tai kind m items run answer ⊎ HasLate tai kind m run answer
+abbrev pub HasShape : (list : Bool) → (options : FlowOptions) → Kind → Media → List Record → JudgedRun → Answer → Type 0
+HasShape list options kind m items run answer = HasPlan list options kind m items run answer ⊎ HasLate options kind m run answer

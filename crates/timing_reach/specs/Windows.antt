@@ -3,6 +3,7 @@
 -- neither underflow nor overflow. Offsets are microseconds, and judged packets count from 0. This project's profile.
 use Rattle.std.specs.Prelude.{◌≡◌, ℕ, List, [], ◌++◌, Option, Some, None, codes}
 use Rattle.std.specs.Fmt.{decimal}
+use Rattle.timing_base.specs.Shifts.{FlowOptions}
 use Rattle.timing_base.specs.Captures.{Record}
 use Rattle.timing_base.specs.Jobs.{FlowJob}
 use Rattle.timing_base.specs.Judged.{JudgedRun, judged}
@@ -56,9 +57,9 @@ pub record HasLines (m : Media) (run : JudgedRun) (answer : Answer) : Type 0 whe
 
 -- the answer of `window` for the flow of this media in a capture with these packet records, however it ends; `tai` is
 -- in seconds
-abbrev pub DefinesWindow : (tai : ℕ) → Media → List Record → FileNote → Answer → Type 0
-DefinesWindow tai m items note answer = OnRun m (HasLines m) (judged (flow items m) m.pt tai) answer
+abbrev pub DefinesWindow : (options : FlowOptions) → Media → List Record → FileNote → Answer → Type 0
+DefinesWindow options m items note answer = OnRun m (HasLines m) (judged (flow items m) m.pt options) answer
 
 -- what `window` asks
 abbrev pub window_query : FlowJob → Query
-window_query job = flow_query job (DefinesWindow job.tai)
+window_query job = flow_query job (DefinesWindow job.options)

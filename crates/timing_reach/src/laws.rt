@@ -3,6 +3,7 @@
 pub mod shapes;
 
 ghost use Rattle.std.specs.Prelude.{◌≡◌, ◌++◌, ◌∷◌, [], ℕ, List, All, None, codes, map, pos, negsuc, true, false};
+ghost use Rattle.timing_base.specs.Shifts.{FlowOptions};
 ghost use Rattle.timing_base.specs.Captures.{Record};
 ghost use Rattle.timing_base.specs.Jobs.{FlowJob, ScanJob, SdpJob, SkewJob};
 ghost use Rattle.timing_base.specs.Judged.{FlowRun, in_one_run, in_runs, judged, no_whole_frame};
@@ -69,8 +70,8 @@ pub fn lines_by_hand()
 pub fn unjudged_by_hand()
     ensures no_media { no_such_media
         ≡ record { text = codes "no such media\n"; status = status.NotAllJudged } }
-    ensures absent { (media : Media) (pt tai : ℕ)
-        (answer : Answer) → OnRun media (HasLines media) (judged [] pt tai) answer
+    ensures absent { (media : Media) (pt : ℕ) (options : FlowOptions)
+        (answer : Answer) → OnRun media (HasLines media) (judged [] pt options) answer
         → answer ≡ record { text = codes "not judged: absent\n"; status = status.NotAllJudged } }
     ensures no_frame { (media : Media) (answer : Answer)
         → OnRun media (HasLines media) (in_one_run (no_whole_frame 5)) answer

@@ -10,6 +10,7 @@ mod walk;
 mod words;
 
 ghost use Rattle.std.specs.Prelude.{◌≡◌, ◌≤◌, ◌∷◌, [], Bool, List, None, Some, IfErr, IfOk, ℕ, false, slice_get, true};
+ghost use Rattle.timing_base.specs.Shifts.{FlowOptions as FlowOptionsValue};
 ghost use Rattle.timing_base.specs.Captures.{Record};
 ghost use Rattle.timing_base.specs.Judged.{judged};
 ghost use Rattle.timing_outside.specs.Causes.{Rose};
@@ -39,20 +40,19 @@ fn told_of(
     alloc: Global,
     media: &Media,
     kind: Kind,
-    tai: u64,
+    options: FlowOptions,
     kept: KeptFlow,
 ) -> Result<Answer, OutOfMemory>
-    requires tai { tai ≤ 1000 }
-    requires read { (list : Bool) × IsRead media.now tai list kept }
+    requires read { (list : Bool) × IsRead media.now options list kept }
     ensures ends { IfOk result (λ answer. judged_ends false answer.status ≡ true) }
     ensures answers { IfOk result (λ answer. (list : Bool) (items : List Record)
-        → IsKeptFlow media.now tai list items kept
-        → OnRun media.now (HasShape list tai kind media.now items)
-        (judged (flow items media.now) media.now.pt tai) answer) }
+        → IsKeptFlow media.now options list items kept
+        → OnRun media.now (HasShape list options kind media.now items)
+        (judged (flow items media.now) media.now.pt options) answer) }
 {
     let KeptFlow { verdict, packets } = kept;
     match &verdict {
-        Verdict::Judged(judged) => shape_kept(alloc, media, kind, tai, judged, packets),
+        Verdict::Judged(judged) => shape_kept(alloc, media, kind, options, judged, packets),
         verdict => not_judged(alloc, media, verdict),
     }
 }
@@ -66,15 +66,15 @@ fn read<H: Shelf>(
 ) -> Result<KeptFlow, Failure>
     ensures told { IfOk result (λ kept. (text : List ℕ)
         → classic_texts (H.text shelf.old) job.now.flow.capture ≡ Some text
-        → IsKeptIn media.now job.now.flow.tai job.now.list text kept) }
-    ensures read { IfOk result (λ kept. IsRead media.now job.now.flow.tai job.now.list kept) }
+        → IsKeptIn media.now job.now.flow.options job.now.list text kept) }
+    ensures read { IfOk result (λ kept. IsRead media.now job.now.flow.options job.now.list kept) }
     ensures cause { IfErr result (λ e. OnReadFault e (λ i. (i ≡ Input.Capture 0)
         × Rose (H.faults shelf.old job.now.flow.capture) (H.faults shelf.new job.now.flow.capture))) }
     ensures there { IfOk result (λ _. ¬ H.lacks shelf.old job.now.flow.capture) }
     ensures stays { StaysAs H.text H.lacks H.faults shelf.old shelf.new }
 {
     let flow = &job.flow;
-    let reading = Reading::new(alloc, media, flow.media, flow.tai, job.list)?;
+    let reading = Reading::new(alloc, media, flow.media, flow.options, job.list)?;
     let reading = take_flow(alloc, shelf, flow.capture.as_str(), media, reading)?;
     Ok(reading.finish()?)
 }
@@ -86,16 +86,16 @@ fn answer_kept(
     media: &Media,
     kept: KeptFlow,
 ) -> Result<Answer, OutOfMemory>
-    requires { IsRead media.now job.now.flow.tai job.now.list kept }
+    requires { IsRead media.now job.now.flow.options job.now.list kept }
     ensures ends { IfOk result (λ answer. judged_ends false answer.status ≡ true) }
     ensures some { IfOk result (λ answer. AnswersSome job.now media.now answer) }
     ensures answers { IfOk result (λ answer. (items : List Record)
-        → IsKeptFlow media.now job.now.flow.tai job.now.list items kept
-        → OnRun media.now (HasShape job.now.list job.now.flow.tai job.now.kind media.now items)
-        (judged (flow items media.now) media.now.pt job.now.flow.tai) answer) }
+        → IsKeptFlow media.now job.now.flow.options job.now.list items kept
+        → OnRun media.now (HasShape job.now.list job.now.flow.options job.now.kind media.now items)
+        (judged (flow items media.now) media.now.pt job.now.flow.options) answer) }
 {
     let flow = &job.flow;
-    told_of(alloc, media, job.kind, flow.tai, kept)
+    told_of(alloc, media, job.kind, flow.options, kept)
 }
 
 /// Returns the answer for the flow of the media of a job, or the reason why there is none. The answer is that for the

@@ -6,6 +6,7 @@ mod reading;
 mod windows;
 
 ghost use Rattle.std.specs.Prelude.{◌≡◌, ◌∷◌, [], ℕ, List, None, Some, IfErr, IfOk, false, slice_get, true};
+ghost use Rattle.timing_base.specs.Shifts.{FlowOptions};
 ghost use Rattle.timing_base.specs.Judged.{judged};
 ghost use Rattle.timing_base.specs.declared.packet.FlowPacket.{FlowPacket as PacketValue};
 ghost use Rattle.timing_outside.specs.Causes.{Rose};
@@ -32,9 +33,9 @@ use timing_steps::{Answer, Command, Failure, early_of_media, media_of};
 fn told_of(alloc: Global, media: &Media, measured: &Measured) -> Result<Answer, OutOfMemory>
     requires { HasWindows measured.now }
     ensures ends { IfOk result (λ answer. judged_ends false answer.status ≡ true) }
-    ensures answers { IfOk result (λ answer. (tai : ℕ) (packets : List PacketValue)
-        → IsMeasured media.now tai packets measured.now
-        → OnRun media.now (HasLines media.now) (judged packets media.now.pt tai) answer) }
+    ensures answers { IfOk result (λ answer. (options : FlowOptions) (packets : List PacketValue)
+        → IsMeasured media.now options packets measured.now
+        → OnRun media.now (HasLines media.now) (judged packets media.now.pt options) answer) }
 {
     match &measured.verdict {
         Verdict::Judged(_) => windowed(alloc, &measured.windows.unwrap()),
@@ -51,14 +52,14 @@ fn measure<H: Shelf>(
 ) -> Result<Measured, Failure>
     ensures told { IfOk result (λ measured. (text : List ℕ)
         → classic_texts (H.text shelf.old) job.now.capture ≡ Some text
-        → IsMeasuredIn media.now job.now.tai text measured) }
+        → IsMeasuredIn media.now job.now.options text measured) }
     ensures windows { IfOk result (λ measured. HasWindows measured) }
     ensures cause { IfErr result (λ e. OnReadFault e (λ i. (i ≡ Input.Capture 0)
         × Rose (H.faults shelf.old job.now.capture) (H.faults shelf.new job.now.capture))) }
     ensures there { IfOk result (λ _. ¬ H.lacks shelf.old job.now.capture) }
     ensures stays { StaysAs H.text H.lacks H.faults shelf.old shelf.new }
 {
-    let reading = Reading::new(alloc, media, job.media, job.tai);
+    let reading = Reading::new(alloc, media, job.media, job.options);
     let reading = take_flow(alloc, shelf, job.capture.as_str(), media, reading)?;
     Ok(reading.finish()?)
 }

@@ -2,6 +2,7 @@
 use Rattle.std.proofs.Common.{◌≡◌, ◌≤◌, ◌+◌, ◌*◌, ◌^◌, ℕ, zero, suc, Bool, true, false, List, [], ◌∷◌, length, Some, refl, arith, ap, ◌∙◌, sym}
 use Rattle.std.proofs.lemmas.List.Elements.{All-append, All-cons, All-head, All-nil, All-tail, All-weaker}
 use Rattle.std.specs.Prelude.{All, map, slice_get}
+use Rattle.timing_base.specs.Shifts.{FlowOptions}
 use Rattle.timing_base.specs.Captures.{Record, joined}
 use Rattle.timing_base.specs.Grouped.{IsGrouped, IsGroupedOutcome, IsGroupedVerdict}
 use Rattle.timing_base.specs.Judged.{FlowRun, FlowVerdict, JudgedRun, RunOutcome, absent, gap, in_one_run, in_runs, judged, no_whole_frame, refused}
@@ -63,77 +64,77 @@ flow-exact m (in_one_run (whole_frames run)) is g = (judged_values m run, refl, 
 flow-exact m (in_runs runs) is g = (map (run_of m) runs, refl, runs-exact m runs is g.outcomes)
 
 -- a row of this file that tells of its media there
-record IsInFile (media : List Media) (tai file : ℕ) (items : List Record) (r : Row) : Type 0 where
+record IsInFile (media : List Media) (options : FlowOptions) (file : ℕ) (items : List Record) (r : Row) : Type 0 where
   file_is : r.key.file ≡ file
   m : Media
   there : slice_get media r.key.media ≡ Some m
-  tells : TellsFlow m (judged (flow items m) m.pt tai) r.verdict
+  tells : TellsFlow m (judged (flow items m) m.pt options) r.verdict
 
-file-rows : (media : List Media) (tai file number : ℕ) (ms : List Media) (items : List Record) → All IsMedia ms
+file-rows : (media : List Media) (options : FlowOptions) (file number : ℕ) (ms : List Media) (items : List Record) → All IsMedia ms
     → ((k : ℕ) → slice_get media (number + k) ≡ slice_get ms k)
-    → ((m : Media) → IsGroupedVerdict (judged (flow items m) m.pt tai))
-    → All (IsInFile media tai file items) (rows_from tai file number ms items)
-file-rows media tai file number [] items are at g = All-nil (IsInFile media tai file items)
-file-rows media tai file number (m ∷ ms) items are at g =
+    → ((m : Media) → IsGroupedVerdict (judged (flow items m) m.pt options))
+    → All (IsInFile media options file items) (rows_from options file number ms items)
+file-rows media options file number [] items are at g = All-nil (IsInFile media options file items)
+file-rows media options file number (m ∷ ms) items are at g =
     let z : number ≡ number + 0 = omega arith in
-    All-cons (IsInFile media tai file items) (row (flow items m) (key_of file number) m tai) (rows_from tai file (number + 1) ms items)
+    All-cons (IsInFile media options file items) (row (flow items m) (key_of file number) m options) (rows_from options file (number + 1) ms items)
     record {
       file_is = refl;
       m = m;
       there = ap (slice_get media) z ∙ at 0;
-      tells = flow-exact m (judged (flow items m) m.pt tai) (All-head IsMedia m ms are) (g m);
+      tells = flow-exact m (judged (flow items m) m.pt options) (All-head IsMedia m ms are) (g m);
     }
-    (file-rows media tai file (number + 1) ms items (All-tail IsMedia m ms are)
+    (file-rows media options file (number + 1) ms items (All-tail IsMedia m ms are)
     (λ k. let s : number + 1 + k ≡ number + suc k = omega arith in ap (slice_get media) s ∙ at (suc k)) g)
 
-all-rows : (media : List Media) (tai file : ℕ) (items : List Record) → All IsMedia media → ((m : Media) → IsGroupedVerdict (judged (flow items m) m.pt tai))
-    → All (IsInFile media tai file items) (rows_of tai file media items)
-all-rows media tai file items are g =
-    file-rows media tai file 0 media items are (λ k. let z : 0 + k ≡ k = omega arith in ap (slice_get media) z) g
+all-rows : (media : List Media) (options : FlowOptions) (file : ℕ) (items : List Record) → All IsMedia media → ((m : Media) → IsGroupedVerdict (judged (flow items m) m.pt options))
+    → All (IsInFile media options file items) (rows_of options file media items)
+all-rows media options file items are g =
+    file-rows media options file 0 media items are (λ k. let z : 0 + k ≡ k = omega arith in ap (slice_get media) z) g
 
 -- the same of one of these files
-record IsInFiles (media : List Media) (tai first : ℕ) (files : List (List Record)) (r : Row) : Type 0 where
+record IsInFiles (media : List Media) (options : FlowOptions) (first : ℕ) (files : List (List Record)) (r : Row) : Type 0 where
   place : ℕ
   file_is : r.key.file ≡ first + place
   items : List Record
   found : slice_get files place ≡ Some items
   m : Media
   there : slice_get media r.key.media ≡ Some m
-  tells : TellsFlow m (judged (flow items m) m.pt tai) r.verdict
+  tells : TellsFlow m (judged (flow items m) m.pt options) r.verdict
 
-files-rows : (media : List Media) (tai first : ℕ) (texts : List (List ℕ)) (files : List (List Record)) (notes : List FileNote) → tai ≤ 1000 → All IsMedia media
+files-rows : (media : List Media) (options : FlowOptions) (first : ℕ) (texts : List (List ℕ)) (files : List (List Record)) (notes : List FileNote) → options ≤ 1000 → All IsMedia media
     → All AreBytes texts
-    → AreRecords texts files notes → All (IsInFiles media tai first files) (rows_of_files tai first media files)
-files-rows media tai first [] [] [] seconds are bytes h = All-nil (IsInFiles media tai first [])
-files-rows media tai first (t ∷ ts) (items ∷ files) (n ∷ ns) seconds are bytes h =
-    let P = IsInFiles media tai first (items ∷ files) in
+    → AreRecords texts files notes → All (IsInFiles media options first files) (rows_of_files options first media files)
+files-rows media options first [] [] [] seconds are bytes h = All-nil (IsInFiles media options first [])
+files-rows media options first (t ∷ ts) (items ∷ files) (n ∷ ns) seconds are bytes h =
+    let P = IsInFiles media options first (items ∷ files) in
     let small = one-small t items n (All-head AreBytes t ts bytes) h.0 in
-    All-append P (rows_of tai first media items) (rows_of_files tai (first + 1) media files)
-    (All-weaker (IsInFile media tai first items) P
+    All-append P (rows_of options first media items) (rows_of_files options (first + 1) media files)
+    (All-weaker (IsInFile media options first items) P
     (λ r k. record { place = zero; file_is = omega (arith, k.file_is); items = items; found = refl; m = k.m; there = k.there; tells = k.tells })
-    (rows_of tai first media items)
-    (all-rows media tai first items are (λ m. flow-grouped m tai 0 (2 ^ 36) items seconds (omega arith) small)))
-    (All-weaker (IsInFiles media tai (first + 1) files) P
+    (rows_of options first media items)
+    (all-rows media options first items are (λ m. flow-grouped m options 0 (2 ^ 36) items seconds (omega arith) small)))
+    (All-weaker (IsInFiles media options (first + 1) files) P
     (λ r k. record { place = suc k.place; file_is = omega (arith, k.file_is); items = k.items; found = k.found; m = k.m; there = k.there; tells = k.tells })
-    (rows_of_files tai (first + 1) media files)
-    (files-rows media tai (first + 1) ts files ns seconds are (All-tail AreBytes t ts bytes) h.1))
-files-rows media tai first [] [] (n ∷ ns) seconds are bytes h = absurd h
-files-rows media tai first [] (f ∷ fs) notes seconds are bytes h = absurd h
-files-rows media tai first (t ∷ ts) [] notes seconds are bytes h = absurd h
-files-rows media tai first (t ∷ ts) (f ∷ fs) [] seconds are bytes h = absurd h
+    (rows_of_files options (first + 1) media files)
+    (files-rows media options (first + 1) ts files ns seconds are (All-tail AreBytes t ts bytes) h.1))
+files-rows media options first [] [] (n ∷ ns) seconds are bytes h = absurd h
+files-rows media options first [] (f ∷ fs) notes seconds are bytes h = absurd h
+files-rows media options first (t ∷ ts) [] notes seconds are bytes h = absurd h
+files-rows media options first (t ∷ ts) (f ∷ fs) [] seconds are bytes h = absurd h
 
 -- what the rows of captures tell
-pub rows-exact : (b : Bool) (tai : ℕ) (media : List Media) (texts : List (List ℕ)) (files : List (List Record)) (notes : List FileNote) → tai ≤ 1000
+pub rows-exact : (b : Bool) (options : FlowOptions) (media : List Media) (texts : List (List ℕ)) (files : List (List Record)) (notes : List FileNote) → options ≤ 1000
     → length texts ≤ 16 → All IsMedia media
-    → All AreBytes texts → AreRecords texts files notes → All (IsExactRow b tai media files) (rows_over b tai media files)
-rows-exact true tai media texts files notes seconds few are bytes h =
-    All-weaker (IsInFile media tai 0 (joined files)) (IsExactRow true tai media files)
+    → All AreBytes texts → AreRecords texts files notes → All (IsExactRow b options media files) (rows_over b options media files)
+rows-exact true options media texts files notes seconds few are bytes h =
+    All-weaker (IsInFile media options 0 (joined files)) (IsExactRow true options media files)
     (λ r k. record { m = k.m; media_is = k.there; items = joined files; items_are = refl; tells = k.tells })
-    (rows_of tai 0 media (joined files))
-    (all-rows media tai 0 (joined files) are
-    (λ m. flow-grouped m tai 0 (2 ^ 36 * length texts) (joined files) seconds (omega (arith, few)) (joined-small 0 texts files notes bytes h)))
-rows-exact false tai media texts files notes seconds few are bytes h =
-    All-weaker (IsInFiles media tai 0 files) (IsExactRow false tai media files)
+    (rows_of options 0 media (joined files))
+    (all-rows media options 0 (joined files) are
+    (λ m. flow-grouped m options 0 (2 ^ 36 * length texts) (joined files) seconds (omega (arith, few)) (joined-small 0 texts files notes bytes h)))
+rows-exact false options media texts files notes seconds few are bytes h =
+    All-weaker (IsInFiles media options 0 files) (IsExactRow false options media files)
     (λ r k. let e : k.place ≡ r.key.file = omega (arith, k.file_is) in
     record { m = k.m; media_is = k.there; items = k.items; items_are = ap (slice_get files) (sym e) ∙ k.found; tells = k.tells })
-    (rows_of_files tai 0 media files) (files-rows media tai 0 texts files notes seconds are bytes h)
+    (rows_of_files options 0 media files) (files-rows media options 0 texts files notes seconds are bytes h)

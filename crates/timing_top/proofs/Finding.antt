@@ -6,6 +6,7 @@ use Rattle.std.proofs.lemmas.Grind.{flat_map-append}
 use Rattle.std.proofs.lemmas.List.{length-map}
 use Rattle.std.proofs.lemmas.List.Elements.{All-append, All-head, All-nil, All-tail, All-weaker}
 use Rattle.std.specs.Prelude.{All, Ok, if◌then◌else◌, map, nat_lt, slice_get, slice_index_or}
+use Rattle.timing_base.specs.Shifts.{FlowOptions}
 use Rattle.timing_base.specs.Captures.{Record, joined, raised}
 use Rattle.timing_base.specs.Grouped.{IsGroupedVerdict}
 use Rattle.timing_base.specs.Jobs.{ReportJob}
@@ -29,63 +30,63 @@ use Rattle.timing_top.proofs.Confirming.{IsOfFlow, flow-of}
 use Rattle.timing_top.proofs.Small.{flow-grouped, joined-small, one-small}
 
 -- a fail of one of these media in this file, which its records confirm
-record IsInFile (media : List Media) (tai file : ℕ) (items : List Record) (c : ReportProof) : Type 0 where
+record IsInFile (media : List Media) (options : FlowOptions) (file : ℕ) (items : List Record) (c : ReportProof) : Type 0 where
   file_is : c.key.file ≡ file
   m : Media
   there : slice_get media c.key.media ≡ Some m
-  says : Says m c.kind c.proof c.run (judged (flow items m) m.pt tai) (Ok true)
+  says : Says m c.kind c.proof c.run (judged (flow items m) m.pt options) (Ok true)
 
 -- the fails of a row are those of a media that is there
-one-row : (media : List Media) (tai file number : ℕ) (m : Media) (items : List Record) → IsMedia m → slice_get media number ≡ Some m
-    → IsGroupedVerdict (judged (flow items m) m.pt tai)
-    → All (IsInFile media tai file items) (verdict_fails (key_of file number) (verdict_of m (judged (flow items m) m.pt tai)))
-one-row media tai file number m items is there g =
-    All-weaker (IsOfFlow m (key_of file number) (judged (flow items m) m.pt tai)) (IsInFile media tai file items)
+one-row : (media : List Media) (options : FlowOptions) (file number : ℕ) (m : Media) (items : List Record) → IsMedia m → slice_get media number ≡ Some m
+    → IsGroupedVerdict (judged (flow items m) m.pt options)
+    → All (IsInFile media options file items) (verdict_fails (key_of file number) (verdict_of m (judged (flow items m) m.pt options)))
+one-row media options file number m items is there g =
+    All-weaker (IsOfFlow m (key_of file number) (judged (flow items m) m.pt options)) (IsInFile media options file items)
     (λ c h. record {
       file_is = ap (λ k. k.file) h.key_is;
       m = m;
       there = ap (λ k. slice_get media k.media) h.key_is ∙ there;
       says = h.says;
     })
-    (verdict_fails (key_of file number) (verdict_of m (judged (flow items m) m.pt tai)))
-    (flow-of m (key_of file number) (judged (flow items m) m.pt tai) is g)
+    (verdict_fails (key_of file number) (verdict_of m (judged (flow items m) m.pt options)))
+    (flow-of m (key_of file number) (judged (flow items m) m.pt options) is g)
 
 -- the fails of the rows of one file
-file-rows : (media : List Media) (tai file number : ℕ) (ms : List Media) (items : List Record) → All IsMedia ms
+file-rows : (media : List Media) (options : FlowOptions) (file number : ℕ) (ms : List Media) (items : List Record) → All IsMedia ms
     → ((k : ℕ) → slice_get media (number + k) ≡ slice_get ms k)
-    → ((m : Media) → IsGroupedVerdict (judged (flow items m) m.pt tai))
-    → All (IsInFile media tai file items) (fails_of (rows_from tai file number ms items))
-file-rows media tai file number [] items are at g = All-nil (IsInFile media tai file items)
-file-rows media tai file number (m ∷ ms) items are at g =
+    → ((m : Media) → IsGroupedVerdict (judged (flow items m) m.pt options))
+    → All (IsInFile media options file items) (fails_of (rows_from options file number ms items))
+file-rows media options file number [] items are at g = All-nil (IsInFile media options file items)
+file-rows media options file number (m ∷ ms) items are at g =
     let z : number ≡ number + 0 = omega arith in
-    All-append (IsInFile media tai file items) (verdict_fails (key_of file number) (verdict_of m (judged (flow items m) m.pt tai)))
-    (fails_of (rows_from tai file (number + 1) ms items))
-    (one-row media tai file number m items (All-head IsMedia m ms are) (ap (slice_get media) z ∙ at 0) (g m))
-    (file-rows media tai file (number + 1) ms items (All-tail IsMedia m ms are)
+    All-append (IsInFile media options file items) (verdict_fails (key_of file number) (verdict_of m (judged (flow items m) m.pt options)))
+    (fails_of (rows_from options file (number + 1) ms items))
+    (one-row media options file number m items (All-head IsMedia m ms are) (ap (slice_get media) z ∙ at 0) (g m))
+    (file-rows media options file (number + 1) ms items (All-tail IsMedia m ms are)
     (λ k. let s : number + 1 + k ≡ number + suc k = omega arith in ap (slice_get media) s ∙ at (suc k)) g)
 
-all-rows : (media : List Media) (tai file : ℕ) (items : List Record) → All IsMedia media → ((m : Media) → IsGroupedVerdict (judged (flow items m) m.pt tai))
-    → All (IsInFile media tai file items) (fails_of (rows_of tai file media items))
-all-rows media tai file items are g =
-    file-rows media tai file 0 media items are (λ k. let z : 0 + k ≡ k = omega arith in ap (slice_get media) z) g
+all-rows : (media : List Media) (options : FlowOptions) (file : ℕ) (items : List Record) → All IsMedia media → ((m : Media) → IsGroupedVerdict (judged (flow items m) m.pt options))
+    → All (IsInFile media options file items) (fails_of (rows_of options file media items))
+all-rows media options file items are g =
+    file-rows media options file 0 media items are (λ k. let z : 0 + k ≡ k = omega arith in ap (slice_get media) z) g
 
 -- one capture that is joined is itself
 one-joined : (items : List Record) → joined (items ∷ []) ≡ items
 one-joined items = append-nil (map (raised 0) items) ∙ map-raised items
 
 -- a fail of one of these captures, which its text confirms
-record IsInFiles (media : List Media) (tai first : ℕ) (names : List (List ℕ)) (text : List ℕ → List ℕ) (c : ReportProof) : Type 0 where
+record IsInFiles (media : List Media) (options : FlowOptions) (first : ℕ) (names : List (List ℕ)) (text : List ℕ → List ℕ) (c : ReportProof) : Type 0 where
   place : ℕ
   within : place < length names
   file_is : c.key.file ≡ first + place
   m : Media
   there : slice_get media c.key.media ≡ Some m
-  finds : Finds m c tai (text (slice_index_or names place []) ∷ []) (Ok true)
+  finds : Finds m c options (text (slice_index_or names place []) ∷ []) (Ok true)
 
-here-finds : (media : List Media) (tai first : ℕ) (name : List ℕ) (names : List (List ℕ)) (text : List ℕ → List ℕ) (items : List Record) (end : FileNote)
+here-finds : (media : List Media) (options : FlowOptions) (first : ℕ) (name : List ℕ) (names : List (List ℕ)) (text : List ℕ → List ℕ) (items : List Record) (end : FileNote)
     → Records (text name) (2 ^ 40) items end
-    → (c : ReportProof) → IsInFile media tai first items c → IsInFiles media tai first (name ∷ names) text c
-here-finds media tai first name names text items end records c h = record {
+    → (c : ReportProof) → IsInFile media options first items c → IsInFiles media options first (name ∷ names) text c
+here-finds media options first name names text items end records c h = record {
   place = zero;
   within = omega arith;
   file_is = omega (arith, h.file_is);
@@ -95,32 +96,32 @@ here-finds media tai first name names text items end records c h = record {
     files = items ∷ [];
     notes = end ∷ [];
     records = (records, tt);
-    says = subst (λ l. Says h.m c.kind c.proof c.run (judged (flow l h.m) h.m.pt tai) (Ok true)) (sym (one-joined items)) h.says;
+    says = subst (λ l. Says h.m c.kind c.proof c.run (judged (flow l h.m) h.m.pt options) (Ok true)) (sym (one-joined items)) h.says;
   };
 }
 
 -- the fails of the rows of files
-files-rows : (media : List Media) (tai first : ℕ) (names : List (List ℕ)) (text : List ℕ → List ℕ) (files : List (List Record)) (notes : List FileNote) → tai
+files-rows : (media : List Media) (options : FlowOptions) (first : ℕ) (names : List (List ℕ)) (text : List ℕ → List ℕ) (files : List (List Record)) (notes : List FileNote) → options
     ≤ 1000 → All IsMedia media
     → All AreBytes (map text names) → AreRecords (map text names) files notes
-    → All (IsInFiles media tai first names text) (fails_of (rows_of_files tai first media files))
-files-rows media tai first [] text [] [] seconds are bytes h = All-nil (IsInFiles media tai first [] text)
-files-rows media tai first (name ∷ names) text (items ∷ files) (end ∷ notes) seconds are bytes h =
-    let P = IsInFiles media tai first (name ∷ names) text in
+    → All (IsInFiles media options first names text) (fails_of (rows_of_files options first media files))
+files-rows media options first [] text [] [] seconds are bytes h = All-nil (IsInFiles media options first [] text)
+files-rows media options first (name ∷ names) text (items ∷ files) (end ∷ notes) seconds are bytes h =
+    let P = IsInFiles media options first (name ∷ names) text in
     let small = one-small (text name) items end (All-head AreBytes (text name) (map text names) bytes) h.0 in
-    subst (All P) (sym (flat_map-append (λ (r : Row). verdict_fails r.key r.verdict) (rows_of tai first media items)
-    (rows_of_files tai (first + 1) media files)))
-    (All-append P (fails_of (rows_of tai first media items)) (fails_of (rows_of_files tai (first + 1) media files))
-    (All-weaker (IsInFile media tai first items) P (here-finds media tai first name names text items end h.0) (fails_of (rows_of tai first media items))
-    (all-rows media tai first items are (λ m. flow-grouped m tai 0 (2 ^ 36) items seconds (omega arith) small)))
-    (All-weaker (IsInFiles media tai (first + 1) names text) P
+    subst (All P) (sym (flat_map-append (λ (r : Row). verdict_fails r.key r.verdict) (rows_of options first media items)
+    (rows_of_files options (first + 1) media files)))
+    (All-append P (fails_of (rows_of options first media items)) (fails_of (rows_of_files options (first + 1) media files))
+    (All-weaker (IsInFile media options first items) P (here-finds media options first name names text items end h.0) (fails_of (rows_of options first media items))
+    (all-rows media options first items are (λ m. flow-grouped m options 0 (2 ^ 36) items seconds (omega arith) small)))
+    (All-weaker (IsInFiles media options (first + 1) names text) P
     (λ c k. record { place = suc k.place; within = omega (arith, k.within); file_is = omega (arith, k.file_is); m = k.m; there = k.there; finds = k.finds })
-    (fails_of (rows_of_files tai (first + 1) media files))
-    (files-rows media tai (first + 1) names text files notes seconds are (All-tail AreBytes (text name) (map text names) bytes) h.1)))
-files-rows media tai first [] text [] (n ∷ ns) seconds are bytes h = absurd h
-files-rows media tai first [] text (f ∷ fs) notes seconds are bytes h = absurd h
-files-rows media tai first (name ∷ names) text [] notes seconds are bytes h = absurd h
-files-rows media tai first (name ∷ names) text (f ∷ fs) [] seconds are bytes h = absurd h
+    (fails_of (rows_of_files options (first + 1) media files))
+    (files-rows media options (first + 1) names text files notes seconds are (All-tail AreBytes (text name) (map text names) bytes) h.1)))
+files-rows media options first [] text [] (n ∷ ns) seconds are bytes h = absurd h
+files-rows media options first [] text (f ∷ fs) notes seconds are bytes h = absurd h
+files-rows media options first (name ∷ names) text [] notes seconds are bytes h = absurd h
+files-rows media options first (name ∷ names) text (f ∷ fs) [] seconds are bytes h = absurd h
 
 -- a fail of the job's rows, which its captures confirm
 abbrev pub IsConfirmed : ReportJob → List Media → (List ℕ → List ℕ) → ReportProof → Type 0
@@ -131,28 +132,28 @@ media-there : (most : ℕ) (media : List Media) (c : ReportProof) (m : Media) �
 media-there most media c m low there = ap (λ b. if b then slice_get media c.key.media else None) (lt-ltb c.key.file most low) ∙ there
 
 -- the job of `verify-report` with these fields
-abbrev job_with : (sdp name : List ℕ) (tai : ℕ) (captures : List (List ℕ)) → Bool → ReportJob
-job_with sdp name tai captures joined = record { sdp = sdp; report = name; tai = tai; captures = captures; joined = joined }
+abbrev job_with : (sdp name : List ℕ) (options : FlowOptions) (captures : List (List ℕ)) → Bool → ReportJob
+job_with sdp name options captures joined = record { sdp = sdp; report = name; options = options; captures = captures; joined = joined }
 
 -- the captures confirm each fail of the rows, joined or each for itself
-pub confirmed-rows : (sdp name : List ℕ) (tai : ℕ) (captures : List (List ℕ)) (b : Bool) (media : List Media) (text : List ℕ → List ℕ)
+pub confirmed-rows : (sdp name : List ℕ) (options : FlowOptions) (captures : List (List ℕ)) (b : Bool) (media : List Media) (text : List ℕ → List ℕ)
     (files : List (List Record)) (notes : List FileNote)
-    → tai ≤ 1000 → length captures ≤ 16 → All IsMedia media → All AreBytes (map text captures) → AreRecords (map text captures) files notes
-    → All (IsConfirmed (job_with sdp name tai captures b) media text) (fails_of (rows_over b tai media files))
-confirmed-rows sdp name tai captures true media text files notes seconds few are bytes h =
-    let job = job_with sdp name tai captures true in
+    → options ≤ 1000 → length captures ≤ 16 → All IsMedia media → All AreBytes (map text captures) → AreRecords (map text captures) files notes
+    → All (IsConfirmed (job_with sdp name options captures b) media text) (fails_of (rows_over b options media files))
+confirmed-rows sdp name options captures true media text files notes seconds few are bytes h =
+    let job = job_with sdp name options captures true in
     let texts = map text captures in
     let count : length texts ≡ length captures = length-map captures text in
     let small = joined-small 0 texts files notes bytes h in
-    All-weaker (IsInFile media tai 0 (joined files)) (IsConfirmed job media text)
+    All-weaker (IsInFile media options 0 (joined files)) (IsConfirmed job media text)
     (λ c k. subst (λ o. FindsOf o job c text (Ok true)) (sym (media-there 1 media c k.m (omega (arith, k.file_is)) k.there))
     record { files = files; notes = notes; records = h; says = k.says })
-    (fails_of (rows_of tai 0 media (joined files)))
-    (all-rows media tai 0 (joined files) are (λ m. flow-grouped m tai 0 (2 ^ 36 * length texts) (joined files) seconds (omega (arith, count, few)) small))
-confirmed-rows sdp name tai captures false media text files notes seconds few are bytes h =
-    let job = job_with sdp name tai captures false in
-    All-weaker (IsInFiles media tai 0 captures text) (IsConfirmed job media text)
+    (fails_of (rows_of options 0 media (joined files)))
+    (all-rows media options 0 (joined files) are (λ m. flow-grouped m options 0 (2 ^ 36 * length texts) (joined files) seconds (omega (arith, count, few)) small))
+confirmed-rows sdp name options captures false media text files notes seconds few are bytes h =
+    let job = job_with sdp name options captures false in
+    All-weaker (IsInFiles media options 0 captures text) (IsConfirmed job media text)
     (λ c k. let e : k.place ≡ c.key.file = omega (arith, k.file_is) in
     subst (λ o. FindsOf o job c text (Ok true)) (sym (media-there (length captures) media c k.m (omega (arith, k.file_is, k.within)) k.there))
-    (subst (λ i. Finds k.m c tai (text (slice_index_or captures i []) ∷ []) (Ok true)) e k.finds))
-    (fails_of (rows_of_files tai 0 media files)) (files-rows media tai 0 captures text files notes seconds are bytes h)
+    (subst (λ i. Finds k.m c options (text (slice_index_or captures i []) ∷ []) (Ok true)) e k.finds))
+    (fails_of (rows_of_files options 0 media files)) (files-rows media options 0 captures text files notes seconds are bytes h)

@@ -27,25 +27,25 @@ use Rattle.timing_top.proofs.Rows.{keys-over, records-length, rows-fit}
 pub report-told : (job : CheckJob) (media : List Media) (text : List ℕ → List ℕ) (files : List (List Record)) (notes : List FileNote)
     → IsReadable job media text
     → AreRecords (map text job.captures) files notes
-    → length (json_text job media notes (rows_over job.joined job.tai media files)) ≤ 16777216
-    → IsReport (json_text job media notes (rows_over job.joined job.tai media files)) (fails_of (rows_over job.joined job.tai media files))
+    → length (json_text job media notes (rows_over job.joined job.options media files)) ≤ 16777216
+    → IsReport (json_text job media notes (rows_over job.joined job.options media files)) (fails_of (rows_over job.joined job.options media files))
 report-told job media text files notes is h few =
     let texts = map text job.captures in
     let count : length texts ≡ length job.captures = length-map job.captures text in
     let size : length files ≡ length job.captures = records-length texts files notes h ∙ count in
-    let are : AreRowsOf job media (rows_over job.joined job.tai media files) =
-    keys-over job.joined job.tai media files ∙ ap (λ n. keys_of job.joined n (length media)) size in
+    let are : AreRowsOf job media (rows_over job.joined job.options media files) =
+    keys-over job.joined job.options media files ∙ ap (λ n. keys_of job.joined n (length media)) size in
     let most : length texts ≤ 16 = omega (arith, count, is.job_is.captures_are.few) in
-    read-back job media notes (rows_over job.joined job.tai media files) is.job_is is.session is.media_are are
-    (rows-fit job.joined job.tai media texts files notes is.job_is.tai_most most is.media_are is.bytes h) is.names few
+    read-back job media notes (rows_over job.joined job.options media files) is.job_is is.session is.media_are are
+    (rows-fit job.joined job.options media texts files notes is.job_is.tai_most most is.media_are is.bytes h) is.names few
 
 -- and the captures confirm each
 pub report-confirmed : (job : CheckJob) (media : List Media) (text : List ℕ → List ℕ) (name : List ℕ) (files : List (List Record)) (notes : List FileNote)
     → IsReadable job media text
     → AreRecords (map text job.captures) files notes → All (IsConfirmed (reading_back job name) media text)
-    (fails_of (rows_over job.joined job.tai media files))
+    (fails_of (rows_over job.joined job.options media files))
 report-confirmed job media text name files notes is records =
-    confirmed-rows job.sdp name job.tai job.captures job.joined media text files notes is.job_is.tai_most is.job_is.captures_are.few is.media_are is.bytes
+    confirmed-rows job.sdp name job.options job.captures job.joined media text files notes is.job_is.tai_most is.job_is.captures_are.few is.media_are is.bytes
     records
 
 same-some : (a b : List ReportProof) (o : Option (List ReportProof)) → o ≡ Some a → o ≡ Some b → a ≡ b
@@ -59,10 +59,10 @@ only-told bytes a b h k = same-some a b _ h.tells k.tells
 pub report-status : (job : CheckJob) (media : List Media) (text : List ℕ → List ℕ) (name : List ℕ) (files : List (List Record)) (notes : List FileNote)
     (claims : List ReportProof) (verified : Answer)
     → IsReadable job media text → AreRecords (map text job.captures) files notes
-    → IsReport (json_text job media notes (rows_over job.joined job.tai media files)) claims
+    → IsReport (json_text job media notes (rows_over job.joined job.options media files)) claims
     → HasReported (reading_back job name) media claims text verified → verified.status ≡ status.Pass
 report-status job media text name files notes claims verified is h told reported =
     let own = report-told job media text files notes is h told.few in
-    let same : fails_of (rows_over job.joined job.tai media files) ≡ claims = only-told _ _ claims own told in
+    let same : fails_of (rows_over job.joined job.options media files) ≡ claims = only-told _ _ claims own told in
     confirmed-status (reading_back job name) media claims text verified
     (subst (All (IsConfirmed (reading_back job name) media text)) same (report-confirmed job media text name files notes is h)) reported

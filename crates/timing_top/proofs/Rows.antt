@@ -3,6 +3,7 @@ use Rattle.std.proofs.Common.{◌≡◌, ◌≤◌, ◌+◌, ◌*◌, ◌^◌, �
 use Rattle.std.proofs.lemmas.List.{map-append}
 use Rattle.std.proofs.lemmas.List.Elements.{All-append, All-cons, All-head, All-nil, All-tail}
 use Rattle.std.specs.Prelude.{All, map}
+use Rattle.timing_base.specs.Shifts.{FlowOptions}
 use Rattle.timing_base.specs.Captures.{Record, joined}
 use Rattle.timing_base.specs.Keys.{key_of, keys_of, keys_of_file, keys_of_files}
 use Rattle.timing_base.specs.Media.{IsMedia, Media}
@@ -24,22 +25,22 @@ key r = r.key
 abbrev Fitting : Row → Type 0
 Fitting r = FitsVerdict r.verdict
 
-keys-from : (tai file number : ℕ) (ms : List Media) (items : List Record) → map key (rows_from tai file number ms items) ≡ keys_of_file file number (length ms)
-keys-from tai file number [] items = refl
-keys-from tai file number (m ∷ ms) items = ap (λ l. key_of file number ∷ l) (keys-from tai file (number + 1) ms items)
+keys-from : (options : FlowOptions) (file number : ℕ) (ms : List Media) (items : List Record) → map key (rows_from options file number ms items) ≡ keys_of_file file number (length ms)
+keys-from options file number [] items = refl
+keys-from options file number (m ∷ ms) items = ap (λ l. key_of file number ∷ l) (keys-from options file (number + 1) ms items)
 
-keys-files : (tai first : ℕ) (media : List Media) (files : List (List Record)) → map key (rows_of_files tai first media files)
+keys-files : (options : FlowOptions) (first : ℕ) (media : List Media) (files : List (List Record)) → map key (rows_of_files options first media files)
     ≡ keys_of_files first (length files) (length media)
-keys-files tai first media [] = refl
-keys-files tai first media (items ∷ files) =
-    map-append key (rows_of tai first media items) (rows_of_files tai (first + 1) media files)
-    ∙ ap₂ (λ (k l : List FlowKey). k ++ l) (keys-from tai first 0 media items) (keys-files tai (first + 1) media files)
+keys-files options first media [] = refl
+keys-files options first media (items ∷ files) =
+    map-append key (rows_of options first media items) (rows_of_files options (first + 1) media files)
+    ∙ ap₂ (λ (k l : List FlowKey). k ++ l) (keys-from options first 0 media items) (keys-files options (first + 1) media files)
 
 -- the flows of the rows
-pub keys-over : (b : Bool) (tai : ℕ) (media : List Media) (files : List (List Record)) → map key (rows_over b tai media files)
+pub keys-over : (b : Bool) (options : FlowOptions) (media : List Media) (files : List (List Record)) → map key (rows_over b options media files)
     ≡ keys_of b (length files) (length media)
-keys-over true tai media files = keys-from tai 0 0 media (joined files) ∙ sym (append-nil (keys_of_file 0 0 (length media)))
-keys-over false tai media files = keys-files tai 0 media files
+keys-over true options media files = keys-from options 0 0 media (joined files) ∙ sym (append-nil (keys_of_file 0 0 (length media)))
+keys-over false options media files = keys-files options 0 media files
 
 -- as many files as texts
 pub records-length : (texts : List (List ℕ)) (files : List (List Record)) (notes : List FileNote) → AreRecords texts files notes → length files ≡ length texts
@@ -50,32 +51,32 @@ records-length [] (f ∷ fs) notes h = absurd h
 records-length (t ∷ ts) [] notes h = absurd h
 records-length (t ∷ ts) (f ∷ fs) [] h = absurd h
 
-fits-from : (tai file number before most : ℕ) (ms : List Media) (items : List Record) → tai ≤ 1000 → before + most ≤ 2 ^ 40 → All IsMedia ms
+fits-from : (options : FlowOptions) (file number before most : ℕ) (ms : List Media) (items : List Record) → options ≤ 1000 → before + most ≤ 2 ^ 40 → All IsMedia ms
     → AreSmall before most items
-    → All Fitting (rows_from tai file number ms items)
-fits-from tai file number before most [] items seconds few are h = All-nil Fitting
-fits-from tai file number before most (m ∷ ms) items seconds few are h =
-    All-cons Fitting (row (flow items m) (key_of file number) m tai) (rows_from tai file (number + 1) ms items)
-    (flow-fits m tai before most items (All-head IsMedia m ms are) seconds few h)
-    (fits-from tai file (number + 1) before most ms items seconds few (All-tail IsMedia m ms are) h)
+    → All Fitting (rows_from options file number ms items)
+fits-from options file number before most [] items seconds few are h = All-nil Fitting
+fits-from options file number before most (m ∷ ms) items seconds few are h =
+    All-cons Fitting (row (flow items m) (key_of file number) m options) (rows_from options file (number + 1) ms items)
+    (flow-fits m options before most items (All-head IsMedia m ms are) seconds few h)
+    (fits-from options file (number + 1) before most ms items seconds few (All-tail IsMedia m ms are) h)
 
-fits-files : (tai first : ℕ) (media : List Media) (texts : List (List ℕ)) (files : List (List Record)) (notes : List FileNote) → tai ≤ 1000 → All IsMedia media
+fits-files : (options : FlowOptions) (first : ℕ) (media : List Media) (texts : List (List ℕ)) (files : List (List Record)) (notes : List FileNote) → options ≤ 1000 → All IsMedia media
     → All AreBytes texts
-    → AreRecords texts files notes → All Fitting (rows_of_files tai first media files)
-fits-files tai first media [] [] [] seconds are bytes h = All-nil Fitting
-fits-files tai first media (t ∷ ts) (f ∷ fs) (n ∷ ns) seconds are bytes h =
-    All-append Fitting (rows_of tai first media f) (rows_of_files tai (first + 1) media fs)
-    (fits-from tai first 0 0 (2 ^ 36) media f seconds (omega arith) are (one-small t f n (All-head AreBytes t ts bytes) h.0))
-    (fits-files tai (first + 1) media ts fs ns seconds are (All-tail AreBytes t ts bytes) h.1)
-fits-files tai first media [] [] (n ∷ ns) seconds are bytes h = absurd h
-fits-files tai first media [] (f ∷ fs) notes seconds are bytes h = absurd h
-fits-files tai first media (t ∷ ts) [] notes seconds are bytes h = absurd h
-fits-files tai first media (t ∷ ts) (f ∷ fs) [] seconds are bytes h = absurd h
+    → AreRecords texts files notes → All Fitting (rows_of_files options first media files)
+fits-files options first media [] [] [] seconds are bytes h = All-nil Fitting
+fits-files options first media (t ∷ ts) (f ∷ fs) (n ∷ ns) seconds are bytes h =
+    All-append Fitting (rows_of options first media f) (rows_of_files options (first + 1) media fs)
+    (fits-from options first 0 0 (2 ^ 36) media f seconds (omega arith) are (one-small t f n (All-head AreBytes t ts bytes) h.0))
+    (fits-files options (first + 1) media ts fs ns seconds are (All-tail AreBytes t ts bytes) h.1)
+fits-files options first media [] [] (n ∷ ns) seconds are bytes h = absurd h
+fits-files options first media [] (f ∷ fs) notes seconds are bytes h = absurd h
+fits-files options first media (t ∷ ts) [] notes seconds are bytes h = absurd h
+fits-files options first media (t ∷ ts) (f ∷ fs) [] seconds are bytes h = absurd h
 
 -- the numbers of the rows
-pub rows-fit : (b : Bool) (tai : ℕ) (media : List Media) (texts : List (List ℕ)) (files : List (List Record)) (notes : List FileNote) → tai ≤ 1000
+pub rows-fit : (b : Bool) (options : FlowOptions) (media : List Media) (texts : List (List ℕ)) (files : List (List Record)) (notes : List FileNote) → options ≤ 1000
     → length texts ≤ 16 → All IsMedia media
-    → All AreBytes texts → AreRecords texts files notes → All Fitting (rows_over b tai media files)
-rows-fit true tai media texts files notes seconds few are bytes h =
-    fits-from tai 0 0 0 (2 ^ 36 * length texts) media (joined files) seconds (omega (arith, few)) are (joined-small 0 texts files notes bytes h)
-rows-fit false tai media texts files notes seconds few are bytes h = fits-files tai 0 media texts files notes seconds are bytes h
+    → All AreBytes texts → AreRecords texts files notes → All Fitting (rows_over b options media files)
+rows-fit true options media texts files notes seconds few are bytes h =
+    fits-from options 0 0 0 (2 ^ 36 * length texts) media (joined files) seconds (omega (arith, few)) are (joined-small 0 texts files notes bytes h)
+rows-fit false options media texts files notes seconds few are bytes h = fits-files options 0 media texts files notes seconds are bytes h

@@ -2,6 +2,7 @@
 use Rattle.std.proofs.Common.{◌≡◌, ◌≤◌, ◌<◌, ◌+◌, ℕ, List, [], ◌∷◌, ◌++◌, length, Option, Some, refl, arith, ap, ◌∙◌, sym, subst, append_assoc, append-nil}
 use Rattle.std.proofs.Common.{length-append, true, false, if◌then◌else◌}
 use Rattle.std.specs.Prelude.{All, IfOk, Result, Ok, Err, map}
+use Rattle.timing_base.specs.Shifts.{FlowOptions}
 use Rattle.timing_steps.specs.declared.failure.Failure.{Failure}
 use Rattle.std.proofs.lemmas.List.{length-map}
 use Rattle.std.proofs.lemmas.List.Elements.{All-nil, All-cons, All-append}
@@ -28,65 +29,65 @@ pub fed-few : (most : ℕ) (old new : Bank) → TakesFew Feeds most old new → 
 fed-few most old new t = (t.items, t.taken)
 
 -- media with these numbers are below a count
-rows-within : (tai file number count : ℕ) (media : List Media) (items : List Record) → number + length media ≤ count
-    → All (λ (row : Row). row.key.media < count) (rows_from tai file number media items)
-rows-within tai file number count [] items h = All-nil (λ (row : Row). row.key.media < count)
-rows-within tai file number count (m ∷ ms) items h =
-    All-cons (λ (row : Row). row.key.media < count) _ (rows_from tai file (number + 1) ms items) (omega (arith, h))
-    (rows-within tai file (number + 1) count ms items (omega (arith, h)))
+rows-within : (options : FlowOptions) (file number count : ℕ) (media : List Media) (items : List Record) → number + length media ≤ count
+    → All (λ (row : Row). row.key.media < count) (rows_from options file number media items)
+rows-within options file number count [] items h = All-nil (λ (row : Row). row.key.media < count)
+rows-within options file number count (m ∷ ms) items h =
+    All-cons (λ (row : Row). row.key.media < count) _ (rows_from options file (number + 1) ms items) (omega (arith, h))
+    (rows-within options file (number + 1) count ms items (omega (arith, h)))
 
 -- rows of the media of a session are put to rows of the session
-pub rows-of_session : (tai file : ℕ) (media : List Media) (items : List Record) (old new : List Row) → new ≡ old ++ rows_of tai file media items
+pub rows-of_session : (options : FlowOptions) (file : ℕ) (media : List Media) (items : List Record) (old new : List Row) → new ≡ old ++ rows_of options file media items
     → AreOfSession media old → AreOfSession media new
-rows-of_session tai file media items old new e h =
+rows-of_session options file media items old new e h =
     subst (AreOfSession media) (sym e)
-    (All-append (λ (row : Row). row.key.media < length media) old (rows_of tai file media items) h
-    (rows-within tai file 0 (length media) media items (omega arith)))
+    (All-append (λ (row : Row). row.key.media < length media) old (rows_of options file media items) h
+    (rows-within options file 0 (length media) media items (omega arith)))
 
 -- a capture that was taken into a fresh bank has these rows, and its note
-pub finds-next : (text : List ℕ) (media : List Media) (tai file : ℕ) (old new : Bank) (taken : Taken) (old_notes new_notes : List FileNote)
+pub finds-next : (text : List ℕ) (media : List Media) (options : FlowOptions) (file : ℕ) (old new : Bank) (taken : Taken) (old_notes new_notes : List FileNote)
     (old_rows new_rows : List Row)
-    → TakesText Feeds text 0 old new taken → StandsFor media file tai old [] → new_notes ≡ old_notes ++ taken.note ∷ []
-    → ((items : List Record) → StandsFor media file tai new items → new_rows ≡ old_rows ++ rows_of tai file media items)
-    → FindsNext text media tai file old_notes new_notes old_rows new_rows
-finds-next text media tai file old new taken old_notes new_notes old_rows new_rows t fresh notes rows = record {
+    → TakesText Feeds text 0 old new taken → StandsFor media file options old [] → new_notes ≡ old_notes ++ taken.note ∷ []
+    → ((items : List Record) → StandsFor media file options new items → new_rows ≡ old_rows ++ rows_of options file media items)
+    → FindsNext text media options file old_notes new_notes old_rows new_rows
+finds-next text media options file old new taken old_notes new_notes old_rows new_rows t fresh notes rows = record {
   items = t.items;
   note = taken.note;
   records = t.records;
   notes = notes;
-  rows = rows t.items (subst (StandsFor media file tai new) (map-raised t.items) (t.fed media file tai [] fresh));
+  rows = rows t.items (subst (StandsFor media file options new) (map-raised t.items) (t.fed media file options [] fresh));
 }
 
-rows-push : (tai first : ℕ) (media : List Media) (files : List (List Record)) (items : List Record)
-    → rows_of_files tai first media (files ++ items ∷ []) ≡ rows_of_files tai first media files ++ rows_of tai (first + length files) media items
-rows-push tai first media [] items =
+rows-push : (options : FlowOptions) (first : ℕ) (media : List Media) (files : List (List Record)) (items : List Record)
+    → rows_of_files options first media (files ++ items ∷ []) ≡ rows_of_files options first media files ++ rows_of options (first + length files) media items
+rows-push options first media [] items =
     let same : first + 0 ≡ first = omega arith in
-    append-nil (rows_of tai first media items) ∙ sym (ap (λ f. rows_of tai f media items) same)
-rows-push tai first media (x ∷ xs) items =
+    append-nil (rows_of options first media items) ∙ sym (ap (λ f. rows_of options f media items) same)
+rows-push options first media (x ∷ xs) items =
     let same : first + length (x ∷ xs) ≡ (first + 1) + length xs = omega arith in
-    ap (λ l. rows_of tai first media x ++ l) (rows-push tai (first + 1) media xs items)
-    ∙ sym (append_assoc (rows_of tai first media x) (rows_of_files tai (first + 1) media xs) (rows_of tai ((first + 1) + length xs) media items))
-    ∙ ap (λ f. (rows_of tai first media x ++ rows_of_files tai (first + 1) media xs) ++ rows_of tai f media items) (sym same)
+    ap (λ l. rows_of options first media x ++ l) (rows-push options (first + 1) media xs items)
+    ∙ sym (append_assoc (rows_of options first media x) (rows_of_files options (first + 1) media xs) (rows_of options ((first + 1) + length xs) media items))
+    ∙ ap (λ f. (rows_of options first media x ++ rows_of_files options (first + 1) media xs) ++ rows_of options f media items) (sym same)
 
 -- nothing was judged yet
-pub found-none : (media : List Media) (tai : ℕ) (notes : List FileNote) (found : List Row) → notes ≡ [] → found ≡ []
-    → AreFound [] (rows_of_files tai 0 media) notes found
-found-none media tai notes found no_notes no_rows = record { files = []; records = subst (AreRecords [] []) (sym no_notes) tt; rows_are = no_rows }
+pub found-none : (media : List Media) (options : FlowOptions) (notes : List FileNote) (found : List Row) → notes ≡ [] → found ≡ []
+    → AreFound [] (rows_of_files options 0 media) notes found
+found-none media options notes found no_notes no_rows = record { files = []; records = subst (AreRecords [] []) (sym no_notes) tt; rows_are = no_rows }
 
 -- one capture more was judged
-pub found-more : (texts : List (List ℕ)) (text : List ℕ) (media : List Media) (tai : ℕ) (old_notes new_notes : List FileNote) (old_rows new_rows : List Row)
-    → AreFound texts (rows_of_files tai 0 media) old_notes old_rows → FindsNext text media tai (length old_notes) old_notes new_notes old_rows new_rows
-    → AreFound (texts ++ text ∷ []) (rows_of_files tai 0 media) new_notes new_rows
-found-more texts text media tai old_notes new_notes old_rows new_rows found next = record {
+pub found-more : (texts : List (List ℕ)) (text : List ℕ) (media : List Media) (options : FlowOptions) (old_notes new_notes : List FileNote) (old_rows new_rows : List Row)
+    → AreFound texts (rows_of_files options 0 media) old_notes old_rows → FindsNext text media options (length old_notes) old_notes new_notes old_rows new_rows
+    → AreFound (texts ++ text ∷ []) (rows_of_files options 0 media) new_notes new_rows
+found-more texts text media options old_notes new_notes old_rows new_rows found next = record {
   files = found.files ++ next.items ∷ [];
   records = subst (AreRecords (texts ++ text ∷ []) (found.files ++ next.items ∷ [])) (sym next.notes)
       (records-push texts found.files old_notes text next.items next.note found.records next.records);
   rows_are =
       let same : 0 + length found.files ≡ length found.files = omega arith in
-      next.rows ∙ ap (λ l. l ++ rows_of tai (length old_notes) media next.items) found.rows_are
-      ∙ ap (λ f. rows_of_files tai 0 media found.files ++ rows_of tai f media next.items) (sym (files-length texts found.files old_notes found.records))
-      ∙ ap (λ f. rows_of_files tai 0 media found.files ++ rows_of tai f media next.items) (sym same)
-      ∙ sym (rows-push tai 0 media found.files next.items);
+      next.rows ∙ ap (λ l. l ++ rows_of options (length old_notes) media next.items) found.rows_are
+      ∙ ap (λ f. rows_of_files options 0 media found.files ++ rows_of options f media next.items) (sym (files-length texts found.files old_notes found.records))
+      ∙ ap (λ f. rows_of_files options 0 media found.files ++ rows_of options f media next.items) (sym same)
+      ∙ sym (rows-push options 0 media found.files next.items);
 }
 
 -- one capture more behind joined ones
@@ -107,15 +108,15 @@ joined-push before (f ∷ fs) items =
     ∙ ap (λ n. (map (raised before) f ++ joined_after (before + length f) fs) ++ map (raised n) items) (sym same)
 
 -- no capture was taken yet
-pub joined-none : (media : List Media) (tai : ℕ) (notes : List FileNote) (bank : Bank) → notes ≡ [] → StandsFor media 0 tai bank []
-    → AreJoined [] media tai notes 0 bank
-joined-none media tai notes bank no_notes stands = record { files = []; records = subst (AreRecords [] []) (sym no_notes) tt; count_is = refl; stands = stands }
+pub joined-none : (media : List Media) (options : FlowOptions) (notes : List FileNote) (bank : Bank) → notes ≡ [] → StandsFor media 0 options bank []
+    → AreJoined [] media options notes 0 bank
+joined-none media options notes bank no_notes stands = record { files = []; records = subst (AreRecords [] []) (sym no_notes) tt; count_is = refl; stands = stands }
 
 -- one capture more was taken
-pub joined-more : (texts : List (List ℕ)) (text : List ℕ) (media : List Media) (tai before after : ℕ) (old new : Bank) (old_notes new_notes : List FileNote)
-    → AreJoined texts media tai old_notes before old → JoinsNext text before after old new old_notes new_notes
-    → AreJoined (texts ++ text ∷ []) media tai new_notes after new
-joined-more texts text media tai before after old new old_notes new_notes done next =
+pub joined-more : (texts : List (List ℕ)) (text : List ℕ) (media : List Media) (options : FlowOptions) (before after : ℕ) (old new : Bank) (old_notes new_notes : List FileNote)
+    → AreJoined texts media options old_notes before old → JoinsNext text before after old new old_notes new_notes
+    → AreJoined (texts ++ text ∷ []) media options new_notes after new
+joined-more texts text media options before after old new old_notes new_notes done next =
     let more : joined (done.files ++ next.takes.items ∷ []) ≡ joined done.files ++ map (raised before) next.takes.items =
     let same : 0 + length (joined done.files) ≡ before = omega (arith, done.count_is) in
     joined-push 0 done.files next.takes.items ∙ ap (λ n. joined done.files ++ map (raised n) next.takes.items) same in
@@ -128,53 +129,53 @@ joined-more texts text media tai before after old new old_notes new_notes done n
           ap length more ∙ length-append (joined done.files) (map (raised before) next.takes.items) ∙ ap (λ n. length (joined done.files) + n)
           (length-map next.takes.items (raised before)) in
           omega (arith, long, next.count, next.takes.count, done.count_is);
-      stands = subst (StandsFor media 0 tai new) (sym more) (next.takes.fed media 0 tai (joined done.files) done.stands);
+      stands = subst (StandsFor media 0 options new) (sym more) (next.takes.fed media 0 options (joined done.files) done.stands);
     }
 
 -- the rows of captures that were taken as one
-pub found-joined : (texts : List (List ℕ)) (media : List Media) (tai count : ℕ) (notes : List FileNote) (bank : Bank) (found : List Row)
-    → AreJoined texts media tai notes count bank → ((items : List Record) → StandsFor media 0 tai bank items → found ≡ rows_of tai 0 media items)
-    → AreFound texts (λ files. rows_of tai 0 media (joined files)) notes found
-found-joined texts media tai count notes bank found done rows_are =
+pub found-joined : (texts : List (List ℕ)) (media : List Media) (options : FlowOptions) (count : ℕ) (notes : List FileNote) (bank : Bank) (found : List Row)
+    → AreJoined texts media options notes count bank → ((items : List Record) → StandsFor media 0 options bank items → found ≡ rows_of options 0 media items)
+    → AreFound texts (λ files. rows_of options 0 media (joined files)) notes found
+found-joined texts media options count notes bank found done rows_are =
     record { files = done.files; records = done.records; rows_are = rows_are (joined done.files) done.stands }
 
 -- rows that come behind none
-pub rows-alone : (tai : ℕ) (media : List Media) (items : List Record) (old new : List Row) → old ≡ [] → new ≡ old ++ rows_of tai 0 media items → new
-    ≡ rows_of tai 0 media items
-rows-alone tai media items old new none e = e ∙ ap (λ l. l ++ rows_of tai 0 media items) none
+pub rows-alone : (options : FlowOptions) (media : List Media) (items : List Record) (old new : List Row) → old ≡ [] → new ≡ old ++ rows_of options 0 media items → new
+    ≡ rows_of options 0 media items
+rows-alone options media items old new none e = e ∙ ap (λ l. l ++ rows_of options 0 media items) none
 
 -- the rows of a job, by whether its captures are joined
 pub found-if_joined : (texts : List (List ℕ)) (job : CheckJob) (media : List Media) (notes : List FileNote) (found : List Row) → job.joined ≡ true
-    → AreFound texts (λ files. rows_of job.tai 0 media (joined files)) notes found → AreFound texts (rows job media) notes found
+    → AreFound texts (λ files. rows_of job.options 0 media (joined files)) notes found → AreFound texts (rows job media) notes found
 found-if_joined texts job media notes found is h = record {
   files = h.files;
   records = h.records;
-  rows_are = h.rows_are ∙ ap (λ b. if b then rows_of job.tai 0 media (joined h.files) else rows_of_files job.tai 0 media h.files) (sym is);
+  rows_are = h.rows_are ∙ ap (λ b. if b then rows_of job.options 0 media (joined h.files) else rows_of_files job.options 0 media h.files) (sym is);
 }
 
 pub found-unless_joined : (texts : List (List ℕ)) (job : CheckJob) (media : List Media) (notes : List FileNote) (found : List Row) → job.joined ≡ false
-    → AreFound texts (rows_of_files job.tai 0 media) notes found → AreFound texts (rows job media) notes found
+    → AreFound texts (rows_of_files job.options 0 media) notes found → AreFound texts (rows job media) notes found
 found-unless_joined texts job media notes found is h = record {
   files = h.files;
   records = h.records;
-  rows_are = h.rows_are ∙ ap (λ b. if b then rows_of job.tai 0 media (joined h.files) else rows_of_files job.tai 0 media h.files) (sym is);
+  rows_are = h.rows_are ∙ ap (λ b. if b then rows_of job.options 0 media (joined h.files) else rows_of_files job.options 0 media h.files) (sym is);
 }
 
 -- the same of a capture that may not have been read
-pub found-if_read : (o : Result (Unit {0}) Failure) (left : Option (List ℕ)) (media : List Media) (tai : ℕ) (old_notes new_notes : List FileNote)
+pub found-if_read : (o : Result (Unit {0}) Failure) (left : Option (List ℕ)) (media : List Media) (options : FlowOptions) (old_notes new_notes : List FileNote)
     (old_rows new_rows : List Row)
-    → IfOk o (λ _. (text : List ℕ) → left ≡ Some text → FindsNext text media tai (length old_notes) old_notes new_notes old_rows new_rows)
-    → IfOk o (λ _. (read : List (List ℕ)) (text : List ℕ) → left ≡ Some text → AreFound read (rows_of_files tai 0 media) old_notes old_rows
-    → AreFound (read ++ text ∷ []) (rows_of_files tai 0 media) new_notes new_rows)
-found-if_read (Ok u) left media tai old_notes new_notes old_rows new_rows h = λ read text whole found. found-more read text media tai old_notes new_notes
+    → IfOk o (λ _. (text : List ℕ) → left ≡ Some text → FindsNext text media options (length old_notes) old_notes new_notes old_rows new_rows)
+    → IfOk o (λ _. (read : List (List ℕ)) (text : List ℕ) → left ≡ Some text → AreFound read (rows_of_files options 0 media) old_notes old_rows
+    → AreFound (read ++ text ∷ []) (rows_of_files options 0 media) new_notes new_rows)
+found-if_read (Ok u) left media options old_notes new_notes old_rows new_rows h = λ read text whole found. found-more read text media options old_notes new_notes
     old_rows new_rows found (h text whole)
-found-if_read (Err e) left media tai old_notes new_notes old_rows new_rows h = tt
+found-if_read (Err e) left media options old_notes new_notes old_rows new_rows h = tt
 
-pub joined-if_read : (o : Result (Unit {0}) Failure) (left : Option (List ℕ)) (media : List Media) (tai before after : ℕ) (old new : Bank)
+pub joined-if_read : (o : Result (Unit {0}) Failure) (left : Option (List ℕ)) (media : List Media) (options : FlowOptions) (before after : ℕ) (old new : Bank)
     (old_notes new_notes : List FileNote)
     → IfOk o (λ _. (text : List ℕ) → left ≡ Some text → JoinsNext text before after old new old_notes new_notes)
-    → IfOk o (λ _. (read : List (List ℕ)) (text : List ℕ) → left ≡ Some text → AreJoined read media tai old_notes before old
-    → AreJoined (read ++ text ∷ []) media tai new_notes after new)
-joined-if_read (Ok u) left media tai before after old new old_notes new_notes h = λ read text whole done. joined-more read text media tai before after old new
+    → IfOk o (λ _. (read : List (List ℕ)) (text : List ℕ) → left ≡ Some text → AreJoined read media options old_notes before old
+    → AreJoined (read ++ text ∷ []) media options new_notes after new)
+joined-if_read (Ok u) left media options before after old new old_notes new_notes h = λ read text whole done. joined-more read text media options before after old new
     old_notes new_notes done (h text whole)
-joined-if_read (Err e) left media tai before after old new old_notes new_notes h = tt
+joined-if_read (Err e) left media options before after old new old_notes new_notes h = tt

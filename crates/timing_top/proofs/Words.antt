@@ -6,6 +6,7 @@ use Rattle.std.proofs.lemmas.List.{length-map}
 use Rattle.std.proofs.lemmas.List.Elements.{All-append, All-cons, All-drop, All-head, All-map, All-nil, All-tail, All-take, All-weaker}
 use Rattle.std.specs.Option.{ForSome}
 use Rattle.std.specs.Prelude.{All, IsSome, Result, Ok, Err, if◌then◌else◌, map, nat_le, nat_lt, slice_index, ◌&&◌, ◌==◌, ⊤}
+use Rattle.timing_base.specs.Shifts.{FlowOptions}
 use Rattle.timing_base.specs.Captures.{Record}
 use Rattle.timing_base.specs.Flows.{AreStamped, FirstFault, cuts, expected_number, fault, fault_if, first_fault, first_of, group_len, is_cut, is_cut_too_many}
 use Rattle.timing_base.specs.Flows.{is_other_payload, is_other_size, is_second_source, is_stamp_back, is_too_large, lacks_marker, markers, markers_before}
@@ -250,11 +251,11 @@ outcome-case : (m : Media) (b : Bool) (head : ℕ) (j : JudgedRun) → IsMedia m
 outcome-case m true head j is h hj tj g = h
 outcome-case m false head j is h hj tj g = judged-fits m j is g hj tj
 
-outcome-fits : (m : Media) (packets : List FlowPacket) (tai from to : ℕ) → IsMedia m → to ≤ 2 ^ 41 → IsGroupedOutcome (run_outcome packets tai from to)
-    → FitsRunVerdict (run_verdict_of m (run_outcome packets tai from to))
-outcome-fits m packets tai from to is few g =
+outcome-fits : (m : Media) (packets : List FlowPacket) (options : FlowOptions) (from to : ℕ) → IsMedia m → to ≤ 2 ^ 41 → IsGroupedOutcome (run_outcome packets options from to)
+    → FitsRunVerdict (run_verdict_of m (run_outcome packets options from to))
+outcome-fits m packets options from to is few g =
     let head : IsWord (head_len (markers packets from to) from to) = omega (arith, head-low packets from to, few) in
-    outcome-case m (nat_lt (length (markers packets from to)) 2) (head_len (markers packets from to) from to) (judged_run packets tai from to) is head head
+    outcome-case m (nat_lt (length (markers packets from to)) 2) (head_len (markers packets from to) from to) (judged_run packets options from to) is head head
     (omega (arith, few)) g
 
 one-case : (m : Media) (o : RunOutcome) → FitsRunVerdict (run_verdict_of m o) → FitsVerdict (verdict_of m (in_one_run o))
@@ -265,31 +266,31 @@ expected-case : (b : Bool) (y : ℕ) → IsWord y → ForSome (if b then None el
 expected-case true y h = λ x e. cc
 expected-case false y h = λ x e. let same : y ≡ x = cc in subst IsWord same h
 
-run-fits : (m : Media) (most : ℕ) (packets : List FlowPacket) (tai from to : ℕ) → IsMedia m → most ≤ 2 ^ 41 → All (IsSmallPacket most) packets → to ≤ 2 ^ 41
-    → IsGroupedOutcome (run_outcome packets tai from to) → FitsRun (run_of m (run_at packets tai from to))
-run-fits m most packets tai from to is few small low g =
+run-fits : (m : Media) (most : ℕ) (packets : List FlowPacket) (options : FlowOptions) (from to : ℕ) → IsMedia m → most ≤ 2 ^ 41 → All (IsSmallPacket most) packets → to ≤ 2 ^ 41
+    → IsGroupedOutcome (run_outcome packets options from to) → FitsRun (run_of m (run_at packets options from to))
+run-fits m most packets options from to is few small low g =
     let here = packet-at most packets from small in
     record {
       rec = omega (arith, here.rec, few);
       number = word-of _ here.read.number;
       expected = expected-case (from == 0) (expected_number packets from) (next-small _);
-      outcome = outcome-fits m packets tai from to is low g;
+      outcome = outcome-fits m packets options from to is low g;
     }
 
-runs-fit : (m : Media) (most : ℕ) (packets : List FlowPacket) (tai to from : ℕ) (cs : List ℕ) → IsMedia m → most ≤ 2 ^ 41 → All (IsSmallPacket most) packets
+runs-fit : (m : Media) (most : ℕ) (packets : List FlowPacket) (options : FlowOptions) (to from : ℕ) (cs : List ℕ) → IsMedia m → most ≤ 2 ^ 41 → All (IsSmallPacket most) packets
     → to ≤ 2 ^ 41 → All (λ k. k < to) cs
-    → All (λ run. IsGroupedOutcome run.outcome) (runs_between packets tai to from cs) → All FitsRun (map (run_of m) (runs_between packets tai to from cs))
-runs-fit m most packets tai to from [] is few small low cut g =
-    All-cons FitsRun (run_of m (run_at packets tai from to)) []
-    (run-fits m most packets tai from to is few small low (All-head (λ (run : FlowRun). IsGroupedOutcome run.outcome) (run_at packets tai from to) [] g))
+    → All (λ run. IsGroupedOutcome run.outcome) (runs_between packets options to from cs) → All FitsRun (map (run_of m) (runs_between packets options to from cs))
+runs-fit m most packets options to from [] is few small low cut g =
+    All-cons FitsRun (run_of m (run_at packets options from to)) []
+    (run-fits m most packets options from to is few small low (All-head (λ (run : FlowRun). IsGroupedOutcome run.outcome) (run_at packets options from to) [] g))
     (All-nil FitsRun)
-runs-fit m most packets tai to from (c ∷ cs) is few small low cut g =
+runs-fit m most packets options to from (c ∷ cs) is few small low cut g =
     let P : FlowRun → Type 0 = λ run. IsGroupedOutcome run.outcome in
     let here : c < to = All-head (λ k. k < to) c cs cut in
-    All-cons FitsRun (run_of m (run_at packets tai from c)) (map (run_of m) (runs_between packets tai to c cs))
-    (run-fits m most packets tai from c is few small (omega (arith, here, low)) (All-head P (run_at packets tai from c) (runs_between packets tai to c cs) g))
-    (runs-fit m most packets tai to c cs is few small low (All-tail (λ k. k < to) c cs cut)
-    (All-tail P (run_at packets tai from c) (runs_between packets tai to c cs) g))
+    All-cons FitsRun (run_of m (run_at packets options from c)) (map (run_of m) (runs_between packets options to c cs))
+    (run-fits m most packets options from c is few small (omega (arith, here, low)) (All-head P (run_at packets options from c) (runs_between packets options to c cs) g))
+    (runs-fit m most packets options to c cs is few small low (All-tail (λ k. k < to) c cs cut)
+    (All-tail P (run_at packets options from c) (runs_between packets options to c cs) g))
 
 expects : (m : Media) (rs : List FlowRun) → ExpectsAfterFirst rs → ExpectAfterFirst (map (run_of m) rs)
 expects m [] h = tt
@@ -318,23 +319,23 @@ judged-case m true v h = tt
 judged-case m false v h = h
 
 -- the verdict on a flow
-verdict-fits : (m : Media) (most tai : ℕ) (packets : List FlowPacket) → IsMedia m → tai ≤ 1000 → most ≤ 2 ^ 41 → length packets < 2 ^ 41 → AreStamped packets
+verdict-fits : (m : Media) (most : ℕ) (options : FlowOptions) (packets : List FlowPacket) → IsMedia m → options ≤ 1000 → most ≤ 2 ^ 41 → length packets < 2 ^ 41 → AreStamped packets
     → All (IsSmallPacket most) packets
-    → FitsVerdict (verdict_of m (judged packets m.pt tai))
-verdict-fits m most tai packets is seconds few long stamped small =
+    → FitsVerdict (verdict_of m (judged packets m.pt options))
+verdict-fits m most options packets is seconds few long stamped small =
     judged-case m (length packets == 0) _
-    (refused-case m packets (first_fault packets m.pt) (judged_runs packets tai)
+    (refused-case m packets (first_fault packets m.pt) (judged_runs packets options)
     (λ i. let here = packet-at most packets i small in omega (arith, here.rec, few))
     (λ x e. fault-of most packets m.pt x small e)
-    (λ e. runs-case m (length (cuts packets (length packets)) == 0) (run_outcome packets tai 0 (length packets)) (runs packets tai)
-    (λ g. outcome-fits m packets tai 0 (length packets) is (omega (arith, long)) g)
-    (λ g. runs-fit m most packets tai (length packets) 0 (cuts packets (length packets)) is few small (omega (arith, long))
+    (λ e. runs-case m (length (cuts packets (length packets)) == 0) (run_outcome packets options 0 (length packets)) (runs packets options)
+    (λ g. outcome-fits m packets options 0 (length packets) is (omega (arith, long)) g)
+    (λ g. runs-fit m most packets options (length packets) 0 (cuts packets (length packets)) is few small (omega (arith, long))
     (places-low (is_cut packets) 0 (length packets)) g.outcomes)
-    (unfaulted-grouped packets m.pt tai long seconds stamped e)))
+    (unfaulted-grouped packets m.pt options long seconds stamped e)))
 
 -- the verdict on a flow of small records
-pub flow-fits : (m : Media) (tai before most : ℕ) (items : List Record) → IsMedia m → tai ≤ 1000 → before + most ≤ 2 ^ 40 → AreSmall before most items
-    → FitsVerdict (verdict_of m (judged (flow items m) m.pt tai))
-flow-fits m tai before most items is seconds few h =
-    verdict-fits m (before + most) tai (flow items m) is seconds (omega (arith, few)) (omega (arith, flow-few m items, h.few, few))
+pub flow-fits : (m : Media) (options : FlowOptions) (before most : ℕ) (items : List Record) → IsMedia m → options ≤ 1000 → before + most ≤ 2 ^ 40 → AreSmall before most items
+    → FitsVerdict (verdict_of m (judged (flow items m) m.pt options))
+flow-fits m options before most items is seconds few h =
+    verdict-fits m (before + most) options (flow items m) is seconds (omega (arith, few)) (omega (arith, flow-few m items, h.few, few))
     (flow-stamped m (before + most) items h.each) (flow-small m (before + most) items h.each)

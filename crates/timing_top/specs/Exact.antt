@@ -1,6 +1,7 @@
 -- The verdicts of a report in the terms of SMPTE ST 2110-21: a type passes exactly if the judged packets keep its
 -- limits, and its violation names an interval that shows that they don't. Files and media count from 0.
 use Rattle.std.specs.Prelude.{◌≡◌, ℕ, Bool, true, false, List, [], ◌∷◌, Some, slice_get}
+use Rattle.timing_base.specs.Shifts.{FlowOptions}
 use Rattle.timing_base.specs.Captures.{Record, joined as joined_records}
 use Rattle.timing_base.specs.Judged.{FlowRun, FlowVerdict, JudgedRun, RunOutcome, in_one_run, in_runs, judged}
 use Rattle.timing_base.specs.Judged.{no_whole_frame, whole_frames}
@@ -62,10 +63,10 @@ AreRecordsOf true files file items = items ≡ joined_records files
 AreRecordsOf false files file items = slice_get files file ≡ Some items
 
 -- the result of a flow is exact for the flow of its media in its file
-pub record IsExactRow (joined : Bool) (tai : ℕ) (media : List Media) (files : List (List Record)) (row : Row) : Type 0
+pub record IsExactRow (joined : Bool) (options : FlowOptions) (media : List Media) (files : List (List Record)) (row : Row) : Type 0
   where
     pub m : Media
     pub media_is : slice_get media row.key.media ≡ Some m
     pub items : List Record
     pub items_are : AreRecordsOf joined files row.key.file items
-    pub tells : TellsFlow m (judged (flow items m) m.pt tai) row.verdict
+    pub tells : TellsFlow m (judged (flow items m) m.pt options) row.verdict

@@ -1,6 +1,7 @@
 -- The results of judging captures, and the conditions under which judging goes on.
 use Rattle.std.specs.Prelude.{◌≡◌, ◌≤◌, ◌+◌, ◌^◌, ℕ, List, [], ◌∷◌, ◌++◌, length, All, IfErr, IfOk, Option}
 use Rattle.std.specs.Prelude.{Result}
+use Rattle.timing_base.specs.Shifts.{FlowOptions}
 use Rattle.timing_base.specs.Captures.{Record, joined}
 use Rattle.timing_base.specs.Media.{Media}
 use Rattle.timing_base.specs.declared.capture.FileNote.{FileNote}
@@ -48,20 +49,20 @@ Judges rows media tells from old new sources outcome =
     sources rows media outcome
 
 -- captures that may be judged: at most 16 and 64 media, no read of them has failed, and at most 1,000 seconds are added
-pub record AreReady {S : Type 0} (faults : S → ℕ) (sources : List S) (media : List Media) (tai : ℕ) : Type 0 where
+pub record AreReady {S : Type 0} (faults : S → ℕ) (sources : List S) (media : List Media) (options : FlowOptions) : Type 0 where
   pub few : length sources ≤ 16
   pub fresh : All (λ source. faults source ≡ 0) sources
   pub few_media : length media ≤ 64
-  pub few_seconds : tai ≤ 1000
+  pub few_seconds : options ≤ 1000
 
 -- one more capture was judged by itself: its note and its results were appended
-pub record FindsNext (text : List ℕ) (media : List Media) (tai file : ℕ) (old_notes new_notes : List FileNote)
+pub record FindsNext (text : List ℕ) (media : List Media) (options : FlowOptions) (file : ℕ) (old_notes new_notes : List FileNote)
     (old_rows new_rows : List Row) : Type 0 where
   pub items : List Record
   pub note : FileNote
   pub records : Records text (2 ^ 40) items note
   pub notes : new_notes ≡ old_notes ++ note ∷ []
-  pub rows : new_rows ≡ old_rows ++ rows_of tai file media items
+  pub rows : new_rows ≡ old_rows ++ rows_of options file media items
 
 -- one more capture was taken after `before` records: its note was appended, and its records were added to the count
 pub record JoinsNext (text : List ℕ) (before after : ℕ) (old new : Bank) (old_notes new_notes : List FileNote) : Type 0
@@ -73,9 +74,9 @@ pub record JoinsNext (text : List ℕ) (before after : ℕ) (old new : Bank) (ol
 
 -- the captures with these contents were taken as one: how each ends, the number of their packet records, and the bank
 -- of judges that was given them
-pub record AreJoined (texts : List (List ℕ)) (media : List Media) (tai : ℕ) (notes : List FileNote) (count : ℕ)
+pub record AreJoined (texts : List (List ℕ)) (media : List Media) (options : FlowOptions) (notes : List FileNote) (count : ℕ)
     (bank : Bank) : Type 0 where
   pub files : List (List Record)
   pub records : AreRecords texts files notes
   pub count_is : count ≡ length (joined files)
-  pub stands : StandsFor media 0 tai bank (joined files)
+  pub stands : StandsFor media 0 options bank (joined files)

@@ -30,7 +30,7 @@ pub record IsTheReport (job : CheckJob) (media : List Media) (captures : List (L
   pub defined : HasReport job media (map classic captures) report
   pub only : (other : Answer) → HasReport job media (map classic captures) other → other ≡ report
   pub workers : (number : ℕ) → HasReport (with_workers number job) media (map classic captures) report
-  pub rows_are : All (IsExactRow job.joined job.tai media defined.files) (rows job media defined.files)
+  pub rows_are : All (IsExactRow job.joined job.options media defined.files) (rows job media defined.files)
 
 -- a run of `check` on an SDP and captures with these contents, by its status and its output. `refused`: the SDP is
 -- invalid, and nothing was printed. `reported`: the report was printed. `unwritten`: a write failed, the count of

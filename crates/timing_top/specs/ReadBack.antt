@@ -7,7 +7,7 @@ use Rattle.pcapng_reader.specs.Bytes.{AreBytes}
 -- the job of `verify-report` on the report with this name, with the SDP and the captures of that report
 abbrev pub reading_back : CheckJob → (name : List ℕ) → ReportJob
 reading_back job name =
-    record { sdp = job.sdp; report = name; tai = job.tai; captures = job.captures; joined = job.joined }
+    record { sdp = job.sdp; report = name; options = job.options; captures = job.captures; joined = job.joined }
 
 -- the inputs of a report are within their limits: the job, a session of these media, and captures with these contents
 pub record IsReadable (job : CheckJob) (media : List Media) (text : List ℕ → List ℕ) : Type 0 where

@@ -15,7 +15,7 @@ use Rattle.timing_steps.specs.Queries.{HasAnswer, Query}
 
 -- the results of a job: one for each file and media; if the captures are joined, one for each media, with file 0
 abbrev pub rows : CheckJob → List Media → List (List Record) → List Row
-rows job media files = rows_over job.joined job.tai media files
+rows job media files = rows_over job.joined job.options media files
 
 -- the report as text or as JSON
 abbrev pub printed : CheckJob → List Media → List FileNote → List Row → List ℕ

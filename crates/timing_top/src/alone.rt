@@ -1,6 +1,7 @@
 //! Judges the captures of a job on one thread.
 
 ghost use Rattle.std.specs.Prelude.{◌≡◌};
+ghost use Rattle.timing_base.specs.Shifts.{FlowOptions as FlowOptionsValue};
 ghost use Rattle.timing_outside.specs.Shelves.{StaysAs};
 ghost use Rattle.fail_interval.specs.Rows.{rows_over};
 ghost use Rattle.pcapng_reader.specs.Sources.{faults_of};
@@ -23,7 +24,7 @@ pub struct Alone<'a> {
     /// Whether the captures are judged as one.
     pub joined: bool,
     /// The seconds that are added to every capture timestamp.
-    pub tai: u64,
+    pub options: FlowOptions,
 }
 
 impl Alone<'_> {
@@ -36,8 +37,8 @@ impl Alone<'_> {
         shelf: &mut H,
         sources: Vec<Classic<H::Source>>,
     ) -> Result<Found, Failure>
-        requires ready { AreReady (faults_of H.Source.faults) sources.items self.now.media.now self.now.tai }
-        ensures judged { Judges (rows_over self.now.joined self.now.tai self.now.media.now) self.now.media.now
+        requires ready { AreReady (faults_of H.Source.faults) sources.items self.now.media.now self.now.options }
+        ensures judged { Judges (rows_over self.now.joined self.now.options self.now.media.now) self.now.media.now
             H.Shelf H.Source.Source shelf.old shelf.new sources.items result }
         ensures stays { StaysAs H.text H.lacks H.faults shelf.old shelf.new }
     {

@@ -1,6 +1,7 @@
 //! Judges the captures of a job one after the other, each by itself.
 
 ghost use Rattle.std.specs.Prelude.{◌≡◌, ◌≤◌, ◌<◌, ◌+◌, ℕ, List, Some, IfOk, IfErr, length};
+ghost use Rattle.timing_base.specs.Shifts.{FlowOptions as FlowOptionsValue};
 ghost use Rattle.timing_outside.specs.Causes.{Rose};
 ghost use Rattle.timing_outside.specs.Shelves.{StaysAs};
 ghost use Rattle.timing_report.specs.Outcomes.{AreOfSession};
@@ -33,15 +34,14 @@ fn judge_next<H: Shelf>(
     shelf: &mut H,
     source: Classic<H::Source>,
     media: &[Media],
-    tai: u64,
+    options: FlowOptions,
     found: &mut Found,
 ) -> Result<(), Failure>
     requires fresh { faults_of H.Source.faults source ≡ 0 }
     requires few { length found.old.notes.items < 16 }
     requires few_media { length media.now ≤ 64 }
-    requires tai { tai ≤ 1000 }
     ensures told { IfOk result (λ _. (text : List ℕ) → left_of H.Source.left source ≡ Some text
-        → FindsNext text media.now tai (length found.old.notes.items)
+        → FindsNext text media.now options (length found.old.notes.items)
         found.old.notes.items found.new.notes.items found.old.rows.items found.new.rows.items) }
     ensures count { IfOk result (λ _. length found.new.notes.items
         ≡ length found.old.notes.items + 1) }
@@ -54,7 +54,7 @@ fn judge_next<H: Shelf>(
     ensures stays { StaysAs H.text H.lacks H.faults shelf.old shelf.new }
 {
     let number = found.notes.len() as u32;
-    let mut bank = match Bank::new(alloc, media, number, tai) {
+    let mut bank = match Bank::new(alloc, media, number, options) {
         Ok(bank) => bank,
         Err(_) => {
             give_back(shelf, source);
@@ -75,8 +75,8 @@ impl Alone<'_> {
         shelf: &mut H,
         sources: Vec<Classic<H::Source>>,
     ) -> Result<Found, Failure>
-        requires ready { AreReady (faults_of H.Source.faults) sources.items self.now.media.now self.now.tai }
-        ensures judged { Judges (rows_of_files self.now.tai 0 self.now.media.now) self.now.media.now
+        requires ready { AreReady (faults_of H.Source.faults) sources.items self.now.media.now self.now.options }
+        ensures judged { Judges (rows_of_files self.now.options 0 self.now.media.now) self.now.media.now
             H.Shelf H.Source.Source shelf.old shelf.new sources.items result }
         ensures stays { StaysAs H.text H.lacks H.faults shelf.old shelf.new }
     {
@@ -87,7 +87,7 @@ impl Alone<'_> {
         let mut outcome = Ok(());
         for source in sources {
             outcome = match outcome {
-                Ok(()) => judge_next(self.alloc, shelf, source, self.media, self.tai, &mut found),
+                Ok(()) => judge_next(self.alloc, shelf, source, self.media, self.options, &mut found),
                 Err(failure) => {
                     give_back(shelf, source);
                     Err(failure)

@@ -82,7 +82,7 @@ fn answer_alone<H: Shelf>(
         alloc,
         media: session.media.as_slice(),
         joined: job.joined,
-        tai: job.tai,
+        options: job.options,
     };
     let found = alone.judge(shelf, sources)?;
     report_on(alloc, job, session, &found)
@@ -143,8 +143,8 @@ where
 {
     let sources = fetch_captures(alloc, shelf, job.captures.as_slice())?;
     let media = session.media.as_slice();
-    let (joined, tai, workers) = (job.joined, job.tai, job.workers);
-    let found = judge_many(rt, alloc, shelf, sources, media, joined, tai, workers, gate)?;
+    let (joined, options, workers) = (job.joined, job.options, job.workers);
+    let found = judge_many(rt, alloc, shelf, sources, media, joined, options, workers, gate)?;
     report_on(alloc, job, session, &found)
 }
 

@@ -90,7 +90,7 @@ pub fn types_are_exact()
     ensures { (job : CheckJob) (media : List Media) (texts : List (List ℕ)) (answer : Answer)
         → IsCheckJob job → All IsMedia media → All AreBytes texts
         → length texts ≡ length job.captures → (h : HasReport job media texts answer)
-        → All (IsExactRow job.joined job.tai media h.files) (rows job media h.files) }
+        → All (IsExactRow job.joined job.options media h.files) (rows job media h.files) }
 {}
 
 /// The numbers in the results of captures have 64 bits, whatever the captures contain.
@@ -98,7 +98,7 @@ pub fn rows_have_words()
     ensures { (job : CheckJob) (media : List Media) (text : List ℕ → List ℕ)
         (files : List (List Record)) (notes : List FileNote) → IsReadable job media text
         → AreRecords (map text job.captures) files notes
-        → All (λ row. FitsVerdict row.verdict) (rows_over job.joined job.tai media files) }
+        → All (λ row. FitsVerdict row.verdict) (rows_over job.joined job.options media files) }
 {}
 
 /// Every violation in the results of captures is confirmed by these captures.
@@ -107,7 +107,7 @@ pub fn rows_are_confirmed()
         (files : List (List Record)) (notes : List FileNote) → IsReadable job media text
         → AreRecords (map text job.captures) files notes
         → All (λ claim. FindsOf (media_for (reading_back job name) media claim.key)
-        (reading_back job name) claim text (Ok true)) (fails_of (rows_over job.joined job.tai media files)) }
+        (reading_back job name) claim text (Ok true)) (fails_of (rows_over job.joined job.options media files)) }
 {}
 
 /// The JSON of results of captures is read back as their violations in order, if it isn't longer than a report may be.
@@ -116,14 +116,14 @@ pub fn json_verifies()
     ensures told { (job : CheckJob) (media : List Media) (text : List ℕ → List ℕ)
         (files : List (List Record)) (notes : List FileNote) → IsReadable job media text
         → AreRecords (map text job.captures) files notes
-        → length (json_text job media notes (rows_over job.joined job.tai media files)) ≤ 16777216
-        → IsReport (json_text job media notes (rows_over job.joined job.tai media files))
-        (fails_of (rows_over job.joined job.tai media files)) }
+        → length (json_text job media notes (rows_over job.joined job.options media files)) ≤ 16777216
+        → IsReport (json_text job media notes (rows_over job.joined job.options media files))
+        (fails_of (rows_over job.joined job.options media files)) }
     ensures status { (job : CheckJob) (media : List Media) (text : List ℕ → List ℕ) (name : List ℕ)
         (files : List (List Record)) (notes : List FileNote) (claims : List ReportProof)
         (verified : Answer) → IsReadable job media text
         → AreRecords (map text job.captures) files notes
-        → IsReport (json_text job media notes (rows_over job.joined job.tai media files)) claims
+        → IsReport (json_text job media notes (rows_over job.joined job.options media files)) claims
         → HasReported (reading_back job name) media claims text verified
         → verified.status ≡ status.Pass }
 {}

@@ -1,6 +1,7 @@
 //! Judges the captures of a job with intake threads and workers.
 
 ghost use Rattle.std.specs.Prelude.{◌≡◌, ◌≤◌, ◌<◌, IfSome, Some, length, slice_index_or};
+ghost use Rattle.timing_base.specs.Shifts.{FlowOptions as FlowOptionsValue};
 ghost use Rattle.timing_base.specs.Targets.{HaveOwnTargets};
 ghost use Rattle.timing_base.specs.declared.capture.FileNote.TheVariants as file_note;
 ghost use Rattle.timing_base.specs.declared.capture.PcapFault.TheVariants as fault;
@@ -63,17 +64,17 @@ pub fn judge_many<R: Threads + Wait + Sync, H: Shelf, G: Gate>(
     sources: Vec<Classic<H::Source>>,
     media: &[Media],
     joined: bool,
-    tai: u64,
+    options: FlowOptions,
     workers: u32,
     gate: &G,
 ) -> Result<Found, Failure>
 where
     H::Source: Send,
-    requires ready { AreReady (faults_of H.Source.faults) sources.items media.now tai }
+    requires ready { AreReady (faults_of H.Source.faults) sources.items media.now options }
     requires some { 1 ≤ length sources.items }
     requires some_media { 1 ≤ length media.now }
     requires targets { HaveOwnTargets media.now }
-    ensures judged { Judges (rows_over joined tai media.now) media.now
+    ensures judged { Judges (rows_over joined options media.now) media.now
         H.Shelf H.Source.Source shelf.old shelf.new sources.items result }
     ensures stays { StaysAs H.text H.lacks H.faults shelf.old shelf.new }
 {
@@ -82,7 +83,7 @@ where
         sources,
         notes,
         found,
-    } = judge_files(rt, alloc, sources, media, joined, tai, workers, gate)?;
+    } = judge_files(rt, alloc, sources, media, joined, options, workers, gate)?;
     give_back_all(shelf, sources);
     if let Some(number) = first_unread(&notes) {
         return Err(Failure::ReadFault(Input::Capture(number)));

@@ -93,7 +93,7 @@ where
             alloc,
             media,
             joined: false,
-            tai: 0,
+            options: 0,
         };
         alone.judge(shelf, sources)
     } else {

@@ -5,6 +5,7 @@
 -- project's own.
 use Rattle.std.specs.Prelude.{◌≡◌, ◌+◌, ◌-◌, ◌*◌, ◌/◌, ◌%◌, ◌≤◌, ◌<◌, ◌==◌, ℕ, zero, suc, ℤ, pos, Bool, true, false}
 use Rattle.std.specs.Prelude.{List, [], ◌∷◌, ◌++◌, length, slice_index, Option, Some, None}
+use Rattle.timing_base.specs.Shifts.{Shift}
 use Rattle.timing_base.specs.Flows.{packet}
 use Rattle.timing_base.specs.Judged.{stamp_of}
 use Rattle.timing_base.specs.Media.{Media}
@@ -28,17 +29,17 @@ header_text true = group_header_text
 header_text false = packet_header_text
 
 -- the row of the judged packet after these
-pub record IsPacketRow (m : Media) (tai number n : ℕ) (before : List FlowPacket) (p : FlowPacket) (r : PacketRow)
+pub record IsPacketRow (m : Media) (shift : Shift) (number n : ℕ) (before : List FlowPacket) (p : FlowPacket) (r : PacketRow)
     : Type 0 where
   pub run : r.run ≡ number
   pub packet : r.packet ≡ length before
   pub rec : r.rec ≡ p.rec
-  pub stamp : r.stamp ≡ stamp_of tai p
+  pub stamp : r.stamp ≡ stamp_of shift p
   pub group : r.group ≡ length before / n
   pub place : r.place ≡ length before % n
-  pub bucket : r.bucket ≡ bucket_of m n (stamps_of tai (before ++ p ∷ [])) (length before)
-  pub gapped : IsOccupancy m n (stamps_of tai (before ++ p ∷ [])) true (length before) r.gapped
-  pub linear : IsOccupancy m n (stamps_of tai (before ++ p ∷ [])) false (length before) r.linear
+  pub bucket : r.bucket ≡ bucket_of m n (stamps_of shift (before ++ p ∷ [])) (length before)
+  pub gapped : IsOccupancy m n (stamps_of shift (before ++ p ∷ [])) true (length before) r.gapped
+  pub linear : IsOccupancy m n (stamps_of shift (before ++ p ∷ [])) false (length before) r.linear
 
 -- packet i belongs to frame or field k
 pub record IsOfGroup (n k i : ℕ) : Type 0 where
@@ -81,9 +82,9 @@ pub record IsRowOf (m : Media) (number n k : ℕ) (stamps : List ℕ) (records t
   pub linear : IsHeld m n stamps false k r.linear_least r.linear
 
 -- the row of the frame or field that ends with the last of these judged packets
-abbrev pub IsGroupRow : Media → (tai number n : ℕ) → List FlowPacket → GroupRow → Type 0
-IsGroupRow m tai number n packets r =
-    IsRowOf m number n (length packets / n - 1) (stamps_of tai packets) (λ i. (packet packets i).rec)
+abbrev pub IsGroupRow : Media → (shift : Shift) (number n : ℕ) → List FlowPacket → GroupRow → Type 0
+IsGroupRow m shift number n packets r =
+    IsRowOf m number n (length packets / n - 1) (stamps_of shift packets) (λ i. (packet packets i).rec)
     (slice_index (timestamps_of packets)) r
 
 -- the judged packet after `before` others ends its frame or field
@@ -92,30 +93,30 @@ ends_group n before = (before + 1) % n == 0
 
 -- the text at a packet if frames are listed: the row of its frame or field at the last packet, and nothing at the
 -- others
-abbrev pub AddsGroup : Media → (tai number n : ℕ) → List FlowPacket → (ends : Bool) → List ℕ → Type 0
-AddsGroup m tai number n packets true here =
-    (r : GroupRow) × IsGroupRow m tai number n packets r × (here ≡ group_row_text r)
-AddsGroup m tai number n packets false here = here ≡ []
+abbrev pub AddsGroup : Media → (shift : Shift) (number n : ℕ) → List FlowPacket → (ends : Bool) → List ℕ → Type 0
+AddsGroup m shift number n packets true here =
+    (r : GroupRow) × IsGroupRow m shift number n packets r × (here ≡ group_row_text r)
+AddsGroup m shift number n packets false here = here ≡ []
 
 -- the text at the judged packet after these: its own row, or if frames are listed that of its frame or field
-abbrev pub Adds : (frames : Bool) → Media → (tai number n : ℕ) → (before : List FlowPacket) → FlowPacket → List ℕ
+abbrev pub Adds : (frames : Bool) → Media → (shift : Shift) (number n : ℕ) → (before : List FlowPacket) → FlowPacket → List ℕ
     → Type 0
-Adds false m tai number n before p here =
-    (r : PacketRow) × IsPacketRow m tai number n before p r × (here ≡ packet_row_text r)
-Adds true m tai number n before p here =
-    AddsGroup m tai number n (before ++ p ∷ []) (ends_group n (length before)) here
+Adds false m shift number n before p here =
+    (r : PacketRow) × IsPacketRow m shift number n before p r × (here ≡ packet_row_text r)
+Adds true m shift number n before p here =
+    AddsGroup m shift number n (before ++ p ∷ []) (ends_group n (length before)) here
 
 -- the rows of these judged packets of a run, after those before
-abbrev pub AreRows : (frames : Bool) → Media → (tai number n : ℕ) → (before packets : List FlowPacket) → List ℕ → Type 0
-AreRows frames m tai number n before [] text = text ≡ []
-AreRows frames m tai number n before (p ∷ packets) text =
-    (here : List ℕ) × (rest : List ℕ) × (text ≡ here ++ rest) × Adds frames m tai number n before p here
-    × AreRows frames m tai number n (before ++ p ∷ []) packets rest
+abbrev pub AreRows : (frames : Bool) → Media → (shift : Shift) (number n : ℕ) → (before packets : List FlowPacket) → List ℕ → Type 0
+AreRows frames m shift number n before [] text = text ≡ []
+AreRows frames m shift number n before (p ∷ packets) text =
+    (here : List ℕ) × (rest : List ℕ) × (text ≡ here ++ rest) × Adds frames m shift number n before p here
+    × AreRows frames m shift number n (before ++ p ∷ []) packets rest
 
 -- the rows of judged runs, one run after the other
-abbrev pub AreRowsOf : (frames : Bool) → Media → (tai : ℕ) → List JudgedPart → List ℕ → Type 0
-AreRowsOf frames m tai [] text = text ≡ []
-AreRowsOf frames m tai (part ∷ parts) text =
+abbrev pub AreRowsOf : (frames : Bool) → Media → (shift : Shift) → List JudgedPart → List ℕ → Type 0
+AreRowsOf frames m shift [] text = text ≡ []
+AreRowsOf frames m shift (part ∷ parts) text =
     (here : List ℕ) × (rest : List ℕ) × (text ≡ here ++ rest)
-    × AreRows frames m tai part.number part.values.n [] part.packets here
-    × AreRowsOf frames m tai parts rest
+    × AreRows frames m shift part.number part.values.n [] part.packets here
+    × AreRowsOf frames m shift parts rest

@@ -2,6 +2,7 @@
 
 ghost use Rattle.std.specs.Prelude.{◌≡◌, ◌≤◌, ◌<◌, ◌+◌, ◌^◌, ◌++◌, ◌∷◌, [], ℕ, List, IfSome, length};
 ghost use Rattle.std.specs.Prelude.{pos, negsuc, ◌≤ℤ◌, None, Some, is_some};
+ghost use Rattle.timing_base.specs.Shifts.{Shift};
 ghost use Rattle.sender_params.specs.Reads.{anchor_of};
 ghost use Rattle.timing_base.specs.Media.{Media as MediaValue};
 ghost use Rattle.timing_base.specs.declared.packet.FlowPacket.{FlowPacket as PacketValue};
@@ -56,7 +57,7 @@ impl RowMaker {
 
     /// Returns the maker before the first packet of run `run`.
     pub fn new(params: &Params, run: u64) -> RowMaker
-        ensures { (tai : ℕ) → StandsFor params.now.media tai run params.now.n result [] }
+        ensures { (shift : Shift) → StandsFor params.now.media shift run params.now.n result [] }
     {
         RowMaker {
             walk: GroupWalk::new(params),
@@ -85,9 +86,9 @@ impl RowMaker {
     /// Returns the row of the next packet.
     #[inline(always)]
     pub fn packet_row(&self, kept: Kept) -> PacketRow
-        ensures { (m : MediaValue) (tai run n : ℕ) (before : List PacketValue) (p : PacketValue)
-            → IsKept m tai n before p kept → StandsFor m tai run n self.now before
-            → IsPacketRow m tai run n before p result }
+        ensures { (m : MediaValue) (shift : Shift) (run n : ℕ) (before : List PacketValue) (p : PacketValue)
+            → IsKept m shift n before p kept → StandsFor m shift run n self.now before
+            → IsPacketRow m shift run n before p result }
     {
         PacketRow {
             run: self.row.run,
@@ -106,17 +107,17 @@ impl RowMaker {
     #[inline(always)]
     pub fn feed(&mut self, params: &Params, kept: Kept) -> Option<GroupRow>
         requires { self.old.walk.seen < 2 ^ 41 }
-        ensures row { (tai run : ℕ) (before : List PacketValue) (p : PacketValue)
-            → IsKept params.now.media tai params.now.n before p kept
-            → StandsFor params.now.media tai run params.now.n self.old before
-            → IfSome result (IsGroupRow params.now.media tai run params.now.n (before ++ p ∷ [])) }
-        ensures ends { (m : MediaValue) (tai run n : ℕ) (before : List PacketValue)
-            → StandsFor m tai run n self.old before
+        ensures row { (shift : Shift) (run : ℕ) (before : List PacketValue) (p : PacketValue)
+            → IsKept params.now.media shift params.now.n before p kept
+            → StandsFor params.now.media shift run params.now.n self.old before
+            → IfSome result (IsGroupRow params.now.media shift run params.now.n (before ++ p ∷ [])) }
+        ensures ends { (m : MediaValue) (shift : Shift) (run n : ℕ) (before : List PacketValue)
+            → StandsFor m shift run n self.old before
             → is_some result ≡ ends_group n (length before) }
-        ensures stands { (tai run : ℕ) (before : List PacketValue) (p : PacketValue)
-            → IsKept params.now.media tai params.now.n before p kept
-            → StandsFor params.now.media tai run params.now.n self.old before
-            → StandsFor params.now.media tai run params.now.n self.new (before ++ p ∷ []) }
+        ensures stands { (shift : Shift) (run : ℕ) (before : List PacketValue) (p : PacketValue)
+            → IsKept params.now.media shift params.now.n before p kept
+            → StandsFor params.now.media shift run params.now.n self.old before
+            → StandsFor params.now.media shift run params.now.n self.new (before ++ p ∷ []) }
     {
         self.take(params, kept);
         if !self.walk.pass() {

@@ -1,6 +1,7 @@
 //! The drawing of the judged runs of a flow, made while the runs are judged.
 
 ghost use Rattle.std.specs.Prelude.{◌≡◌, ◌≤◌, ℕ, IfOk, List, true};
+ghost use Rattle.timing_base.specs.Shifts.{Shift};
 ghost use Rattle.timing_base.specs.Media.{IsMedia, Media as MediaValue};
 ghost use Rattle.timing_base.specs.declared.packet.FlowPacket.{FlowPacket as PacketValue};
 
@@ -42,7 +43,7 @@ impl RunMeter for DrawingMeter {
 
     ghost stands = { StandsFor };
 
-    ghost tells = { λ _ out m tai over _. Tells m tai over out };
+    ghost tells = { λ _ out m shift over _. Tells m shift over out };
 
     fn begin(
         alloc: Global,
@@ -103,10 +104,10 @@ impl DrawingMeter {
 
     /// Returns the drawing of the run, with its verdicts in `judged`. Returns `Err` if memory runs out.
     fn drawn(&self, judged: &Judged) -> Result<DrawnRun, OutOfMemory>
-        ensures { IfOk result (λ d. (m : MediaValue) (tai : ℕ) (r : RunOf) (fed committed : List PacketValue)
-            → IsMedia m → 1 ≤ r.n → IsJudgedOf m tai r committed judged.now
-            → StandsFor self.now m tai r fed committed
-            → IsDrawn m tai (part_of r judged.now committed) d) }
+        ensures { IfOk result (λ d. (m : MediaValue) (shift : Shift) (r : RunOf) (fed committed : List PacketValue)
+            → IsMedia m → 1 ≤ r.n → IsJudgedOf m shift r committed judged.now
+            → StandsFor self.now m shift r fed committed
+            → IsDrawn m shift (part_of r judged.now committed) d) }
     {
         let packets = self.committed.packets.seen;
         Ok(DrawnRun {

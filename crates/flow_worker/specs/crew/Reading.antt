@@ -22,7 +22,7 @@ pub record IsRun (run : RunSetting) : Type 0 where
   pub few_files : run.files ≤ 16
   pub some_workers : 1 ≤ length run.lanes.now
   pub few_workers : length run.lanes.now ≤ 16
-  pub tai : run.tai ≤ 1000
+  pub options : run.options ≤ 1000
 
 -- the intake has the file's passes of these lanes, and has sent nothing
 pub record IsIntakeJob {S : Type 0} (lanes : List LaneId) (job : IntakeJob S) : Type 0 where

@@ -1,6 +1,7 @@
 //! All files of a run, read by intakes and judged by workers.
 
 ghost use Rattle.std.specs.Prelude.{◌≡◌, ◌≤◌, if◌then◌else◌, ℕ, List, Some, IfOk, IfSome, All, length, map};
+ghost use Rattle.timing_base.specs.Shifts.{FlowOptions as FlowOptionsValue};
 ghost use Rattle.timing_base.specs.Keys.{keys_of};
 ghost use Rattle.timing_base.specs.Targets.{HaveOwnTargets};
 ghost use Rattle.flow_worker.specs.crew.Gathering.{AreGathered, CanGather};
@@ -104,19 +105,19 @@ fn run_threads<R: Threads + Wait + Sync, S: Source + Send, G: Gate>(
         lanes,
         files,
         joined,
-        tai,
+        options,
         turns,
     } = *run;
     let (worked, read) = thread::join(
         rt,
         || -> Result<Vec<WorkDone>, OutOfMemory>
-            requires { IsRun (record { media = media; lanes = lanes; files = files; joined = joined; tai = tai; turns = turns })
+            requires { IsRun (record { media = media; lanes = lanes; files = files; joined = joined; options = options; turns = turns })
                 × AreWorkJobs lanes.now workers.items }
             ensures { IfOk result (λ dones. AreWorked (record {
               media = media.entry.now;
               workers = length lanes.entry.now;
               joined = joined;
-              tai = tai;
+              options = options;
             }) files book.entry.now workers.items dones.items) }
         {
             let run = RunSetting {
@@ -124,7 +125,7 @@ fn run_threads<R: Threads + Wait + Sync, S: Source + Send, G: Gate>(
                 lanes,
                 files,
                 joined,
-                tai,
+                options,
                 turns,
             };
             run_workers(rt, alloc, &run, book, stop, gate, workers)
@@ -224,7 +225,7 @@ pub fn judge_files<R: Threads + Wait + Sync, S: Source + Send, G: Gate>(
     sources: Vec<S>,
     media: &[Media],
     joined: bool,
-    tai: u64,
+    options: FlowOptions,
     workers: u32,
     gate: &G,
 ) -> Result<Judged<S>, OutOfMemory>
@@ -233,7 +234,6 @@ pub fn judge_files<R: Threads + Wait + Sync, S: Source + Send, G: Gate>(
     requires some_media { 1 ≤ length media.now }
     requires few_media { length media.now ≤ 64 }
     requires targets { HaveOwnTargets media.now }
-    requires tai { tai ≤ 1000 }
     requires some_workers { 1 ≤ workers }
     requires few_workers { workers ≤ 16 }
     ensures back { IfOk result (λ judged. AreBack S.name S.faults sources.items judged.notes.items
@@ -245,7 +245,7 @@ pub fn judge_files<R: Threads + Wait + Sync, S: Source + Send, G: Gate>(
         ≡ keys_of joined (length sources.items) (length media.now))) }
     ensures told { IfOk result (λ judged. IfSome judged.found (λ found. (texts : List (List ℕ))
         → AreTexts S.left texts sources.items
-        → AreFound texts (rows_over joined tai media.now) found.notes.items found.rows.items)) }
+        → AreFound texts (rows_over joined options media.now) found.notes.items found.rows.items)) }
 {
     let files = sources.len() as u32;
     let Made {
@@ -261,7 +261,7 @@ pub fn judge_files<R: Threads + Wait + Sync, S: Source + Send, G: Gate>(
         lanes: &lanes,
         files,
         joined,
-        tai,
+        options,
         turns: &turns,
     };
     let (worked, read) = run_threads(rt, alloc, &run, &book, gate, jobs, intakes)?;

@@ -1,6 +1,7 @@
 -- The result of a flow that has ended. `tells` relates the output of the meters of its runs to the runs; `tai` is in
 -- seconds.
 use Rattle.std.specs.Prelude.{◌≡◌, ℕ, true, List, [], length, Option}
+use Rattle.timing_base.specs.Shifts.{FlowOptions}
 use Rattle.timing_base.specs.Judged.{judged}
 use Rattle.timing_base.specs.Media.{Media}
 use Rattle.timing_base.specs.declared.packet.FlowPacket.{FlowPacket}
@@ -23,21 +24,21 @@ use Rattle.timing_measure.specs.declared.flows.flow.FlowEnd.{FlowEnd}
 use Rattle.timing_measure.specs.declared.flows.flow.FlowMeter.{FlowMeter}
 
 -- the result of the flow with these packets, of the media with this number
-pub record IsEndOf {Past O : Type 0} (tells : Telling Past O) (past : Past) (m : Media) (number tai : ℕ)
+pub record IsEndOf {Past O : Type 0} (tells : Telling Past O) (past : Past) (m : Media) (number : ℕ) (options : FlowOptions)
     (packets : List FlowPacket) (end : FlowEnd O) : Type 0 where
   pub media : end.media ≡ number
   pub count : end.packets ≡ length packets
   pub source : end.ssrc ≡ first_source packets
-  pub verdict_is : end.verdict ≡ verdict_of m (judged packets m.pt tai)
-  pub told : TellsOfAll tells past m tai packets end.out
+  pub verdict_is : end.verdict ≡ verdict_of m (judged packets m.pt options)
+  pub told : TellsOfAll tells past m options packets end.out
 
 -- the output has the numbers of the judged runs
-abbrev pub TellsNumbers : Unit {0} → MeasuredRuns → Media → (tai : ℕ) → List JudgedPart → Option OpenPart → Type 0
-TellsNumbers past out m tai over part = AreMeasured (HasNumbers m tai) over out.runs.items
+abbrev pub TellsNumbers : Unit {0} → MeasuredRuns → Media → (options : FlowOptions) → List JudgedPart → Option OpenPart → Type 0
+TellsNumbers past out m options over part = AreMeasured (HasNumbers m options) over out.runs.items
 
 -- the result of a flow with meters that write these numbers
-abbrev pub IsMeasuredEnd : Media → (number tai : ℕ) → List FlowPacket → FlowEnd MeasuredRuns → Type 0
-IsMeasuredEnd m number tai packets end = IsEndOf TellsNumbers tt m number tai packets end
+abbrev pub IsMeasuredEnd : Media → (number : ℕ) (options : FlowOptions) → List FlowPacket → FlowEnd MeasuredRuns → Type 0
+IsMeasuredEnd m number options packets end = IsEndOf TellsNumbers tt m number options packets end
 
 -- the measured runs; none if the flow isn't judged
 abbrev pub judged_alone : Verdict → List MeasuredRun → List MeasuredRun
@@ -47,6 +48,6 @@ judged_alone (verdict.Runs found) runs = runs
 
 -- the numbers of a flow, from its taker at the end of the capture
 abbrev pub EndsMeasured : MediaFlow (FlowMeter NumbersMeter MeasuredRuns) → MeasuredFlow → Type 0
-EndsMeasured f measured = (m : Media) (number tai : ℕ) (packets : List FlowPacket)
-    → StandsFor true NumbersStandsFor TellsNumbers tt m number tai f.taker packets
-    → IsMeasuredFlow m number tai packets measured
+EndsMeasured f measured = (m : Media) (number : ℕ) (options : FlowOptions) (packets : List FlowPacket)
+    → StandsFor true NumbersStandsFor TellsNumbers tt m number options f.taker packets
+    → IsMeasuredFlow m number options packets measured

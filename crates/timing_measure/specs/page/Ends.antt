@@ -1,5 +1,6 @@
 -- The part of a page for a flow that has ended. `tai` is in seconds; runs count from 1.
 use Rattle.std.specs.Prelude.{◌≡◌, ℕ, ⊤, true, All, List, ◌∷◌, ◌++◌, Option, Some, None}
+use Rattle.timing_base.specs.Shifts.{FlowOptions}
 use Rattle.timing_base.specs.Media.{Media}
 use Rattle.timing_base.specs.declared.packet.FlowPacket.{FlowPacket}
 use Rattle.run_meter.specs.Runs.{JudgedPart, OpenPart, RunOf}
@@ -23,26 +24,26 @@ use Rattle.timing_measure.specs.declared.flows.flow.FlowEnd.{FlowEnd}
 use Rattle.timing_measure.specs.declared.flows.flow.FlowMeter.{FlowMeter}
 
 -- both meters of a run were fed these packets
-abbrev pub PairStandsFor : Pair NumbersMeter DrawingMeter → Media → (tai : ℕ) → RunOf
+abbrev pub PairStandsFor : Pair NumbersMeter DrawingMeter → Media → (options : FlowOptions) → RunOf
     → (fed committed : List FlowPacket) → Type 0
-PairStandsFor x m tai r fed committed =
-    NumbersStandsFor x.first m tai r fed committed × DrawingStandsFor x.second m tai r fed committed
+PairStandsFor x m options r fed committed =
+    NumbersStandsFor x.first m options r fed committed × DrawingStandsFor x.second m options r fed committed
 
 -- the outputs of both meters have the results of the runs
-abbrev pub TellsPair : Unit {0} × Unit {0} → MeasuredRuns × LongestRun → Media → (tai : ℕ) → List JudgedPart
+abbrev pub TellsPair : Unit {0} × Unit {0} → MeasuredRuns × LongestRun → Media → (options : FlowOptions) → List JudgedPart
     → Option OpenPart → Type 0
-TellsPair past out m tai over part = TellsNumbers past.0 out.0 m tai over part × Tells m tai over out.1
+TellsPair past out m options over part = TellsNumbers past.0 out.0 m options over part × Tells m options over out.1
 
 -- the result of a flow with meters that write numbers and drawings
-abbrev pub IsPageEnd : Media → (number tai : ℕ) → List FlowPacket → FlowEnd (MeasuredRuns × LongestRun) → Type 0
-IsPageEnd m number tai packets end = IsEndOf TellsPair (tt, tt) m number tai packets end
+abbrev pub IsPageEnd : Media → (number : ℕ) (options : FlowOptions) → List FlowPacket → FlowEnd (MeasuredRuns × LongestRun) → Type 0
+IsPageEnd m number options packets end = IsEndOf TellsPair (tt, tt) m number options packets end
 
 -- the part of a page for a flow, from its taker at the end of the capture
 abbrev pub EndsPage : MediaFlow (FlowMeter (Pair NumbersMeter DrawingMeter) (MeasuredRuns × LongestRun)) → FlowPage
     → Type 0
-EndsPage f page = (m : Media) (number tai : ℕ) (packets : List FlowPacket)
-    → StandsFor true PairStandsFor TellsPair (tt, tt) m number tai f.taker packets
-    → IsFlowPage m number tai packets page
+EndsPage f page = (m : Media) (number : ℕ) (options : FlowOptions) (packets : List FlowPacket)
+    → StandsFor true PairStandsFor TellsPair (tt, tt) m number options f.taker packets
+    → IsFlowPage m number options packets page
 
 -- this run is the first of these judged runs that has this number
 pub record IsRunOf (runs : List MeasuredRun) (number : ℕ) (run : MeasuredRun) : Type 0 where

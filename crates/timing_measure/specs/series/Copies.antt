@@ -1,6 +1,7 @@
 -- The rows of a flow that were written while packet records were taken.
 use Rattle.std.specs.Prelude.{◌≡◌, ◌⊎◌, ◌^◌, ℕ, ⊤, Bool, List, ◌++◌, take}
 use Rattle.std.specs.Io.KnownBytes.{Appends}
+use Rattle.timing_base.specs.Shifts.{FlowOptions}
 use Rattle.timing_base.specs.Captures.{Record}
 use Rattle.timing_base.specs.Media.{Media}
 use Rattle.timing_base.specs.declared.capture.FileNote.{FileNote}
@@ -16,9 +17,9 @@ use Rattle.timing_measure.specs.declared.series.flow.SeriesFlow.{SeriesFlow}
 -- these packet records were taken, and `written` was written, after all that was taken and written before
 abbrev pub GoesOn : (old new : SeriesFlow) → (written : List ℕ) → List Record → Type 0
 GoesOn old new written items =
-    (frames : Bool) (m : Media) (number tai : ℕ) (gone : List ℕ) (before : List Record)
-    → StandsFor frames m number tai gone old before
-    → StandsFor frames m number tai (gone ++ written) new (before ++ items)
+    (frames : Bool) (m : Media) (number : ℕ) (options : FlowOptions) (gone : List ℕ) (before : List Record)
+    → StandsFor frames m number options gone old before
+    → StandsFor frames m number options (gone ++ written) new (before ++ items)
 
 -- these packet records were taken, and the rows that were written are what the output has more
 pub record Copies (o : Output) (old new : SeriesFlow) (items : List Record) : Type 0 where

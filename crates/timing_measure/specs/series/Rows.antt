@@ -2,6 +2,7 @@
 -- frames or fields before the packet with the first fault. `m` is the media, `tai` is in seconds. Which packets are
 -- listed is this project's own choice.
 use Rattle.std.specs.Prelude.{ℕ, Bool, List, Option, Some, None}
+use Rattle.timing_base.specs.Shifts.{FlowOptions}
 use Rattle.timing_base.specs.Flows.{FirstFault, first_fault}
 use Rattle.timing_base.specs.Media.{Media}
 use Rattle.timing_base.specs.declared.packet.FlowPacket.{FlowPacket}
@@ -9,11 +10,11 @@ use Rattle.fail_interval.specs.Parts.{judged_parts, open_before, parts_before}
 use Rattle.flow_measure.specs.rows.Told.{AreRowsSoFar}
 
 -- the rows up to the first fault of the flow, if it has one
-abbrev pub AreRowsUpTo : (frames : Bool) → Media → (tai : ℕ) → List FlowPacket → Option FirstFault → List ℕ → Type 0
-AreRowsUpTo frames m tai packets None rows = AreRowsSoFar frames m tai (judged_parts m packets tai) None rows
-AreRowsUpTo frames m tai packets (Some first) rows =
-    AreRowsSoFar frames m tai (parts_before m packets tai first.index) (open_before packets tai first.index) rows
+abbrev pub AreRowsUpTo : (frames : Bool) → Media → (options : FlowOptions) → List FlowPacket → Option FirstFault → List ℕ → Type 0
+AreRowsUpTo frames m options packets None rows = AreRowsSoFar frames m options (judged_parts m packets options) None rows
+AreRowsUpTo frames m options packets (Some first) rows =
+    AreRowsSoFar frames m options (parts_before m packets options first.index) (open_before packets options first.index) rows
 
 -- the rows of the flow of a media
-abbrev pub AreRowsOfFlow : (frames : Bool) → Media → (tai : ℕ) → List FlowPacket → List ℕ → Type 0
-AreRowsOfFlow frames m tai packets rows = AreRowsUpTo frames m tai packets (first_fault packets m.pt) rows
+abbrev pub AreRowsOfFlow : (frames : Bool) → Media → (options : FlowOptions) → List FlowPacket → List ℕ → Type 0
+AreRowsOfFlow frames m options packets rows = AreRowsUpTo frames m options packets (first_fault packets m.pt) rows

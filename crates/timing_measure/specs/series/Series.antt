@@ -2,6 +2,7 @@
 -- media, in one capture, as comma-separated values (RFC 4180). The SDP is read first, then the capture. This project's
 -- profile.
 use Rattle.std.specs.Prelude.{◌≡◌, ◌++◌, ℕ, Bool, List, [], ◌∷◌}
+use Rattle.timing_base.specs.Shifts.{FlowOptions}
 use Rattle.timing_base.specs.Captures.{Record}
 use Rattle.timing_base.specs.Jobs.{SeriesJob}
 use Rattle.timing_base.specs.Judged.{judged}
@@ -29,12 +30,12 @@ series_of frames m note found (byte ∷ rows) = record {
 
 -- the answer of `series` for the flow of this media, in the packet records of a capture that ends in this way; `tai` is
 -- in seconds
-pub record DefinesSeries (frames : Bool) (tai : ℕ) (m : Media) (items : List Record) (note : FileNote) (answer : Answer)
+pub record DefinesSeries (frames : Bool) (options : FlowOptions) (m : Media) (items : List Record) (note : FileNote) (answer : Answer)
     : Type 0 where
   pub rows : List ℕ
-  pub are : AreRowsOfFlow frames m tai (flow items m) rows
-  pub answer_is : answer ≡ series_of frames m note (verdict_of m (judged (flow items m) m.pt tai)) rows
+  pub are : AreRowsOfFlow frames m options (flow items m) rows
+  pub answer_is : answer ≡ series_of frames m note (verdict_of m (judged (flow items m) m.pt options)) rows
 
 -- what `series` asks: the capture is read if the SDP has the media
 abbrev pub series_query : SeriesJob → Query
-series_query job = flow_query job.flow (DefinesSeries job.frames job.flow.tai)
+series_query job = flow_query job.flow (DefinesSeries job.frames job.flow.options)

@@ -1,5 +1,6 @@
 -- The packet records that a `SeriesFlow` has taken, and the rows that were written meanwhile.
 use Rattle.std.specs.Prelude.{◌≡◌, ◌≤◌, ◌<◌, ◌⊎◌, ℕ, Bool, true, List, [], ◌++◌, length}
+use Rattle.timing_base.specs.Shifts.{FlowOptions}
 use Rattle.timing_base.specs.Captures.{Record}
 use Rattle.timing_base.specs.Keys.{key_of}
 use Rattle.timing_base.specs.Media.{Media}
@@ -34,10 +35,10 @@ Waits frames gone waiting =
     ⊎ ((waiting ≡ 0) × (length (header_text frames) < length gone))
 
 -- these packet records were taken for the flow of this media, and `gone` was written of its text
-pub record StandsFor (frames : Bool) (m : Media) (number tai : ℕ) (gone : List ℕ) (x : SeriesFlow) (items : List Record)
+pub record StandsFor (frames : Bool) (m : Media) (number : ℕ) (options : FlowOptions) (gone : List ℕ) (x : SeriesFlow) (items : List Record)
     : Type 0 where
   pub media_is : x.flow.media ≡ m
-  pub fed : IsFed true RowsStandsFor Tells (past_of frames gone) m (key_of 0 number) tai x.flow.taker (flow items m)
+  pub fed : IsFed true RowsStandsFor Tells (past_of frames gone) m (key_of 0 number) options x.flow.taker (flow items m)
   pub waits : Waits frames gone x.waiting
 
 -- `count` more packets can be taken
@@ -48,11 +49,11 @@ pub record HasRoom (count : ℕ) (x : SeriesFlow) : Type 0 where
 -- these packet records were taken after those before, and nothing was written
 abbrev pub TakesOn : (old new : SeriesFlow) → List Record → Type 0
 TakesOn old new more =
-    (frames : Bool) (m : Media) (number tai : ℕ) (gone : List ℕ) (items : List Record)
-    → StandsFor frames m number tai gone old items → StandsFor frames m number tai gone new (items ++ more)
+    (frames : Bool) (m : Media) (number : ℕ) (options : FlowOptions) (gone : List ℕ) (items : List Record)
+    → StandsFor frames m number options gone old items → StandsFor frames m number options gone new (items ++ more)
 
 -- `poured` was written after what was written before
 abbrev pub PoursOn : (old new : SeriesFlow) → (poured : List ℕ) → Type 0
 PoursOn old new poured =
-    (frames : Bool) (m : Media) (number tai : ℕ) (gone : List ℕ) (items : List Record)
-    → StandsFor frames m number tai gone old items → StandsFor frames m number tai (gone ++ poured) new items
+    (frames : Bool) (m : Media) (number : ℕ) (options : FlowOptions) (gone : List ℕ) (items : List Record)
+    → StandsFor frames m number options gone old items → StandsFor frames m number options (gone ++ poured) new items

@@ -1,6 +1,7 @@
 //! Judges and measures the flow of one media.
 
 ghost use Rattle.std.specs.Prelude.{◌≡◌, ◌≤◌, ◌+◌, ◌^◌, [], ℕ, List, IfOk, true};
+ghost use Rattle.timing_base.specs.Shifts.{FlowOptions as FlowOptionsValue};
 ghost use Rattle.timing_base.specs.Media.{Media as MediaValue};
 ghost use Rattle.timing_base.specs.declared.packet.FlowPacket.{FlowPacket as PacketValue};
 
@@ -41,27 +42,26 @@ impl<M: RunMeter<Out = O>, O: Drop> FlowMeter<M, O> {
 
     /// Returns the taker of the flow of a media before the first packet, with an empty output. `tai` seconds are added
     /// to every capture timestamp.
-    pub fn new(alloc: Global, media: &Media, number: u32, tai: u64, out: O) -> FlowMeter<M, O>
-        requires { tai ≤ 1000 }
+    pub fn new(alloc: Global, media: &Media, number: u32, options: FlowOptions, out: O) -> FlowMeter<M, O>
         ensures room { HasRoom (2 ^ 41) result }
-        ensures stands { (past : M.Past) → M.tells past out media.now tai [] None
-            → StandsFor M.WANTS_LEVELS M.stands M.tells past media.now number tai result [] }
+        ensures stands { (past : M.Past) → M.tells past out media.now options [] None
+            → StandsFor M.WANTS_LEVELS M.stands M.tells past media.now number options result [] }
     {
         let key = FlowKey {
             file: 0,
             media: number,
         };
         FlowMeter {
-            metered: Metered::new(alloc, media, key, tai, out),
+            metered: Metered::new(alloc, media, key, options, out),
             source: None,
         }
     }
 
     /// Returns the result of the flow if it ends here. Returns `Err` if memory runs out.
     pub fn finish(self) -> Result<FlowEnd<O>, OutOfMemory>
-        ensures { M.WANTS_LEVELS ≡ true → IfOk result (λ end. (past : M.Past) (m : MediaValue) (number tai : ℕ)
-            (packets : List PacketValue) → StandsFor M.WANTS_LEVELS M.stands M.tells past m number tai self packets
-            → IsEndOf M.tells past m number tai packets end) }
+        ensures { M.WANTS_LEVELS ≡ true → IfOk result (λ end. (past : M.Past) (m : MediaValue) (number : ℕ) (options : FlowOptionsValue)
+            (packets : List PacketValue) → StandsFor M.WANTS_LEVELS M.stands M.tells past m number options self packets
+            → IsEndOf M.tells past m number options packets end) }
     {
         let FlowMeter { metered, source } = self;
         let packets = metered.judge.fed();

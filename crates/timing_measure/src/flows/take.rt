@@ -1,6 +1,7 @@
 //! Takes the flows of all media of a session from the packet records of a capture.
 
 ghost use Rattle.std.specs.Prelude.{◌≡◌, ◌≤◌, ◌^◌, [], ℕ, All, List, Option, None, Some, IfErr, IfOk, length, true};
+ghost use Rattle.timing_base.specs.Shifts.{FlowOptions as FlowOptionsValue};
 ghost use Rattle.timing_base.specs.Media.{Media as MediaValue};
 ghost use Rattle.timing_outside.specs.Causes.{Rose};
 ghost use Rattle.timing_outside.specs.Shelves.{StaysAs};
@@ -39,21 +40,20 @@ pub struct TakenFlows<M: Drop, O: Drop, B: Drop> {
 fn begin_flows<M: RunMeter<Out = O>, O: FlowOutput>(
     alloc: Global,
     media: &[Media],
-    tai: u64,
+    options: FlowOptions,
 ) -> Result<Vec<MediaFlow<FlowMeter<M, O>>>, OutOfMemory>
-    requires tai { tai ≤ 1000 }
     requires few { length media.now ≤ 64 }
-    requires begins { (past : M.Past) (out : O) (m : MediaValue) (tai : ℕ) → O.empty out
-        → M.tells past out m tai [] None }
+    requires begins { (past : M.Past) (out : O) (m : MediaValue) (options : FlowOptionsValue) → O.empty out
+        → M.tells past out m options [] None }
     ensures stands { IfOk result (λ flows.
-        AreMetered M.WANTS_LEVELS M.stands M.tells tai media.now [] flows.items) }
+        AreMetered M.WANTS_LEVELS M.stands M.tells options media.now [] flows.items) }
     ensures room { IfOk result (λ flows. All (λ f. HasRoom (2 ^ 41) f.taker) flows.items) }
     ensures awaits { IfOk result (λ flows. All (AwaitsExpected expected_next) flows.items) }
 {
     let mut flows = Vec::new(alloc);
     for (number, each) in media.iter().enumerate() {
         let out = O::empty(alloc)?;
-        let meter = FlowMeter::new(alloc, each, number as u32, tai, out);
+        let meter = FlowMeter::new(alloc, each, number as u32, options, out);
         flows.push(MediaFlow::new(each, meter))?;
     }
     Ok(flows)
@@ -96,19 +96,19 @@ pub fn take_flows<
     beside: B,
 ) -> Result<TakenFlows<M, O, B>, Failure>
     requires few { length media.now ≤ 64 }
-    requires begins { (past : M.Past) (out : O) (m : MediaValue) (tai : ℕ) → O.empty out
-        → M.tells past out m tai [] None }
+    requires begins { (past : M.Past) (out : O) (m : MediaValue) (options : FlowOptionsValue) → O.empty out
+        → M.tells past out m options [] None }
     requires room { B.room 1 (2 ^ 36) beside }
     ensures told { IfOk result (λ taken. (text : List ℕ)
         → classic_texts (H.text shelf.old) job.now.capture ≡ Some text
-        → AreTakenIn M.WANTS_LEVELS M.stands M.tells B.takes job.now.tai media.now text beside taken) }
-    ensures some { IfOk result (AreTakenOf M.WANTS_LEVELS M.stands M.tells job.now.tai media.now) }
+        → AreTakenIn M.WANTS_LEVELS M.stands M.tells B.takes job.now.options media.now text beside taken) }
+    ensures some { IfOk result (AreTakenOf M.WANTS_LEVELS M.stands M.tells job.now.options media.now) }
     ensures cause { IfErr result (λ e. OnReadFault e (λ i. (i ≡ Input.Capture 0)
         × Rose (H.faults shelf.old job.now.capture) (H.faults shelf.new job.now.capture))) }
     ensures there { IfOk result (λ _. ¬ H.lacks shelf.old job.now.capture) }
     ensures stays { StaysAs H.text H.lacks H.faults shelf.old shelf.new }
 {
-    let flows = begin_flows::<M, O>(alloc, media, job.tai)?;
+    let flows = begin_flows::<M, O>(alloc, media, job.options)?;
     let both = Both {
         first: Demux::new(alloc, flows)?,
         second: beside,

@@ -41,8 +41,8 @@ pub fn read_pages<H: Shelf>(
     requires few { length media.now ≤ 64 }
     ensures told { IfOk result (λ read. (text : List ℕ)
         → classic_texts (H.text shelf.old) job.now.capture ≡ Some text
-        → IsPageIn job.now.tai media.now text read) }
-    ensures some { IfOk result (IsPageOf job.now.tai media.now) }
+        → IsPageIn job.now.options media.now text read) }
+    ensures some { IfOk result (IsPageOf job.now.options media.now) }
     ensures cause { IfErr result (λ e. OnReadFault e (λ i. (i ≡ Input.Capture 0)
         × Rose (H.faults shelf.old job.now.capture) (H.faults shelf.new job.now.capture))) }
     ensures there { IfOk result (λ _. ¬ H.lacks shelf.old job.now.capture) }

@@ -1,6 +1,7 @@
 //! The parts of a page for the flows of a session.
 
 ghost use Rattle.std.specs.Prelude.{◌≡◌, All, ℕ, List, IfOk, IfSome, None};
+ghost use Rattle.timing_base.specs.Shifts.{FlowOptions};
 ghost use Rattle.timing_base.specs.Media.{Media as MediaValue};
 ghost use Rattle.timing_base.specs.declared.packet.FlowPacket.{FlowPacket as PacketValue};
 ghost use Rattle.timing_measure.specs.Each.{AllPairs};
@@ -41,8 +42,8 @@ fn shown_of(longest: LongestRun, runs: &[MeasuredRun]) -> Option<ShownRun>
 
 /// Returns the part of a page for a flow that has ended.
 fn flow_page(alloc: Global, end: FlowEnd<(MeasuredRuns, LongestRun)>) -> FlowPage
-    ensures { (m : MediaValue) (number tai : ℕ) (packets : List PacketValue)
-        → IsPageEnd m number tai packets end → IsFlowPage m number tai packets result }
+    ensures { (m : MediaValue) (number : ℕ) (options : FlowOptions) (packets : List PacketValue)
+        → IsPageEnd m number options packets end → IsFlowPage m number options packets result }
 {
     let FlowEnd {
         media,

@@ -2,6 +2,7 @@
 
 ghost use Rattle.std.specs.Prelude.{◌≡◌, ◌≤◌, ◌+◌, ◌^◌, ◌∷◌, [], ℕ, List, IfErr, IfOk, length};
 ghost use Rattle.std.specs.Io.KnownBytes.{Appends};
+ghost use Rattle.timing_base.specs.Shifts.{FlowOptions as FlowOptionsValue};
 ghost use Rattle.timing_base.specs.Captures.{IsStamp};
 ghost use Rattle.timing_outside.specs.Causes.{Rose};
 ghost use Rattle.timing_outside.specs.Written.{AppendsFront};
@@ -52,12 +53,11 @@ impl SeriesFlow {
         alloc: Global,
         media: &Media,
         number: u32,
-        tai: u64,
+        options: FlowOptions,
         frames: bool,
     ) -> Result<SeriesFlow, OutOfMemory>
-        requires { tai ≤ 1000 }
         ensures room { IfOk result (HasRoom (2 ^ 41)) }
-        ensures stands { IfOk result (λ x. StandsFor frames media.now number tai [] x []) }
+        ensures stands { IfOk result (λ x. StandsFor frames media.now number options [] x []) }
     {
         let mut text = Vec::new(alloc);
         text.extend_from_slice(header(frames).as_bytes())?;
@@ -68,7 +68,7 @@ impl SeriesFlow {
         let waiting = text.len();
         let rows = Rows::new(text, frames);
         Ok(SeriesFlow {
-            flow: MediaFlow::new(media, Metered::new(alloc, media, key, tai, rows)),
+            flow: MediaFlow::new(media, Metered::new(alloc, media, key, options, rows)),
             waiting,
         })
     }

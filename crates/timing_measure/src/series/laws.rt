@@ -15,7 +15,7 @@ ghost use Rattle.timing_measure.specs.series.Series.{series_query};
 pub fn some_series_answer()
     ensures { (job : SeriesJob) (media : List Media) (m : Media) (text : List ℕ) (items : List Record)
         (note : FileNote)
-        → slice_get media job.flow.media ≡ Some m → IsMedia m → job.flow.tai ≤ 1000
+        → slice_get media job.flow.media ≡ Some m → IsMedia m → job.flow.options ≤ 1000
         → Records text (2 ^ 40) items note → length items < 2 ^ 41 → All (λ r. IsStamp r.stamp) items
         → (answer : Answer) × HasAnswer (series_query job) media (text ∷ []) answer }
 {}

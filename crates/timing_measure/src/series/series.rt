@@ -38,7 +38,7 @@ fn answer_series<H: Shelf, K: Sink>(
     ensures stays { StaysAs H.text H.lacks H.faults shelf.old shelf.new }
 {
     let media = media_of(session, job.flow.media);
-    let mut flow = SeriesFlow::new(alloc, media, job.flow.media, job.flow.tai, job.frames)?;
+    let mut flow = SeriesFlow::new(alloc, media, job.flow.media, job.flow.options, job.frames)?;
     let note = copy_capture(alloc, shelf, job.flow.capture.as_str(), &mut flow, out)?;
     Ok(flow.finish(alloc, note)?)
 }

@@ -16,7 +16,7 @@ pub record Part : Type 0 where
   pub media : Media
   pub n : ℕ
   pub kind : Kind
-  pub tai : ℕ
+  pub options : ℕ
   pub origin : ℕ
 
 -- packets with these arrivals can be shaped: the arrivals never decrease, and the first one is the origin
@@ -30,8 +30,8 @@ pub record HasLet (w : Part) (l : Leaver) (stamps departures : List ℕ) : Type 
   pub group : l.params.n ≡ w.n
   pub kind : l.shaper.kind ≡ w.kind
   pub origin : l.shaper.origin ≡ w.origin
-  pub end : l.shaper.end ≡ end_of w.tai
-  pub added : l.added ≡ w.tai * 10 ^ 9
+  pub end : l.shaper.end ≡ end_of w.options
+  pub added : l.added ≡ w.options * 10 ^ 9
   pub stands : StandsFor l.params l.shaper stamps departures
 
 -- the number of packets that left
@@ -45,7 +45,7 @@ LeavesSo w new stamps departures at (Ok d) =
     BoundAt w.media w.n w.kind (stamps ++ at ∷ []) (departures ++ d.at ∷ []) (length stamps) d.bound
     × HasLet w new (stamps ++ at ∷ []) (departures ++ d.at ∷ [])
 LeavesSo w new stamps departures at (Err late) =
-    (late.packet ≡ length stamps) × IsLate w.media w.n w.kind (end_of w.tai) (stamps ++ at ∷ []) (length stamps)
+    (late.packet ≡ length stamps) × IsLate w.media w.n w.kind (end_of w.options) (stamps ++ at ∷ []) (length stamps)
 
 -- the departure of a packet that came at `at`, after these packets, if all of them can be shaped
 abbrev pub Leaves : Part → (new : Leaver) → (stamps departures : List ℕ) → (at : ℕ) → Result Departure Late → Type 0

@@ -4,6 +4,7 @@ use Rattle.std.specs.Prelude.{is_some}
 use Rattle.std.specs.List.{cons_option}
 use Rattle.std.proofs.Common.{arith, sym, subst, append-nil, append_assoc, ap, ◌∙◌}
 use Rattle.std.proofs.lemmas.List.Elements.{filter-append, filter_map-append}
+use Rattle.timing_base.specs.Shifts.{FlowOptions}
 use Rattle.timing_base.specs.Captures.{Record}
 use Rattle.timing_base.specs.Grouped.{IsGroupedVerdict}
 use Rattle.timing_base.specs.Jobs.{ShapeJob}
@@ -31,9 +32,9 @@ pub record IsKept (m : Media) (list : Bool) (packets : Kept) (items : List Recor
   pub held : All CanBeHeld (flow_records m items)
 
 -- the flow of this media in these packet records was passed to the judge, and is kept
-pub record IsReading (m : Media) (key : FlowKey) (tai : ℕ) (list : Bool) (r : Reading) (items : List Record) : Type 0
+pub record IsReading (m : Media) (key : FlowKey) (options : FlowOptions) (list : Bool) (r : Reading) (items : List Record) : Type 0
   where
-    pub judge : StandsFor m key tai r.judge.judge (flow items m)
+    pub judge : StandsFor m key options r.judge.judge (flow items m)
     pub packets : IsKept m list r.packets items
 
 -- the number of packets that were passed
@@ -51,8 +52,8 @@ room_less few many r less room = omega (arith, less, room)
 -- these packet records were read after those before, and nothing else
 abbrev pub ReadsOn : Media → (old new : Reading) → List Record → Type 0
 ReadsOn m old new more =
-    (key : FlowKey) (tai : ℕ) (list : Bool) (items : List Record) → IsReading m key tai list old items
-    → IsReading m key tai list new (items ++ more)
+    (key : FlowKey) (options : FlowOptions) (list : Bool) (items : List Record) → IsReading m key options list old items
+    → IsReading m key options list new (items ++ more)
 
 -- the packets of the flow, after one more packet record
 pub flow-on : (m : Media) (items : List Record) (r : Record) (o : Option FlowPacket) → flow_packet m r ≡ o
@@ -70,15 +71,15 @@ records-on m items r o is =
 
 -- reading no record changes nothing
 pub reads_none : (m : Media) (x : Reading) → ReadsOn m x x []
-reads_none m x key tai list items h = subst (IsReading m key tai list x) (sym (append-nil items)) h
+reads_none m x key options list items h = subst (IsReading m key options list x) (sym (append-nil items)) h
 
 -- a record that is no packet of the flow changes nothing
 pub reads_other : (m : Media) (x : Reading) (r : Record) → flow_packet m r ≡ None → ReadsOn m x x (r ∷ [])
-reads_other m x r is key tai list items h =
+reads_other m x r is key options list items h =
     let packets = flow-on m items r None is ∙ append-nil (flow items m) in
     let records = records-on m items r None is ∙ append-nil (flow_records m items) in
     record {
-      judge = subst (StandsFor m key tai x.judge.judge) (sym packets) h.judge;
+      judge = subst (StandsFor m key options x.judge.judge) (sym packets) h.judge;
       packets = record {
         kept = subst (AreKept list x.packets) (sym records) h.packets.kept;
         held = subst (All CanBeHeld) (sym records) h.packets.held;
@@ -88,30 +89,30 @@ reads_other m x r is key tai list items h =
 -- reading some records and then others is reading both
 pub reads_more : (m : Media) (x y z : Reading) (a b : List Record) → ReadsOn m x y a → ReadsOn m y z b
     → ReadsOn m x z (a ++ b)
-reads_more m x y z a b first second key tai list items h =
-    subst (IsReading m key tai list z) (append_assoc items a b)
-    (second key tai list (items ++ a) (first key tai list items h))
+reads_more m x y z a b first second key options list items h =
+    subst (IsReading m key options list z) (append_assoc items a b)
+    (second key options list (items ++ a) (first key options list items h))
 
 -- the result of reading the flow of this media in these packet records; its judged runs are in order
-pub record IsKeptFlow (m : Media) (tai : ℕ) (list : Bool) (items : List Record) (f : KeptFlow) : Type 0 where
-  pub verdict_is : f.verdict ≡ verdict_of m (judged (flow items m) m.pt tai)
+pub record IsKeptFlow (m : Media) (options : FlowOptions) (list : Bool) (items : List Record) (f : KeptFlow) : Type 0 where
+  pub verdict_is : f.verdict ≡ verdict_of m (judged (flow items m) m.pt options)
   pub packets : IsKept m list f.packets items
-  pub grouped : IsGroupedVerdict (judged (flow items m) m.pt tai)
+  pub grouped : IsGroupedVerdict (judged (flow items m) m.pt options)
 
 -- the result of reading the flow of a media in a capture with these contents
-pub record IsKeptIn (m : Media) (tai : ℕ) (list : Bool) (text : List ℕ) (f : KeptFlow) : Type 0 where
+pub record IsKeptIn (m : Media) (options : FlowOptions) (list : Bool) (text : List ℕ) (f : KeptFlow) : Type 0 where
   pub items : List Record
   pub note : FileNote
   pub records : Records text (2 ^ 40) items note
-  pub flow_is : IsKeptFlow m tai list items f
+  pub flow_is : IsKeptFlow m options list items f
 
 -- the result of reading some packet records
-pub record IsRead (m : Media) (tai : ℕ) (list : Bool) (f : KeptFlow) : Type 0 where
+pub record IsRead (m : Media) (options : FlowOptions) (list : Bool) (f : KeptFlow) : Type 0 where
   pub items : List Record
-  pub flow_is : IsKeptFlow m tai list items f
+  pub flow_is : IsKeptFlow m options list items f
 
 -- the answer of `shape` is that for the flow of this media in some packet records
 pub record AnswersSome (job : ShapeJob) (m : Media) (answer : Answer) : Type 0 where
   pub items : List Record
-  pub on_run : OnRun m (HasShape job.list job.flow.tai job.kind m items)
-      (judged (flow items m) m.pt job.flow.tai) answer
+  pub on_run : OnRun m (HasShape job.list job.flow.options job.kind m items)
+      (judged (flow items m) m.pt job.flow.options) answer

@@ -3,6 +3,7 @@ use Rattle.std.specs.Prelude.{◌≡◌, ◌≤◌, ◌+◌, ◌^◌, ℕ, List,
 use Rattle.std.specs.List.{cons_option}
 use Rattle.std.proofs.Common.{arith, sym, subst, append-nil, append_assoc, ap, ◌∙◌}
 use Rattle.std.proofs.lemmas.List.Elements.{filter_map-append}
+use Rattle.timing_base.specs.Shifts.{FlowOptions}
 use Rattle.timing_base.specs.Captures.{Record}
 use Rattle.timing_base.specs.Judged.{judged, run_outcome}
 use Rattle.timing_base.specs.Media.{Media}
@@ -21,9 +22,9 @@ use Rattle.timing_reach.specs.declared.window.reading.Measured.{Measured}
 use Rattle.timing_reach.specs.declared.window.reading.Reading.{Reading}
 
 -- the packets were passed to the judge of this media and to its gauge, and no others
-pub record IsReading (m : Media) (key : FlowKey) (tai : ℕ) (r : Reading) (packets : List FlowPacket) : Type 0 where
-  pub judge : StandsFor m key tai r.judge.judge packets
-  pub gauge : IsGauged m tai r.gauge packets
+pub record IsReading (m : Media) (key : FlowKey) (options : FlowOptions) (r : Reading) (packets : List FlowPacket) : Type 0 where
+  pub judge : StandsFor m key options r.judge.judge packets
+  pub gauge : IsGauged m options r.gauge packets
 
 -- `count` more packets can be passed
 pub record HasRoom (count : ℕ) (r : Reading) : Type 0 where
@@ -40,38 +41,38 @@ room_less few many r less room = record {
 -- the flow of this media in these records was passed after the packets before, and nothing else
 abbrev pub ReadsOn : Media → (old new : Reading) → List Record → Type 0
 ReadsOn m old new more =
-    (key : FlowKey) (tai : ℕ) (packets : List FlowPacket) → IsReading m key tai old packets
-    → IsReading m key tai new (packets ++ flow more m)
+    (key : FlowKey) (options : FlowOptions) (packets : List FlowPacket) → IsReading m key options old packets
+    → IsReading m key options new (packets ++ flow more m)
 
 -- reading no record changes nothing
 pub reads_none : (m : Media) (x : Reading) → ReadsOn m x x []
-reads_none m x key tai packets h = subst (IsReading m key tai x) (sym (append-nil packets)) h
+reads_none m x key options packets h = subst (IsReading m key options x) (sym (append-nil packets)) h
 
 -- a record that is no packet of the flow changes nothing
 pub reads_other : (m : Media) (x : Reading) (r : Record) → flow_packet m r ≡ None → ReadsOn m x x (r ∷ [])
-reads_other m x r is key tai packets h =
-    subst (λ (o : Option FlowPacket). IsReading m key tai x (packets ++ cons_option o [])) (sym is)
-    (reads_none m x key tai packets h)
+reads_other m x r is key options packets h =
+    subst (λ (o : Option FlowPacket). IsReading m key options x (packets ++ cons_option o [])) (sym is)
+    (reads_none m x key options packets h)
 
 -- reading some records and then others is reading both
 pub reads_more : (m : Media) (x y z : Reading) (a b : List Record) → ReadsOn m x y a → ReadsOn m y z b
     → ReadsOn m x z (a ++ b)
-reads_more m x y z a b first second key tai packets h =
-    subst (IsReading m key tai z) (append_assoc packets (flow a m) (flow b m)
+reads_more m x y z a b first second key options packets h =
+    subst (IsReading m key options z) (append_assoc packets (flow a m) (flow b m)
     ∙ ap (λ l. packets ++ l) (sym (filter_map-append (flow_packet m) a b)))
-    (second key tai (packets ++ flow a m) (first key tai packets h))
+    (second key options (packets ++ flow a m) (first key options packets h))
 
 -- the result of reading a flow of these packets
-pub record IsMeasured (m : Media) (tai : ℕ) (packets : List FlowPacket) (x : Measured) : Type 0 where
-  pub verdict_is : x.verdict ≡ verdict_of m (judged packets m.pt tai)
-  pub windows_are : AreWindowsIn m (run_outcome packets tai 0 (length packets)) x.windows
+pub record IsMeasured (m : Media) (options : FlowOptions) (packets : List FlowPacket) (x : Measured) : Type 0 where
+  pub verdict_is : x.verdict ≡ verdict_of m (judged packets m.pt options)
+  pub windows_are : AreWindowsIn m (run_outcome packets options 0 (length packets)) x.windows
 
 -- the result of reading the flow of a media in a capture with these contents
-pub record IsMeasuredIn (m : Media) (tai : ℕ) (text : List ℕ) (x : Measured) : Type 0 where
+pub record IsMeasuredIn (m : Media) (options : FlowOptions) (text : List ℕ) (x : Measured) : Type 0 where
   pub items : List Record
   pub note : FileNote
   pub records : Records text (2 ^ 40) items note
-  pub measured_is : IsMeasured m tai (flow items m) x
+  pub measured_is : IsMeasured m options (flow items m) x
 
 -- if the flow was judged in one run, there are windows
 abbrev pub HasWindows : Measured → Type 0

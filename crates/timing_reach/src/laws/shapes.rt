@@ -1,6 +1,7 @@
 //! Laws of the definitions of `shape`. Each function is a theorem: its clauses are proved.
 
 ghost use Rattle.std.specs.Prelude.{◌≡◌, ◌≤◌, ◌^◌, ◌++◌, ◌∷◌, [], ℕ, List, All, Bool, None, true, false, codes, length};
+ghost use Rattle.timing_base.specs.Shifts.{FlowOptions};
 ghost use Rattle.timing_base.specs.Captures.{Record};
 ghost use Rattle.timing_base.specs.Jobs.{ShapeJob};
 ghost use Rattle.timing_base.specs.Judged.{JudgedRun, in_one_run, judged, whole_frames};
@@ -32,23 +33,23 @@ pub fn one_shape_answer()
 
 /// A judged run has exactly one answer of `shape`, if its frames or fields have 1 to 262,144 packets.
 pub fn one_answer_of_run()
-    ensures some { (list : Bool) (tai : ℕ) (kind : Kind) (m : Media) (items : List Record)
+    ensures some { (list : Bool) (options : FlowOptions) (kind : Kind) (m : Media) (items : List Record)
         (run : JudgedRun) → IsMedia m → 1 ≤ run.n → run.n ≤ 262144
-        → (answer : Answer) × HasShape list tai kind m items run answer }
-    ensures once { (list : Bool) (tai : ℕ) (kind : Kind) (m : Media) (items : List Record)
-        (run : JudgedRun) (a b : Answer) → HasShape list tai kind m items run a
-        → HasShape list tai kind m items run b → a ≡ b }
+        → (answer : Answer) × HasShape list options kind m items run answer }
+    ensures once { (list : Bool) (options : FlowOptions) (kind : Kind) (m : Media) (items : List Record)
+        (run : JudgedRun) (a b : Answer) → HasShape list options kind m items run a
+        → HasShape list options kind m items run b → a ≡ b }
 {}
 
 /// A capture of at most 2^40 bytes that `shape` wrote is read again whole with the same `--tai`. The flow in it is
 /// judged in one run, with the same frames or fields between the same other packets, and its judged packets come when
 /// the plan lets them leave.
 pub fn shaped_is_read_back()
-    ensures { (tai : ℕ) (kind : Kind) (m : Media) (items : List Record) (run : JudgedRun)
+    ensures { (options : FlowOptions) (kind : Kind) (m : Media) (items : List Record) (run : JudgedRun)
         (answer : Answer) → All CanBeHeld items
-        → judged (flow items m) m.pt tai ≡ in_one_run (whole_frames run)
-        → (plan : HasPlan false tai kind m items run answer) → length answer.text ≤ 2 ^ 40
-        → IsJudgedAs tai m answer.text (came_at run plan.departures) }
+        → judged (flow items m) m.pt options ≡ in_one_run (whole_frames run)
+        → (plan : HasPlan false options kind m items run answer) → length answer.text ≤ 2 ^ 40
+        → IsJudgedAs options m answer.text (came_at run plan.departures) }
 {}
 
 /// Of five packets at once the last one is delayed, at 50 frames per second with 20 packets in a frame.

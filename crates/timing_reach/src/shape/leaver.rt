@@ -1,6 +1,7 @@
 //! Computes when the judged packets of a flow leave.
 
 ghost use Rattle.std.specs.Prelude.{◌≡◌, ◌≤◌, ◌<◌, ◌+◌, ◌*◌, ◌^◌, [], ℕ, List, IfOk};
+ghost use Rattle.timing_base.specs.Shifts.{FlowOptions as FlowOptionsValue};
 ghost use Rattle.timing_base.specs.Captures.{IsStamp};
 
 use flow_shaper::{Departure, Late, Shaper};
@@ -26,20 +27,19 @@ impl Leaver {
 
     /// Returns a leaver before the first packet of a run that was judged with this result. `first` is the capture
     /// timestamp of that packet in nanoseconds, as it stands in the capture.
-    pub fn new(media: &Media, judged: &Judged, kind: Kind, first: u64, tai: u64) -> Leaver
-        requires tai { tai ≤ 1000 }
+    pub fn new(media: &Media, judged: &Judged, kind: Kind, first: u64, options: FlowOptions) -> Leaver
         requires first { IsStamp first }
         ensures none { count_left result ≡ 0 }
         ensures stands { HasLet (record {
           media = media.now;
           n = judged.now.n;
           kind = kind;
-          tai = tai;
-          origin = first + tai * 10 ^ 9;
+          options = options;
+          origin = first + options * 10 ^ 9;
         }) result [] [] }
     {
         let params = Params::of(media, judged.n);
-        let added = tai * 1_000_000_000;
+        let added = options * 1_000_000_000;
         let origin = first + added;
         Leaver {
             params,
@@ -58,7 +58,7 @@ impl Leaver {
         ensures count { count_left self.new ≤ count_left self.old + 1 }
         ensures in_time { IfOk result (λ departure. departure.at < 2 ^ 32 * 10 ^ 9 + self.old.added) }
         ensures leaves { (w : Part) (stamps departures : List ℕ) → HasLet w self.old stamps departures
-            → Leaves w self.new stamps departures (at + w.tai * 10 ^ 9) result }
+            → Leaves w self.new stamps departures (at + w.options * 10 ^ 9) result }
     {
         self.shaper.feed(&self.params, at + self.added)
     }

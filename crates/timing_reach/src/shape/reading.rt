@@ -1,6 +1,7 @@
 //! Reads a flow once: it is kept while it is judged.
 
 ghost use Rattle.std.specs.Prelude.{◌≡◌, ◌<◌, ◌≤◌, ◌^◌, [], ℕ, Bool, List, IfOk};
+ghost use Rattle.timing_base.specs.Shifts.{FlowOptions as FlowOptionsValue};
 ghost use Rattle.timing_base.specs.Captures.{Record};
 ghost use Rattle.timing_base.specs.Media.{Media as MediaValue};
 ghost use Rattle.timing_base.specs.declared.key.FlowKey.{FlowKey as KeyValue};
@@ -36,20 +37,19 @@ impl Reading {
         alloc: Global,
         media: &Media,
         number: u32,
-        tai: u64,
+        options: FlowOptions,
         list: bool,
     ) -> Result<Reading, OutOfMemory>
-        requires { tai ≤ 1000 }
         ensures room { IfOk result (λ reading. HasRoom (2 ^ 36) reading) }
         ensures stands { IfOk result (λ reading.
-            IsReading media.now (record { file = 0; media = number }) tai list reading []) }
+            IsReading media.now (record { file = 0; media = number }) options list reading []) }
     {
         let key = FlowKey {
             file: 0,
             media: number,
         };
         Ok(Reading {
-            judge: Metered::new(alloc, media, key, tai, ()),
+            judge: Metered::new(alloc, media, key, options, ()),
             packets: Kept::new(alloc, list)?,
         })
     }
@@ -57,8 +57,8 @@ impl Reading {
     /// Returns the result if the flow ends here. Returns `Err` if memory runs out.
     pub fn finish(self) -> Result<KeptFlow, OutOfMemory>
         requires { count_read self < 2 ^ 41 }
-        ensures { IfOk result (λ kept. (m : MediaValue) (key : KeyValue) (tai : ℕ) (list : Bool) (items : List Record)
-            → tai ≤ 1000 → IsReading m key tai list self items → IsKeptFlow m tai list items kept) }
+        ensures { IfOk result (λ kept. (m : MediaValue) (key : KeyValue) (options : FlowOptionsValue) (list : Bool) (items : List Record)
+            → options ≤ 1000 → IsReading m key options list self items → IsKeptFlow m options list items kept) }
     {
         let Reading { judge, packets } = self;
         let (row, _) = judge.finish()?;

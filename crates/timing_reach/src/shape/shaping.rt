@@ -1,6 +1,7 @@
 //! Lets the judged packets of a kept flow leave as planned, and makes the output.
 
 ghost use Rattle.std.specs.Prelude.{◌≡◌, ◌≤◌, ◌+◌, ◌*◌, ◌^◌, [], List, All, IfOk, false, length, true};
+ghost use Rattle.timing_base.specs.Shifts.{FlowOptions as FlowOptionsValue};
 ghost use Rattle.timing_base.specs.Captures.{IsStamp};
 ghost use Rattle.timing_steps.specs.Queries.{judged_ends};
 ghost use Rattle.timing_reach.specs.Shapes.{HasShape};
@@ -28,8 +29,8 @@ fn list_delays(alloc: Global, mut leaver: Leaver, stamps: &[u64]) -> Result<Answ
     requires few { length stamps.now ≤ 2 ^ 41 }
     ensures ends { IfOk result (λ answer. judged_ends false answer.status ≡ true) }
     ensures lists { IfOk result (λ answer. (w : Part) → HasLet w leaver [] []
-        → IsFit w.origin (in_tai w.tai stamps.now)
-        → ListsSo w (in_tai w.tai stamps.now) answer) }
+        → IsFit w.origin (in_tai w.options stamps.now)
+        → ListsSo w (in_tai w.options stamps.now) answer) }
 {
     let mut delays = Delays::new(alloc);
     for (packet, at) in stamps.iter().enumerate() {
@@ -70,18 +71,17 @@ fn shape_list(
     alloc: Global,
     media: &Media,
     kind: Kind,
-    tai: u64,
+    options: FlowOptions,
     judged: &Judged,
     stamps: Vec<u64>,
 ) -> Result<Answer, OutOfMemory>
-    requires tai { tai ≤ 1000 }
-    requires can { CanShape media.now tai judged.now (Stamps stamps) }
+    requires can { CanShape media.now options judged.now (Stamps stamps) }
     ensures ends { IfOk result (λ answer. judged_ends false answer.status ≡ true) }
-    ensures shape { IfOk result (λ answer. IsShapeOf media.now kind tai judged.now (Stamps stamps) answer) }
+    ensures shape { IfOk result (λ answer. IsShapeOf media.now kind options judged.now (Stamps stamps) answer) }
 {
     let head = judged.head as usize;
     let judged_stamps = &stamps[head..head + judged.packets as usize];
-    let leaver = Leaver::new(media, judged, kind, judged_stamps[0], tai);
+    let leaver = Leaver::new(media, judged, kind, judged_stamps[0], options);
     list_delays(alloc, leaver, judged_stamps)
 }
 
@@ -90,18 +90,17 @@ fn shape_capture(
     alloc: Global,
     media: &Media,
     kind: Kind,
-    tai: u64,
+    options: FlowOptions,
     judged: &Judged,
     bytes: Vec<u8>,
 ) -> Result<Answer, OutOfMemory>
-    requires tai { tai ≤ 1000 }
-    requires can { CanShape media.now tai judged.now (Capture bytes) }
+    requires can { CanShape media.now options judged.now (Capture bytes) }
     ensures ends { IfOk result (λ answer. judged_ends false answer.status ≡ true) }
-    ensures shape { IfOk result (λ answer. IsShapeOf media.now kind tai judged.now (Capture bytes) answer) }
+    ensures shape { IfOk result (λ answer. IsShapeOf media.now kind options judged.now (Capture bytes) answer) }
 {
     let mut walk = Walk::new(bytes);
     walk.skip(judged.head);
-    let leaver = Leaver::new(media, judged, kind, walk.stamp(), tai);
+    let leaver = Leaver::new(media, judged, kind, walk.stamp(), options);
     match depart(&mut walk, leaver, judged.packets) {
         Ok(left) => walk.hold_back(left),
         Err(late) => return not_shaped(alloc, late.packet),
@@ -117,17 +116,16 @@ pub fn shape_kept(
     alloc: Global,
     media: &Media,
     kind: Kind,
-    tai: u64,
+    options: FlowOptions,
     judged: &Judged,
     packets: Kept,
 ) -> Result<Answer, OutOfMemory>
-    requires tai { tai ≤ 1000 }
-    requires can { CanShape media.now tai judged.now packets }
+    requires can { CanShape media.now options judged.now packets }
     ensures ends { IfOk result (λ answer. judged_ends false answer.status ≡ true) }
-    ensures shape { IfOk result (λ answer. IsShapeOf media.now kind tai judged.now packets answer) }
+    ensures shape { IfOk result (λ answer. IsShapeOf media.now kind options judged.now packets answer) }
 {
     match packets {
-        Kept::Stamps(stamps) => shape_list(alloc, media, kind, tai, judged, stamps),
-        Kept::Capture(bytes) => shape_capture(alloc, media, kind, tai, judged, bytes),
+        Kept::Stamps(stamps) => shape_list(alloc, media, kind, options, judged, stamps),
+        Kept::Capture(bytes) => shape_capture(alloc, media, kind, options, judged, bytes),
     }
 }

@@ -1,6 +1,7 @@
 //! Measures the judged packets of a flow while it is read.
 
 ghost use Rattle.std.specs.Prelude.{◌≡◌, ◌≤◌, ◌<◌, ◌+◌, ◌*◌, ◌^◌, ◌++◌, ◌∷◌, [], ℕ, List, All, IfOk, length};
+ghost use Rattle.timing_base.specs.Shifts.{FlowOptions as FlowOptionsValue};
 ghost use Rattle.timing_base.specs.Captures.{IsStamp};
 ghost use Rattle.timing_base.specs.Flows.{read_or_zeros};
 ghost use Rattle.timing_base.specs.Media.{Media as MediaValue};
@@ -183,15 +184,14 @@ impl Gauge {
     ghost use Rattle.timing_reach.specs.window.Gauging.{AreWindowsIn, IsGauged, Passes, count_gauged};
 
     /// Returns the gauge of this media before the first packet. `tai` seconds are added to every capture timestamp.
-    pub fn new(alloc: Global, media: &Media, tai: u64) -> Gauge
-        requires { tai ≤ 1000 }
+    pub fn new(alloc: Global, media: &Media, options: FlowOptions) -> Gauge
         ensures kept { count_gauged result ≡ 0 }
-        ensures stands { IsGauged media.now tai result [] }
+        ensures stands { IsGauged media.now options result [] }
     {
         Gauge {
             alloc,
             media: *media,
-            added: tai * 1_000_000_000,
+            added: options * 1_000_000_000,
             part: Part::Head,
         }
     }
@@ -211,8 +211,8 @@ impl Gauge {
 
     /// Returns the windows of the judged packets, if the flow ends here and has a whole frame or field.
     pub fn windows(&self) -> Option<Windows>
-        ensures { (m : MediaValue) (tai : ℕ) (packets : List _) → IsGauged m tai self.now packets
-            → AreWindowsIn m (run_outcome packets tai 0 (length packets)) result }
+        ensures { (m : MediaValue) (options : FlowOptionsValue) (packets : List _) → IsGauged m options self.now packets
+            → AreWindowsIn m (run_outcome packets options 0 (length packets)) result }
     {
         self.part.windows()
     }

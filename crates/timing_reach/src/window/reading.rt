@@ -1,6 +1,7 @@
 //! Reads a flow once: it is measured while it is judged.
 
 ghost use Rattle.std.specs.Prelude.{◌≡◌, ◌<◌, ◌≤◌, ◌^◌, [], ℕ, List, IfOk, Some};
+ghost use Rattle.timing_base.specs.Shifts.{FlowOptions as FlowOptionsValue};
 ghost use Rattle.timing_base.specs.Media.{Media as MediaValue};
 ghost use Rattle.timing_base.specs.declared.key.FlowKey.{FlowKey as KeyValue};
 ghost use Rattle.timing_base.specs.declared.packet.FlowPacket.{FlowPacket as PacketValue};
@@ -33,25 +34,24 @@ impl Reading {
 
     /// Returns a reading of the flow of this media before the first packet record. `tai` seconds are added to every
     /// capture timestamp.
-    pub fn new(alloc: Global, media: &Media, number: u32, tai: u64) -> Reading
-        requires { tai ≤ 1000 }
+    pub fn new(alloc: Global, media: &Media, number: u32, options: FlowOptions) -> Reading
         ensures room { HasRoom (2 ^ 36) result }
-        ensures stands { IsReading media.now (record { file = 0; media = number }) tai result [] }
+        ensures stands { IsReading media.now (record { file = 0; media = number }) options result [] }
     {
         let key = FlowKey {
             file: 0,
             media: number,
         };
         Reading {
-            judge: Metered::new(alloc, media, key, tai, ()),
-            gauge: Gauge::new(alloc, media, tai),
+            judge: Metered::new(alloc, media, key, options, ()),
+            gauge: Gauge::new(alloc, media, options),
         }
     }
 
     /// Returns the result if the flow ends here. Returns `Err` if memory runs out.
     pub fn finish(self) -> Result<Measured, OutOfMemory>
-        ensures { IfOk result (λ measured. (m : MediaValue) (key : KeyValue) (tai : ℕ) (packets : List PacketValue)
-            → IsReading m key tai self packets → IsMeasured m tai packets measured) }
+        ensures { IfOk result (λ measured. (m : MediaValue) (key : KeyValue) (options : FlowOptionsValue) (packets : List PacketValue)
+            → IsReading m key options self packets → IsMeasured m options packets measured) }
     {
         let Reading { judge, gauge } = self;
         let (row, _) = judge.finish()?;

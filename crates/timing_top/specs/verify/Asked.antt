@@ -31,7 +31,7 @@ claim_of job = record { key = record { file = 0; media = job.media }; run = 0; k
 pub record DefinesVerified (job : VerifyJob) (media : Media) (files : List (List Record)) (answer : Answer) : Type 0
   where
     pub finding : Result Bool Unjudged
-    pub finds : FindsIn media (claim_of job) job.tai files finding
+    pub finds : FindsIn media (claim_of job) job.options files finding
     pub answer_is : answer ≡ verified finding
 
 -- if the SDP doesn't have the media, the violation is not confirmed, and no capture is read
@@ -74,7 +74,7 @@ needed job media claim = captures_for (media_for job media claim.key) job claim.
 -- confirmed
 abbrev pub FindsOf : Option Media → ReportJob → ReportProof → (List ℕ → List ℕ) → Result Bool Unjudged → Type 0
 FindsOf None job claim text finding = finding ≡ Ok false
-FindsOf (Some media) job claim text finding = Finds media claim job.tai (map text (captures_of job claim.key)) finding
+FindsOf (Some media) job claim text finding = Finds media claim job.options (map text (captures_of job claim.key)) finding
 
 -- the violations of a report in their order, each with its finding
 pub record AreChecked (job : ReportJob) (media : List Media) (text : List ℕ → List ℕ) (claims : List ReportProof)

@@ -1,6 +1,7 @@
 -- The conditions between the steps that check violations.
 use Rattle.std.specs.Prelude.{◌≡◌, ◌+◌, ℕ, ⊤, Bool, List, [], ◌∷◌, map, slice_index_or, All, Contains, IfErr, IfOk}
 use Rattle.std.specs.Prelude.{Option, Result}
+use Rattle.timing_base.specs.Shifts.{FlowOptions}
 use Rattle.timing_base.specs.Captures.{Record, joined}
 use Rattle.timing_base.specs.Jobs.{ReportJob}
 use Rattle.timing_base.specs.Media.{Media}
@@ -62,9 +63,9 @@ ReadAs readings texts = (files : List (List Record)) (notes : List FileNote) →
 
 -- the reading is of this media, with what the claim asks for, and has read the captures with these contents, as one
 -- capture
-pub record IsReadFor (m : Media) (tai : ℕ) (texts : List (List ℕ)) (claim : ReportProof) (r : Reading) : Type 0 where
+pub record IsReadFor (m : Media) (options : FlowOptions) (texts : List (List ℕ)) (claim : ReportProof) (r : Reading) : Type 0 where
   pub media : media_of r ≡ m
-  pub late : tai_of r ≡ tai
+  pub late : tai_of r ≡ options
   pub asked : IsAsked (asked_by r) claim.run claim.proof
   pub read : (files : List (List Record)) (notes : List FileNote) → AreRecords texts files notes
       → HasRead r (joined files)
@@ -74,18 +75,18 @@ abbrev pub Asks : Asked → (file media : ℕ) → ReportProof → Type 0
 Asks asked file media claim = claim.key.file ≡ file → claim.key.media ≡ media → IsAsked asked claim.run claim.proof
 
 -- the reading is of this media in this file, and everything that the claims on its flow need was asked for
-pub record IsAskedAll (tai : ℕ) (claims : List ReportProof) (file number : ℕ) (m : Media) (r : Reading) : Type 0 where
+pub record IsAskedAll (options : FlowOptions) (claims : List ReportProof) (file number : ℕ) (m : Media) (r : Reading) : Type 0 where
   pub media : media_of r ≡ m
-  pub late : tai_of r ≡ tai
+  pub late : tai_of r ≡ options
   pub asks : All (Asks (asked_by r) file number) claims
 
 -- the readings are of these media, the first of which has this number
-abbrev pub AreAsked : (tai : ℕ) → List ReportProof → (file number : ℕ) → List Media → List Reading → Type 0
-AreAsked tai claims file number [] [] = ⊤
-AreAsked tai claims file number [] (r ∷ rs) = ⊥
-AreAsked tai claims file number (m ∷ ms) [] = ⊥
-AreAsked tai claims file number (m ∷ ms) (r ∷ rs) = IsAskedAll tai claims file number m r
-    × AreAsked tai claims file (number + 1) ms rs
+abbrev pub AreAsked : (options : FlowOptions) → List ReportProof → (file number : ℕ) → List Media → List Reading → Type 0
+AreAsked options claims file number [] [] = ⊤
+AreAsked options claims file number [] (r ∷ rs) = ⊥
+AreAsked options claims file number (m ∷ ms) [] = ⊥
+AreAsked options claims file number (m ∷ ms) (r ∷ rs) = IsAskedAll options claims file number m r
+    × AreAsked options claims file (number + 1) ms rs
 
 -- a flow of this file
 abbrev pub key_at : ℕ → FlowKey
@@ -95,7 +96,7 @@ key_at file = record { file = file; media = 0 }
 pub record Serves (job : ReportJob) (media : List Media) (claims : List ReportProof) (text : List ℕ → List ℕ)
     (read : FileRead) : Type 0 where
   pub readings : ReadAs read.readings.items (map text (captures_of job (key_at read.file)))
-  pub asked : AreAsked job.tai claims read.file 0 media read.readings.items
+  pub asked : AreAsked job.options claims read.file 0 media read.readings.items
 
 -- the file was read over a shelf with these contents that lacks these names
 pub record IsServed (texts : List ℕ → Option (List ℕ)) (lacks : List ℕ → Type 0) (job : ReportJob) (media : List Media)
@@ -116,7 +117,7 @@ pub record IsFound (texts : List ℕ → Option (List ℕ)) (lacks : List ℕ �
     (finding : Result Bool Unjudged) : Type 0 where
   pub there : AreThere lacks (captures_of job claim.key)
   pub finds : (text : List ℕ → List ℕ) → AreTexts texts text (captures_of job claim.key)
-      → Finds m claim job.tai (map text (captures_of job claim.key)) finding
+      → Finds m claim job.options (map text (captures_of job claim.key)) finding
 
 -- a violation was checked over a shelf with these contents that lacks these names
 pub record IsChecked (texts : List ℕ → Option (List ℕ)) (lacks : List ℕ → Type 0) (job : ReportJob) (media : List Media)

@@ -1,6 +1,7 @@
 //! The readings of a file's flows, with what the claims of a report need.
 
 ghost use Rattle.std.specs.Prelude.{◌≡◌, ◌≤◌, ◌<◌, ◌^◌, [], List, All, IfOk, OnOk, length};
+ghost use Rattle.timing_base.specs.Shifts.{FlowOptions as FlowOptionsValue};
 ghost use Rattle.interval_checker.specs.Asking.{AsksNoLess};
 ghost use Rattle.interval_checker.specs.Readings.{HaveRead, HaveRoom};
 ghost use Rattle.timing_top.specs.verify.Found.{AreAsked, Asks};
@@ -51,17 +52,16 @@ pub fn readings_of(
     media: &[Media],
     claims: &[ReportProof],
     file: u32,
-    tai: u64,
+    options: FlowOptions,
 ) -> Result<Vec<Reading>, OutOfMemory>
-    requires tai { tai ≤ 1000 }
-    ensures asked { IfOk result (λ readings. AreAsked tai claims.now file 0 media.now readings.items) }
+    ensures asked { IfOk result (λ readings. AreAsked options claims.now file 0 media.now readings.items) }
     ensures none { IfOk result (λ readings. HaveRead readings.items []) }
     ensures room { IfOk result (λ readings. HaveRoom (2 ^ 40) readings.items) }
 {
     let mut readings = Vec::new(alloc);
     for (number, each) in media.iter().enumerate() {
         let asked = asked_of(alloc, claims, file, number)?;
-        readings.push(Reading::new(each, tai, asked))?;
+        readings.push(Reading::new(each, options, asked))?;
     }
     Ok(readings)
 }

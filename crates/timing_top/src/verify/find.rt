@@ -1,6 +1,7 @@
 //! Checks one claim over captures that are read for it.
 
 ghost use Rattle.std.specs.Prelude.{◌≡◌, ◌≤◌, ℕ, List, IfOk, IfErr, length};
+ghost use Rattle.timing_base.specs.Shifts.{FlowOptions as FlowOptionsValue};
 ghost use Rattle.timing_outside.specs.Shelves.{StaysAs};
 ghost use Rattle.pcapng_reader.specs.Classic.{classic_texts};
 ghost use Rattle.timing_steps.specs.Answers.{AreThere, AreTold};
@@ -25,13 +26,12 @@ pub fn find<H: Shelf>(
     names: &[FileName],
     media: &Media,
     claim: &ReportProof,
-    tai: u64,
+    options: FlowOptions,
 ) -> Result<Finding, Failure>
     requires few { length names.now ≤ 16 }
-    requires tai { tai ≤ 1000 }
     ensures told { IfOk result (λ finding. (texts : List (List ℕ))
         → AreTold (classic_texts (H.text shelf.old)) names.now texts
-        → Finds media.now claim.now tai texts finding) }
+        → Finds media.now claim.now options texts finding) }
     ensures cause { IfErr result (FailedAmong (H.faults shelf.old) (H.faults shelf.new) names.now) }
     ensures there { IfOk result (λ _. AreThere (H.lacks shelf.old) names.now) }
     ensures stays { StaysAs H.text H.lacks H.faults shelf.old shelf.new }
@@ -39,7 +39,7 @@ pub fn find<H: Shelf>(
     let mut asked = Asked::new(alloc);
     asked.ask(u64::from(claim.run), &claim.proof)?;
     let mut readings = Vec::new(alloc);
-    readings.push(Reading::new(media, tai, asked))?;
+    readings.push(Reading::new(media, options, asked))?;
     let read = read_captures(alloc, shelf, names, readings)?;
     Ok(answer_of(&read, 0, claim))
 }

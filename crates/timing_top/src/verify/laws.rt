@@ -1,6 +1,7 @@
 //! Laws of the definitions. Each function is a theorem: it does nothing, and its clauses are proved.
 
 ghost use Rattle.std.specs.Prelude.{◌≡◌, ℕ, Bool, List, All, None, Ok, Result, true, map, slice_get};
+ghost use Rattle.timing_base.specs.Shifts.{FlowOptions};
 ghost use Rattle.timing_base.specs.Jobs.{ReportJob, VerifyJob};
 ghost use Rattle.timing_base.specs.Media.{Media};
 ghost use Rattle.timing_base.specs.declared.row.Unjudged.{Unjudged};
@@ -14,11 +15,11 @@ ghost use Rattle.timing_top.specs.verify.Verified.{reported};
 
 /// Captures have exactly one finding on a claim.
 pub fn one_finding()
-    ensures some { (media : Media) (claim : ReportProof) (tai : ℕ) (texts : List (List ℕ))
-        → (finding : Result Bool Unjudged) × Finds media claim tai texts finding }
-    ensures once { (media : Media) (claim : ReportProof) (tai : ℕ) (texts : List (List ℕ))
+    ensures some { (media : Media) (claim : ReportProof) (options : FlowOptions) (texts : List (List ℕ))
+        → (finding : Result Bool Unjudged) × Finds media claim options texts finding }
+    ensures once { (media : Media) (claim : ReportProof) (options : FlowOptions) (texts : List (List ℕ))
         (a b : Result Bool Unjudged)
-        → Finds media claim tai texts a → Finds media claim tai texts b → a ≡ b }
+        → Finds media claim options texts a → Finds media claim options texts b → a ≡ b }
 {}
 
 /// The contents of the inputs of `verify` have exactly one answer, if the SDP has the media.

@@ -51,7 +51,7 @@ fn answer(read: &FileRead, claim: &ReportProof) -> Finding
     ensures { (job : JobValue) (media : List MediaValue) (claims : List Claim) (text : List ℕ → List ℕ)
         (m : MediaValue) → Serves job media claims text read.now → claim.now.key.file ≡ read.now.file
         → Contains claims claim.now → slice_get media claim.now.key.media ≡ Some m
-        → Finds m claim.now job.tai (map text (captures_of job claim.now.key)) result }
+        → Finds m claim.now job.options (map text (captures_of job claim.now.key)) result }
 {
     answer_of(&read.readings, claim.key.media as usize, claim)
 }

@@ -1,6 +1,7 @@
 //! Reads captures once for all claims on them.
 
 ghost use Rattle.std.specs.Prelude.{◌≡◌, ◌≤◌, ◌<◌, ◌^◌, [], ℕ, List, IfOk, IfErr, Some, false, length, map, option_map, slice_get};
+ghost use Rattle.timing_base.specs.Shifts.{FlowOptions};
 ghost use Rattle.timing_base.specs.Media.{Media as MediaValue};
 ghost use Rattle.timing_base.specs.Captures.{Record, joined};
 ghost use Rattle.timing_outside.specs.Shelves.{StaysAs};
@@ -70,9 +71,9 @@ fn reading_at(readings: &[Reading], number: usize) -> Option<&Reading>
 
 /// Returns the finding on a claim in the reading with this number, from 0.
 pub fn answer_of(readings: &[Reading], number: usize, claim: &ReportProof) -> Finding
-    ensures { (m : MediaValue) (tai : ℕ) (texts : List (List ℕ)) (r : _)
-        → slice_get readings.now number ≡ Some r → IsReadFor m tai texts claim.now r
-        → Finds m claim.now tai texts result }
+    ensures { (m : MediaValue) (options : FlowOptions) (texts : List (List ℕ)) (r : _)
+        → slice_get readings.now number ≡ Some r → IsReadFor m options texts claim.now r
+        → Finds m claim.now options texts result }
 {
     match reading_at(readings, number) {
         Some(reading) => reading.answer(claim.kind, claim.run, &claim.proof),
@@ -141,7 +142,7 @@ pub fn read_file<H: Shelf>(
         (λ text read. Serves job.now media.now claims.now text read) result }
     ensures stays { StaysAs H.text H.lacks H.faults shelf.old shelf.new }
 {
-    let readings = readings_of(alloc, media, claims, file, job.tai)?;
+    let readings = readings_of(alloc, media, claims, file, job.options)?;
     let readings = read_there(alloc, job, shelf, file, readings)?;
     Ok(FileRead { file, readings })
 }

@@ -65,7 +65,7 @@ fn answer_verify<H: Shelf>(
     let media = media_of(session, job.media);
     let claim = claim_of(job);
     let names = job.captures.as_slice();
-    let finding = find(alloc, shelf, names, media, &claim, job.tai)?;
+    let finding = find(alloc, shelf, names, media, &claim, job.options)?;
     Ok(verified(alloc, media, finding)?)
 }
 

@@ -25,13 +25,13 @@ loop-number-preserved g c =
       origin = c.feed_level-level.ensures.origin ∙ was.origin;
       stands = next-stands _ _ _ _ few (c.feed_level-level.ensures.stands _ follows);
       told = elim c.match-get.branch [
-        | in-Some+in_ok-feed w ↦ λ tai r packets n kept_so stood.
+        | in-Some+in_ok-feed w ↦ λ shift r packets n kept_so stood.
             subst (λ meter. g.M.RunMeter.stands meter _ _ _ _ _) (sym w.meter-is)
-            (first-next g.M.RunMeter.stands c.args.params.now _ _ c.args.first.now stamps _ i w.in-Some.kept.now _ tai r packets stamps_are keeps_are fit few
+            (first-next g.M.RunMeter.stands c.args.params.now _ _ c.args.first.now stamps _ i w.in-Some.kept.now _ shift r packets stamps_are keeps_are fit few
             w.in-Some.ensures.lookup.1 (c.feed_level-level.ensures.level (take i stamps) follows) w.in_ok-feed.ensures n kept_so
-            (was.told tai r packets n kept_so stood))
-        | in_default w ↦ λ tai r packets n kept_so stood.
-            let size = kept-size tai c.args.first.now packets kept_so in
+            (was.told shift r packets n kept_so stood))
+        | in_default w ↦ λ shift r packets n kept_so stood.
+            let size = kept-size shift c.args.first.now packets kept_so in
             absurd (omega (arith, w.in_default.ensures.lookup, ap length keeps_are, ap length stamps_are, size, few))
       ];
     }
@@ -42,6 +42,6 @@ returns-clause-stands g c =
     (all-stands _ _ _ _ c.loop-number.auto.number-end c.loop-number-test.false c.loop-number.invariant.stands)
 
 pub returns-clause-told : goal.returns-clause-told
-returns-clause-told g c = λ tai r packets n kept_so stood.
-    first-all g.M.RunMeter.stands _ _ c.args.first.now _ _ tai r packets c.as_slice-stamps.ensures.value c.loop-number-test.false kept_so
-    (c.loop-number.invariant.told tai r packets n kept_so stood)
+returns-clause-told g c = λ shift r packets n kept_so stood.
+    first-all g.M.RunMeter.stands _ _ c.args.first.now _ _ shift r packets c.as_slice-stamps.ensures.value c.loop-number-test.false kept_so
+    (c.loop-number.invariant.told shift r packets n kept_so stood)

@@ -11,6 +11,7 @@ use Rattle.std.proofs.lemmas.Int.{clamps, ints}
 use Rattle.std.proofs.lemmas.List.{get_or_append_left, length-map}
 use Rattle.std.proofs.lemmas.Nat.{div-add-mod'}
 use Rattle.std.specs.Int.{int_max, int_min}
+use Rattle.timing_base.specs.Shifts.{Shift}
 use Rattle.sender_params.specs.Reads.{anchor_of}
 use Rattle.timing_base.specs.Flows.{no_packet, read_or_zeros}
 use Rattle.timing_base.specs.Judged.{stamp_of}
@@ -46,13 +47,13 @@ pub record Extends {A : Type 0} (count : ℕ) (old new : ℕ → A) (x : A) : Ty
 list-extends : (xs : List ℕ) (x : ℕ) → Extends (length xs) (slice_index xs) (slice_index (xs ++ x ∷ [])) x
 list-extends xs x = record { front = λ i few. front-is xs x i few; last = last-is xs x }
 
-stamps-extend : (tai : ℕ) (before : List FlowPacket) (p : FlowPacket)
-    → Extends (length before) (slice_index (stamps_of tai before)) (slice_index (stamps_of tai (before ++ p ∷ []))) (stamp_of tai p)
-stamps-extend tai before p =
-    let old = stamps_of tai before in
-    let at = stamp_of tai p in
-    subst (λ l. Extends (length before) (slice_index old) (slice_index l) at) (sym (stamps-more tai before p))
-    (subst (λ k. Extends k (slice_index old) (slice_index (old ++ at ∷ [])) at) (stamps-long tai before) (list-extends old at))
+stamps-extend : (shift : Shift) (before : List FlowPacket) (p : FlowPacket)
+    → Extends (length before) (slice_index (stamps_of shift before)) (slice_index (stamps_of shift (before ++ p ∷ []))) (stamp_of shift p)
+stamps-extend shift before p =
+    let old = stamps_of shift before in
+    let at = stamp_of shift p in
+    subst (λ l. Extends (length before) (slice_index old) (slice_index l) at) (sym (stamps-more shift before p))
+    (subst (λ k. Extends k (slice_index old) (slice_index (old ++ at ∷ [])) at) (stamps-long shift before) (list-extends old at))
 
 ticks-extend : (before : List FlowPacket) (p : FlowPacket)
     → Extends (length before) (ticks_in before) (ticks_in (before ++ p ∷ [])) (read_or_zeros p.rtp).timestamp
@@ -255,70 +256,70 @@ row-widens m n k count anchor s s2 r r2 ts ts2 b b2 g g2 l l2 kept old new behin
         ap₂ (λ (a b : ℕ). Some (timestamp_step a b)) (sym (same j (omega arith))) (ap f (sym e) ∙ sym here ∙ ap g e)
 
 -- the packets came, of which the last is of group k, and its row has all of it that came
-pub record IsTaken (m : Media) (tai run n k : ℕ) (x : RowMaker) (packets : List FlowPacket) : Type 0 where
+pub record IsTaken (m : Media) (shift : Shift) (run n k : ℕ) (x : RowMaker) (packets : List FlowPacket) : Type 0 where
   pub run_is : x.row.run ≡ run
   pub group_is : x.row.group ≡ k
-  pub anchor_is : x.n0 ≡ anchor_in m (stamps_of tai packets)
+  pub anchor_is : x.n0 ≡ anchor_in m (stamps_of shift packets)
   pub before_is : x.before ≡ Some (firsts_of n (ticks_in packets) k)
   pub gapped : ℕ → ℤ
   pub linear : ℕ → ℤ
-  pub gapped_are : AreOccupancies m n (stamps_of tai packets) true gapped
-  pub linear_are : AreOccupancies m n (stamps_of tai packets) false linear
-  pub begun : IsBegun m n k (length packets) (anchor_in m (stamps_of tai packets)) (slice_index (stamps_of tai packets)) (records_in packets)
-      (ticks_in packets) (buckets_of m n (stamps_of tai packets)) gapped linear x.row
+  pub gapped_are : AreOccupancies m n (stamps_of shift packets) true gapped
+  pub linear_are : AreOccupancies m n (stamps_of shift packets) false linear
+  pub begun : IsBegun m n k (length packets) (anchor_in m (stamps_of shift packets)) (slice_index (stamps_of shift packets)) (records_in packets)
+      (ticks_in packets) (buckets_of m n (stamps_of shift packets)) gapped linear x.row
 
 -- the numbers of a packet more
-next-of : (m : Media) (tai n : ℕ) (before : List FlowPacket) (p : FlowPacket) (kept : Kept) (gapped linear : ℕ → ℤ)
-    → IsKept m tai n before p kept
-    → IsNext (length before) (slice_index (stamps_of tai before)) (slice_index (stamps_of tai (before ++ p ∷ []))) (records_in before)
-    (records_in (before ++ p ∷ [])) (ticks_in before) (ticks_in (before ++ p ∷ [])) (buckets_of m n (stamps_of tai before))
-    (buckets_of m n (stamps_of tai (before ++ p ∷ []))) gapped (extended (length before) gapped kept.level.gapped.occupancy) linear
+next-of : (m : Media) (shift : Shift) (n : ℕ) (before : List FlowPacket) (p : FlowPacket) (kept : Kept) (gapped linear : ℕ → ℤ)
+    → IsKept m shift n before p kept
+    → IsNext (length before) (slice_index (stamps_of shift before)) (slice_index (stamps_of shift (before ++ p ∷ []))) (records_in before)
+    (records_in (before ++ p ∷ [])) (ticks_in before) (ticks_in (before ++ p ∷ [])) (buckets_of m n (stamps_of shift before))
+    (buckets_of m n (stamps_of shift (before ++ p ∷ []))) gapped (extended (length before) gapped kept.level.gapped.occupancy) linear
     (extended (length before) linear kept.level.linear.occupancy) kept
-next-of m tai n before p kept gapped linear is =
-    let old = stamps_of tai before in
-    let new = stamps_of tai (before ++ p ∷ []) in
+next-of m shift n before p kept gapped linear is =
+    let old = stamps_of shift before in
+    let new = stamps_of shift (before ++ p ∷ []) in
     let q = is.packet_is in
     record {
-      stamps = subst (Extends (length before) (slice_index old) (slice_index new)) (sym (ap (λ (x : RunPacket). x.at) q)) (stamps-extend tai before p);
+      stamps = subst (Extends (length before) (slice_index old) (slice_index new)) (sym (ap (λ (x : RunPacket). x.at) q)) (stamps-extend shift before p);
       recs = subst (Extends (length before) (records_in before) (records_in (before ++ p ∷ []))) (sym (ap (λ (x : RunPacket). x.rec) q))
           (records-extend before p);
       ticks = subst (Extends (length before) (ticks_in before) (ticks_in (before ++ p ∷ []))) (sym (ap (λ (x : RunPacket). x.timestamp) q))
           (ticks-extend before p);
-      buckets = subst (λ l. Extends (length before) (buckets_of m n old) (buckets_of m n l) (pos kept.level.bucket)) (sym (stamps-more tai before p))
-          (subst (λ k. Extends k (buckets_of m n old) (buckets_of m n (old ++ stamp_of tai p ∷ [])) (pos kept.level.bucket)) (stamps-long tai before)
-          (buckets-extend m n old (stamp_of tai p) kept.level.bucket
-          (ap (λ k. buckets_of m n (old ++ stamp_of tai p ∷ []) k) (stamps-long tai before)
-          ∙ ap (λ l. buckets_of m n l (length before)) (sym (stamps-more tai before p)) ∙ ap (λ b. pos b) (sym is.level_is.bucket))));
+      buckets = subst (λ l. Extends (length before) (buckets_of m n old) (buckets_of m n l) (pos kept.level.bucket)) (sym (stamps-more shift before p))
+          (subst (λ k. Extends k (buckets_of m n old) (buckets_of m n (old ++ stamp_of shift p ∷ [])) (pos kept.level.bucket)) (stamps-long shift before)
+          (buckets-extend m n old (stamp_of shift p) kept.level.bucket
+          (ap (λ k. buckets_of m n (old ++ stamp_of shift p ∷ []) k) (stamps-long shift before)
+          ∙ ap (λ l. buckets_of m n l (length before)) (sym (stamps-more shift before p)) ∙ ap (λ b. pos b) (sym is.level_is.bucket))));
       gapped_next = extends-with (length before) gapped kept.level.gapped.occupancy;
       linear_next = extends-with (length before) linear kept.level.linear.occupancy;
     }
 
 -- what the buffer holds at the packets, and at one more
-occupancies-next : (m : Media) (tai n : ℕ) (before : List FlowPacket) (p : FlowPacket) (gapped : Bool) (numbers : ℕ → ℤ) (x : ℤ)
-    → AreOccupancies m n (stamps_of tai before) gapped numbers
-    → IsOccupancy m n (stamps_of tai (before ++ p ∷ [])) gapped (length before) x
-    → AreOccupancies m n (stamps_of tai (before ++ p ∷ [])) gapped (extended (length before) numbers x)
-occupancies-next m tai n before p gapped numbers x are here =
-    let old = stamps_of tai before in
-    let at = stamp_of tai p in
-    let more = stamps-more tai before p in
-    let long = stamps-long tai before in
+occupancies-next : (m : Media) (shift : Shift) (n : ℕ) (before : List FlowPacket) (p : FlowPacket) (gapped : Bool) (numbers : ℕ → ℤ) (x : ℤ)
+    → AreOccupancies m n (stamps_of shift before) gapped numbers
+    → IsOccupancy m n (stamps_of shift (before ++ p ∷ [])) gapped (length before) x
+    → AreOccupancies m n (stamps_of shift (before ++ p ∷ [])) gapped (extended (length before) numbers x)
+occupancies-next m shift n before p gapped numbers x are here =
+    let old = stamps_of shift before in
+    let at = stamp_of shift p in
+    let more = stamps-more shift before p in
+    let long = stamps-long shift before in
     let last : IsOccupancy m n (old ++ at ∷ []) gapped (length old) x =
     subst (λ k. IsOccupancy m n (old ++ at ∷ []) gapped k x) (sym long) (subst (λ l. IsOccupancy m n l gapped (length before) x) more here) in
     subst (λ l. AreOccupancies m n l gapped (extended (length before) numbers x)) (sym more)
     (subst (λ k. AreOccupancies m n (old ++ at ∷ []) gapped (extended k numbers x)) long (occupancies-more m n old gapped at numbers x are last))
 
 -- a packet more came, and the row says so
-row-taken : (m : Media) (tai run n k : ℕ) (x : RowMaker) (before : List FlowPacket) (p : FlowPacket) (gapped linear : ℕ → ℤ)
-    → AreOccupancies m n (stamps_of tai (before ++ p ∷ [])) true gapped
-    → AreOccupancies m n (stamps_of tai (before ++ p ∷ [])) false linear → x.row.run ≡ run → x.row.group ≡ k
-    → x.n0 ≡ anchor_in m (stamps_of tai (before ++ p ∷ [])) → x.before ≡ Some (firsts_of n (ticks_in (before ++ p ∷ [])) k)
-    → IsBegun m n k (length before + 1) (anchor_in m (stamps_of tai (before ++ p ∷ []))) (slice_index (stamps_of tai (before ++ p ∷ [])))
-    (records_in (before ++ p ∷ [])) (ticks_in (before ++ p ∷ [])) (buckets_of m n (stamps_of tai (before ++ p ∷ []))) gapped linear x.row
-    → IsTaken m tai run n k x (before ++ p ∷ [])
-row-taken m tai run n k x before p gapped linear gapped_are linear_are run_is group_is anchor_is before_is begun =
+row-taken : (m : Media) (shift : Shift) (run n k : ℕ) (x : RowMaker) (before : List FlowPacket) (p : FlowPacket) (gapped linear : ℕ → ℤ)
+    → AreOccupancies m n (stamps_of shift (before ++ p ∷ [])) true gapped
+    → AreOccupancies m n (stamps_of shift (before ++ p ∷ [])) false linear → x.row.run ≡ run → x.row.group ≡ k
+    → x.n0 ≡ anchor_in m (stamps_of shift (before ++ p ∷ [])) → x.before ≡ Some (firsts_of n (ticks_in (before ++ p ∷ [])) k)
+    → IsBegun m n k (length before + 1) (anchor_in m (stamps_of shift (before ++ p ∷ []))) (slice_index (stamps_of shift (before ++ p ∷ [])))
+    (records_in (before ++ p ∷ [])) (ticks_in (before ++ p ∷ [])) (buckets_of m n (stamps_of shift (before ++ p ∷ []))) gapped linear x.row
+    → IsTaken m shift run n k x (before ++ p ∷ [])
+row-taken m shift run n k x before p gapped linear gapped_are linear_are run_is group_is anchor_is before_is begun =
     let all = before ++ p ∷ [] in
-    let now = stamps_of tai all in
+    let now = stamps_of shift all in
     record {
       run_is = run_is;
       group_is = group_is;
@@ -339,8 +340,8 @@ pub record IsPlaced (n count : ℕ) (x : RowMaker) : Type 0 where
   pub group : x.walk.group ≡ count / n
   pub parts : x.walk.group * n + x.walk.place ≡ count
 
-pub placed : (m : Media) (tai run n : ℕ) (x : RowMaker) (before : List FlowPacket) → StandsFor m tai run n x before → IsPlaced n (length before) x
-placed m tai run n x before h =
+pub placed : (m : Media) (shift : Shift) (run n : ℕ) (x : RowMaker) (before : List FlowPacket) → StandsFor m shift run n x before → IsPlaced n (length before) x
+placed m shift run n x before h =
     let w = x.walk in
     let count = length before in
     let place : w.place ≡ count % n = w.place_is ∙ ap (λ s. s % w.n) h.seen ∙ ap (λ k. count % k) h.n_is in
@@ -354,28 +355,28 @@ placed m tai run n x before h =
     }
 
 -- so with a packet more
-pub taken : (m : Media) (tai run n : ℕ) (old new : RowMaker) (before : List FlowPacket) (p : FlowPacket) (kept : Kept)
+pub taken : (m : Media) (shift : Shift) (run n : ℕ) (old new : RowMaker) (before : List FlowPacket) (p : FlowPacket) (kept : Kept)
     → (old.walk.place ≡ 0 → Begins m kept old new)
     → (0 < old.walk.place → KeepsRest old new × Widens kept.level old.row new.row)
-    → IsKept m tai n before p kept
-    → StandsFor m tai run n old before
-    → IsTaken m tai run n old.walk.group new (before ++ p ∷ [])
-taken m tai run n old new before p kept begins widens is h =
+    → IsKept m shift n before p kept
+    → StandsFor m shift run n old before
+    → IsTaken m shift run n old.walk.group new (before ++ p ∷ [])
+taken m shift run n old new before p kept begins widens is h =
     let count = length before in
     let k = old.walk.group in
     let all = before ++ p ∷ [] in
-    let past = stamps_of tai before in
-    let now = stamps_of tai all in
-    let at = placed m tai run n old before h in
+    let past = stamps_of shift before in
+    let now = stamps_of shift all in
+    let at = placed m shift run n old before h in
     let gapped = extended count h.gapped kept.level.gapped.occupancy in
     let linear = extended count h.linear kept.level.linear.occupancy in
-    let gapped_are = occupancies-next m tai n before p true h.gapped kept.level.gapped.occupancy h.gapped_are is.level_is.gapped.occupancy in
-    let linear_are = occupancies-next m tai n before p false h.linear kept.level.linear.occupancy h.linear_are is.level_is.linear.occupancy in
-    let so = row-taken m tai run n k new before p gapped linear gapped_are linear_are in
-    let e = next-of m tai n before p kept h.gapped h.linear is in
+    let gapped_are = occupancies-next m shift n before p true h.gapped kept.level.gapped.occupancy h.gapped_are is.level_is.gapped.occupancy in
+    let linear_are = occupancies-next m shift n before p false h.linear kept.level.linear.occupancy h.linear_are is.level_is.linear.occupancy in
+    let so = row-taken m shift run n k new before p gapped linear gapped_are linear_are in
+    let e = next-of m shift n before p kept h.gapped h.linear is in
     let some : 1 ≤ n = omega (arith, at.within) in
     let row_group : old.row.group ≡ k = old.group_is in
-    elim (cases_lt 0 old.walk.place) as (λ _. IsTaken m tai run n k new all) [
+    elim (cases_lt 0 old.walk.place) as (λ _. IsTaken m shift run n k new all) [
       | inl inside ↦
           let w = widens inside in
           let behind : k * n < count = omega (arith, at.parts, inside) in
@@ -426,13 +427,13 @@ place-kept row last bucket gapped_least gapped linear_least linear = record {
 }
 
 -- the group of the packet isn't over
-pub goes-on : (m : Media) (tai run n : ℕ) (old x y : RowMaker) (before : List FlowPacket) (p : FlowPacket) → y.row ≡ x.row → y.n0 ≡ x.n0
+pub goes-on : (m : Media) (shift : Shift) (run n : ℕ) (old x y : RowMaker) (before : List FlowPacket) (p : FlowPacket) → y.row ≡ x.row → y.n0 ≡ x.n0
     → y.before ≡ x.before → y.walk.n ≡ n → y.walk.seen ≡ length before + 1 → y.walk.place ≡ old.walk.place + 1 → y.walk.group ≡ old.walk.group
-    → IsTaken m tai run n old.walk.group x (before ++ p ∷ [])
-    → StandsFor m tai run n y (before ++ p ∷ [])
-goes-on m tai run n old x y before p row n0 earlier size seen place group t =
+    → IsTaken m shift run n old.walk.group x (before ++ p ∷ [])
+    → StandsFor m shift run n y (before ++ p ∷ [])
+goes-on m shift run n old x y before p row n0 earlier size seen place group t =
     let all = before ++ p ∷ [] in
-    let now = stamps_of tai all in
+    let now = stamps_of shift all in
     record {
       run_is = ap (λ (r : GroupRow). r.run) row ∙ t.run_is;
       n_is = size;
@@ -474,17 +475,17 @@ greatest-whole numbers n k count x y whole same h = record {
 }
 
 -- the group is over, and its row is
-pub ends-row : (m : Media) (tai run n : ℕ) (old x : RowMaker) (before : List FlowPacket) (p : FlowPacket) (at : ℕ) (row : GroupRow)
-    → old.walk.place + 1 ≡ n → at ≡ stamp_of tai p
+pub ends-row : (m : Media) (shift : Shift) (run n : ℕ) (old x : RowMaker) (before : List FlowPacket) (p : FlowPacket) (at : ℕ) (row : GroupRow)
+    → old.walk.place + 1 ≡ n → at ≡ stamp_of shift p
     → IsPlaced n (length before) old
     → EndsRow m x.n0 at x.row row
-    → IsTaken m tai run n old.walk.group x (before ++ p ∷ [])
-    → IsGroupRow m tai run n (before ++ p ∷ []) row
-ends-row m tai run n old x before p at row outside came placed_at ends t =
+    → IsTaken m shift run n old.walk.group x (before ++ p ∷ [])
+    → IsGroupRow m shift run n (before ++ p ∷ []) row
+ends-row m shift run n old x before p at row outside came placed_at ends t =
     let count = length before in
     let k = old.walk.group in
     let all = before ++ p ∷ [] in
-    let now = stamps_of tai all in
+    let now = stamps_of shift all in
     let long : length all ≡ count + 1 = length-append before (p ∷ []) in
     let is = placed_at.place in
     let turn = end-of-group count n 1 (omega arith) (omega (arith, is, outside)) in
@@ -493,7 +494,7 @@ ends-row m tai run n old x before p at row outside came placed_at ends t =
     let group : length all / n ≡ k + 1 = ap (λ c. c / n) long ∙ turn.0 ∙ ap (λ c. c + 1) (sym placed_at.group) in
     let number : k ≡ length all / n - 1 = omega (arith, group) in
     let end : k * n + (n - 1) ≡ count = omega (arith, parts, outside) in
-    let last : slice_index now (k * n + (n - 1)) ≡ at = ap (slice_index now) end ∙ (stamps-extend tai before p).last ∙ sym came in
+    let last : slice_index now (k * n + (n - 1)) ≡ at = ap (slice_index now) end ∙ (stamps-extend shift before p).last ∙ sym came in
     let b = t.begun in
     let q = ends.place in
     subst (λ j. IsRowOf m run n j now (records_in all) (ticks_in all) row) number (record {
@@ -524,11 +525,11 @@ ends-row m tai run n old x before p at row outside came placed_at ends t =
     })
 
 -- and the next one hasn't begun
-pub ends-group : (m : Media) (tai run n : ℕ) (old x y : RowMaker) (before : List FlowPacket) (p : FlowPacket) → y.row.run ≡ x.row.run → y.n0 ≡ x.n0
+pub ends-group : (m : Media) (shift : Shift) (run n : ℕ) (old x y : RowMaker) (before : List FlowPacket) (p : FlowPacket) → y.row.run ≡ x.row.run → y.n0 ≡ x.n0
     → y.before ≡ x.before → y.walk.n ≡ n → y.walk.seen ≡ length before + 1 → y.walk.place ≡ 0 → y.walk.group ≡ old.walk.group + 1
-    → IsTaken m tai run n old.walk.group x (before ++ p ∷ [])
-    → StandsFor m tai run n y (before ++ p ∷ [])
-ends-group m tai run n old x y before p run_same n0 earlier size seen place group t =
+    → IsTaken m shift run n old.walk.group x (before ++ p ∷ [])
+    → StandsFor m shift run n y (before ++ p ∷ [])
+ends-group m shift run n old x y before p run_same n0 earlier size seen place group t =
     let all = before ++ p ∷ [] in
     let f = firsts_of n (ticks_in all) in
     let next : suc old.walk.group ≡ y.walk.group = omega (arith, group) in
@@ -547,10 +548,10 @@ ends-group m tai run n old x y before p run_same n0 earlier size seen place grou
     }
 
 -- before the first packet
-pub rows-none : (m : Media) (tai run n : ℕ) (x : RowMaker) → x.row.run ≡ run → x.walk.n ≡ n → x.walk.seen ≡ 0 → x.walk.place ≡ 0 → x.walk.group ≡ 0
+pub rows-none : (m : Media) (shift : Shift) (run n : ℕ) (x : RowMaker) → x.row.run ≡ run → x.walk.n ≡ n → x.walk.seen ≡ 0 → x.walk.place ≡ 0 → x.walk.group ≡ 0
     → x.before ≡ None
-    → StandsFor m tai run n x []
-rows-none m tai run n x run_is size seen place group before = record {
+    → StandsFor m shift run n x []
+rows-none m shift run n x run_is size seen place group before = record {
   run_is = run_is;
   n_is = size;
   seen = seen;

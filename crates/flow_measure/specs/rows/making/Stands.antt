@@ -2,6 +2,7 @@
 -- or field, `run` the number of the run, and `tai` is in seconds.
 use Rattle.std.specs.Prelude.{◌≡◌, ◌<◌, ◌≤◌, ◌*◌, ◌^◌, ℕ, zero, suc, ℤ, pos, true, false, List, [], ◌∷◌, ◌++◌}
 use Rattle.std.specs.Prelude.{length, slice_index, Option, Some, None}
+use Rattle.timing_base.specs.Shifts.{Shift}
 use Rattle.sender_params.specs.Ticks.{NeverFall}
 use Rattle.timing_base.specs.Flows.{packet}
 use Rattle.timing_base.specs.Media.{Media}
@@ -19,11 +20,11 @@ use Rattle.flow_measure.specs.declared.rows.maker.Kept.{Kept}
 use Rattle.flow_measure.specs.declared.rows.maker.RowMaker.{RowMaker}
 
 -- the kept values of the packet after these
-pub record IsKept (m : Media) (tai n : ℕ) (before : List FlowPacket) (p : FlowPacket) (kept : Kept) : Type 0 where
-  pub packet_is : kept.packet ≡ told_of tai p
+pub record IsKept (m : Media) (shift : Shift) (n : ℕ) (before : List FlowPacket) (p : FlowPacket) (kept : Kept) : Type 0 where
+  pub packet_is : kept.packet ≡ told_of shift p
   pub few : length before < 2 ^ 41
-  pub rising : NeverFall (stamps_of tai (before ++ p ∷ []))
-  pub level_is : IsLevel m n (stamps_of tai (before ++ p ∷ [])) (length before) kept.level
+  pub rising : NeverFall (stamps_of shift (before ++ p ∷ []))
+  pub level_is : IsLevel m n (stamps_of shift (before ++ p ∷ [])) (length before) kept.level
 
 -- the packets of frame or field k before packet `to`
 abbrev pub OfFront : (n k to : ℕ) → ℕ → Type 0
@@ -61,19 +62,19 @@ abbrev pub records_in : List FlowPacket → ℕ → ℕ
 records_in packets i = (packet packets i).rec
 
 -- the maker was fed exactly these packets
-pub record StandsFor (m : Media) (tai run n : ℕ) (x : RowMaker) (packets : List FlowPacket) : Type 0 where
+pub record StandsFor (m : Media) (shift : Shift) (run n : ℕ) (x : RowMaker) (packets : List FlowPacket) : Type 0 where
   pub run_is : x.row.run ≡ run
   pub n_is : x.walk.n ≡ n
   pub seen : x.walk.seen ≡ length packets
-  pub anchor_is : 0 < length packets → x.n0 ≡ anchor_in m (stamps_of tai packets)
+  pub anchor_is : 0 < length packets → x.n0 ≡ anchor_in m (stamps_of shift packets)
   -- the RTP timestamp of the last complete frame or field, and that of the current one
   pub over : x.walk.place ≡ 0 → x.before ≡ last_of (firsts_of n (ticks_in packets)) x.walk.group
   pub goes_on : 0 < x.walk.place → x.before ≡ Some (firsts_of n (ticks_in packets) x.walk.group)
   -- the occupancy of the buffer just after each packet
   pub gapped : ℕ → ℤ
   pub linear : ℕ → ℤ
-  pub gapped_are : AreOccupancies m n (stamps_of tai packets) true gapped
-  pub linear_are : AreOccupancies m n (stamps_of tai packets) false linear
-  pub begun : 0 < x.walk.place → IsBegun m n x.walk.group (length packets) (anchor_in m (stamps_of tai packets))
-      (slice_index (stamps_of tai packets)) (records_in packets) (ticks_in packets)
-      (buckets_of m n (stamps_of tai packets)) gapped linear x.row
+  pub gapped_are : AreOccupancies m n (stamps_of shift packets) true gapped
+  pub linear_are : AreOccupancies m n (stamps_of shift packets) false linear
+  pub begun : 0 < x.walk.place → IsBegun m n x.walk.group (length packets) (anchor_in m (stamps_of shift packets))
+      (slice_index (stamps_of shift packets)) (records_in packets) (ticks_in packets)
+      (buckets_of m n (stamps_of shift packets)) gapped linear x.row

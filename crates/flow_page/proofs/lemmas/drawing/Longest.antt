@@ -6,6 +6,7 @@ use Rattle.std.specs.Prelude.{All}
 use Rattle.std.proofs.lemmas.Bool.{ltb-false, ltb-true}
 use Rattle.std.proofs.lemmas.List.{map-append}
 use Rattle.std.proofs.lemmas.List.Elements.{All-append}
+use Rattle.timing_base.specs.Shifts.{Shift}
 use Rattle.timing_base.specs.Flows.{read_or_zeros}
 use Rattle.timing_base.specs.Judged.{stamp_of}
 use Rattle.timing_base.specs.Media.{IsMedia, Media}
@@ -52,12 +53,12 @@ longer-all parts part longest h more =
     (All-append (Fewer (length part.packets)) h.before (longest ∷ h.after) few (All-append (Fewer (length part.packets)) (longest ∷ []) h.after one rest))
 
 -- the run is drawn in the place of a shorter one
-pub longest-new : (m : Media) (tai : ℕ) (parts : List JudgedPart) (part : JudgedPart) (old : Option DrawnRun) (d : DrawnRun)
+pub longest-new : (m : Media) (shift : Shift) (parts : List JudgedPart) (part : JudgedPart) (old : Option DrawnRun) (d : DrawnRun)
     → is_shorter old (length part.packets) ≡ true
-    → DrawsLongest m tai parts old
-    → IsDrawn m tai part d
-    → DrawsLongest m tai (parts ++ part ∷ []) (Some d)
-longest-new m tai parts part None d shorter h drawn = (
+    → DrawsLongest m shift parts old
+    → IsDrawn m shift part d
+    → DrawsLongest m shift (parts ++ part ∷ []) (Some d)
+longest-new m shift parts part None d shorter h drawn = (
   part,
   record {
     before = [];
@@ -68,18 +69,18 @@ longest-new m tai parts part None d shorter h drawn = (
   },
   drawn,
 )
-longest-new m tai parts part (Some o) d shorter h drawn =
+longest-new m shift parts part (Some o) d shorter h drawn =
     let less : o.packets < length part.packets = ltb-true o.packets (length part.packets) shorter in
     let longer = longer-all parts part h.0 h.1 (omega (arith, less, h.2.packets_are)) in
     (part, record { before = parts; after = []; whole = refl; fewer = longer; no_more = all-none (NoMore (length part.packets)) }, drawn)
 
 -- the one before stays
-pub longest-kept : (m : Media) (tai : ℕ) (parts : List JudgedPart) (part : JudgedPart) (old : Option DrawnRun)
+pub longest-kept : (m : Media) (shift : Shift) (parts : List JudgedPart) (part : JudgedPart) (old : Option DrawnRun)
     → is_shorter old (length part.packets) ≡ false
-    → DrawsLongest m tai parts old
-    → DrawsLongest m tai (parts ++ part ∷ []) old
-longest-kept m tai parts part None shorter h = absurd (true≢false shorter)
-longest-kept m tai parts part (Some o) shorter h =
+    → DrawsLongest m shift parts old
+    → DrawsLongest m shift (parts ++ part ∷ []) old
+longest-kept m shift parts part None shorter h = absurd (true≢false shorter)
+longest-kept m shift parts part (Some o) shorter h =
     let most : length part.packets ≤ o.packets = ltb-false o.packets (length part.packets) shorter in
     let l = h.1 in
     let no_more : NoMore (length h.0.packets) part = omega (arith, most, h.2.packets_are) in (
@@ -100,43 +101,43 @@ TakesPacket m n old new packet level = (stamps timestamps : List ℕ) → IsLeve
     → Draws m n old stamps timestamps → Draws m n new (stamps ++ packet.at ∷ []) (timestamps ++ packet.timestamp ∷ [])
 
 -- the level of the next packet of a run, among the stamps so far
-pub level-next : (m : Media) (n tai : ℕ) (packet : RunPacket) (level : Level) (before : List FlowPacket) (p : FlowPacket)
-    → packet ≡ told_of tai p
-    → IsLevel m n (stamps_of tai (before ++ p ∷ [])) (length before) level
-    → IsLevel m n (stamps_of tai before ++ packet.at ∷ []) (length (stamps_of tai before)) level
-level-next m n tai packet level before p told is =
-    subst (λ (q : RunPacket). IsLevel m n (stamps_of tai before ++ q.at ∷ []) (length (stamps_of tai before)) level) (sym told)
-    (subst (λ k. IsLevel m n (stamps_of tai before ++ stamp_of tai p ∷ []) k level) (sym (stamps-long tai before))
-    (subst (λ l. IsLevel m n l (length before) level) (stamps-more tai before p) is))
+pub level-next : (m : Media) (n : ℕ) (shift : Shift) (packet : RunPacket) (level : Level) (before : List FlowPacket) (p : FlowPacket)
+    → packet ≡ told_of shift p
+    → IsLevel m n (stamps_of shift (before ++ p ∷ [])) (length before) level
+    → IsLevel m n (stamps_of shift before ++ packet.at ∷ []) (length (stamps_of shift before)) level
+level-next m n shift packet level before p told is =
+    subst (λ (q : RunPacket). IsLevel m n (stamps_of shift before ++ q.at ∷ []) (length (stamps_of shift before)) level) (sym told)
+    (subst (λ k. IsLevel m n (stamps_of shift before ++ stamp_of shift p ∷ []) k level) (sym (stamps-long shift before))
+    (subst (λ l. IsLevel m n l (length before) level) (stamps-more shift before p) is))
 
 -- what is said of stamps and timestamps is said of the packets
-pub drawn-packet : (m : Media) (n tai : ℕ) (old new : RunColumns) (packet : RunPacket) (level : Level) (before : List FlowPacket) (p : FlowPacket)
+pub drawn-packet : (m : Media) (n : ℕ) (shift : Shift) (old new : RunColumns) (packet : RunPacket) (level : Level) (before : List FlowPacket) (p : FlowPacket)
     → TakesPacket m n old new packet level
-    → packet ≡ told_of tai p
-    → IsLevel m n (stamps_of tai (before ++ p ∷ [])) (length before) level
-    → Draws m n old (stamps_of tai before) (timestamps_of before)
-    → Draws m n new (stamps_of tai (before ++ p ∷ [])) (timestamps_of (before ++ p ∷ []))
-drawn-packet m n tai old new packet level before p takes told is h =
-    let stamps = stamps_of tai before in
+    → packet ≡ told_of shift p
+    → IsLevel m n (stamps_of shift (before ++ p ∷ [])) (length before) level
+    → Draws m n old (stamps_of shift before) (timestamps_of before)
+    → Draws m n new (stamps_of shift (before ++ p ∷ [])) (timestamps_of (before ++ p ∷ []))
+drawn-packet m n shift old new packet level before p takes told is h =
+    let stamps = stamps_of shift before in
     let ticks = timestamps_of before in
-    let fed = takes stamps ticks (level-next m n tai packet level before p told is) h in
+    let fed = takes stamps ticks (level-next m n shift packet level before p told is) h in
     let said = subst (λ (q : RunPacket). Draws m n new (stamps ++ q.at ∷ []) (ticks ++ q.timestamp ∷ [])) told fed in
-    subst (λ l. Draws m n new l (timestamps_of (before ++ p ∷ []))) (sym (stamps-more tai before p))
-    (subst (Draws m n new (stamps ++ stamp_of tai p ∷ [])) (sym (timestamps-more before p)) said)
+    subst (λ l. Draws m n new l (timestamps_of (before ++ p ∷ []))) (sym (stamps-more shift before p))
+    (subst (Draws m n new (stamps ++ stamp_of shift p ∷ [])) (sym (timestamps-more before p)) said)
 
 -- the same of the regions
-pub regions-packet : (m : Media) (n tai : ℕ) (new : RegionMeters) (packet : RunPacket) (before : List FlowPacket) (p : FlowPacket)
-    → packet ≡ told_of tai p
-    → DrawsRegions m n new (stamps_of tai before ++ packet.at ∷ [])
-    → DrawsRegions m n new (stamps_of tai (before ++ p ∷ []))
-regions-packet m n tai new packet before p told h =
-    subst (DrawsRegions m n new) (sym (stamps-more tai before p))
-    (subst (λ (q : RunPacket). DrawsRegions m n new (stamps_of tai before ++ q.at ∷ [])) told h)
+pub regions-packet : (m : Media) (n : ℕ) (shift : Shift) (new : RegionMeters) (packet : RunPacket) (before : List FlowPacket) (p : FlowPacket)
+    → packet ≡ told_of shift p
+    → DrawsRegions m n new (stamps_of shift before ++ packet.at ∷ [])
+    → DrawsRegions m n new (stamps_of shift (before ++ p ∷ []))
+regions-packet m n shift new packet before p told h =
+    subst (DrawsRegions m n new) (sym (stamps-more shift before p))
+    (subst (λ (q : RunPacket). DrawsRegions m n new (stamps_of shift before ++ q.at ∷ [])) told h)
 
 -- the stamps and timestamps of packets, and of those behind them
-pub stamps-parts : (tai : ℕ) (fed committed rest : List FlowPacket) → fed ≡ committed ++ rest
-    → stamps_of tai fed ≡ stamps_of tai committed ++ stamps_of tai rest
-stamps-parts tai fed committed rest whole = ap (stamps_of tai) whole ∙ map-append (stamp_of tai) committed rest
+pub stamps-parts : (shift : Shift) (fed committed rest : List FlowPacket) → fed ≡ committed ++ rest
+    → stamps_of shift fed ≡ stamps_of shift committed ++ stamps_of shift rest
+stamps-parts shift fed committed rest whole = ap (stamps_of shift) whole ∙ map-append (stamp_of shift) committed rest
 
 -- the RTP timestamps of packets, and of those after them
 pub timestamps-parts : (fed committed rest : List FlowPacket) → fed ≡ committed ++ rest → timestamps_of fed ≡ timestamps_of committed ++ timestamps_of rest
@@ -144,34 +145,34 @@ timestamps-parts fed committed rest whole =
     ap timestamps_of whole ∙ map-append (λ (q : FlowPacket). (read_or_zeros q.rtp).timestamp) committed rest
 
 -- the columns that were committed, with those of the packets behind them
-pub drawn-kept : (m : Media) (n tai : ℕ) (old other new : RunColumns) (fed committed rest : List FlowPacket) → fed ≡ committed ++ rest
+pub drawn-kept : (m : Media) (n : ℕ) (shift : Shift) (old other new : RunColumns) (fed committed rest : List FlowPacket) → fed ≡ committed ++ rest
     → ((m : Media) (n : ℕ) (stamps more timestamps ticks : List ℕ) → Draws m n old stamps timestamps → Draws m n other (stamps ++ more) (timestamps ++ ticks)
     → Draws m n new (stamps ++ more) (timestamps ++ ticks))
-    → Draws m n old (stamps_of tai committed) (timestamps_of committed)
-    → Draws m n other (stamps_of tai fed) (timestamps_of fed)
-    → Draws m n new (stamps_of tai fed) (timestamps_of fed)
-drawn-kept m n tai old other new fed committed rest whole keeps h k =
-    let stamps = stamps-parts tai fed committed rest whole in
+    → Draws m n old (stamps_of shift committed) (timestamps_of committed)
+    → Draws m n other (stamps_of shift fed) (timestamps_of fed)
+    → Draws m n new (stamps_of shift fed) (timestamps_of fed)
+drawn-kept m n shift old other new fed committed rest whole keeps h k =
+    let stamps = stamps-parts shift fed committed rest whole in
     let ticks = timestamps-parts fed committed rest whole in
-    let parts = subst (λ l. Draws m n other l (timestamps_of committed ++ timestamps_of rest)) stamps (subst (Draws m n other (stamps_of tai fed)) ticks k) in
-    let kept = keeps m n (stamps_of tai committed) (stamps_of tai rest) (timestamps_of committed) (timestamps_of rest) h parts in
+    let parts = subst (λ l. Draws m n other l (timestamps_of committed ++ timestamps_of rest)) stamps (subst (Draws m n other (stamps_of shift fed)) ticks k) in
+    let kept = keeps m n (stamps_of shift committed) (stamps_of shift rest) (timestamps_of committed) (timestamps_of rest) h parts in
     subst (λ l. Draws m n new l (timestamps_of fed)) (sym stamps)
-    (subst (Draws m n new (stamps_of tai committed ++ stamps_of tai rest)) (sym ticks) kept)
+    (subst (Draws m n new (stamps_of shift committed ++ stamps_of shift rest)) (sym ticks) kept)
 
 -- what is drawn of a run that is over
-pub drawn-part : (m : Media) (tai : ℕ) (r : RunOf) (values : Judged) (packets : List FlowPacket) (x : RunColumns) (d : DrawnRun)
+pub drawn-part : (m : Media) (shift : Shift) (r : RunOf) (values : Judged) (packets : List FlowPacket) (x : RunColumns) (d : DrawnRun)
     → IsMedia m
     → 1 ≤ r.n
-    → IsJudgedOf m tai r packets values
-    → Draws m r.n x (stamps_of tai packets) (timestamps_of packets)
+    → IsJudgedOf m shift r packets values
+    → Draws m r.n x (stamps_of shift packets) (timestamps_of packets)
     → d.run ≡ r.number → d.packets ≡ x.packets.seen → d.first_at ≡ x.first_at → d.last_at ≡ x.last_at
     → ((m : Media) (n groups : ℕ) (stamps timestamps : List ℕ) → IsMedia m → 1 ≤ n → Draws m n x stamps timestamps → length stamps ≡ n * groups
     → AreCurves m n groups stamps timestamps d.curves)
-    → AreRegions m r.n (stamps_of tai packets) 0 values.kinds d.regions
-    → IsDrawn m tai (part_of r values packets) d
-drawn-part m tai r values packets x d is some j h run_is packets_are first_is last_is curves regions =
-    let stamps = stamps_of tai packets in
-    let long = stamps-long tai packets in
+    → AreRegions m r.n (stamps_of shift packets) 0 values.kinds d.regions
+    → IsDrawn m shift (part_of r values packets) d
+drawn-part m shift r values packets x d is some j h run_is packets_are first_is last_is curves regions =
+    let stamps = stamps_of shift packets in
+    let long = stamps-long shift packets in
     let whole : length stamps ≡ r.n * values.frames = long ∙ j.whole in
     let one : r.n * 1 ≤ r.n * values.frames = mul-le-mul_left r.n j.some in
     let few : 0 < length stamps = omega (arith, one, some, whole) in

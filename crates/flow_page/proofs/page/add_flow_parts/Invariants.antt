@@ -5,5 +5,5 @@ use Rattle.flow_page.proofs.page.add_flow_parts.Given as goal
 
 abbrev pub invariant-loop-page : goal.invariant-loop-page
 invariant-loop-page l =
-    string_bytes l.text ++ flow_parts l.tai l.session (drop l.page-index l.flows)
-    ≡ string_bytes l.fn.text ++ flow_parts l.tai l.session l.flows
+    string_bytes l.text ++ flow_parts l.shift l.session (drop l.page-index l.flows)
+    ≡ string_bytes l.fn.text ++ flow_parts l.shift l.session l.flows

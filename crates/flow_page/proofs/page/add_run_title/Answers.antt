@@ -10,4 +10,4 @@ returns c =
     let s = c.args.shown.now in
     added_ok c.add_run_heading.result (string_bytes c.args.text.now) _ _ _ c.add_run_heading.ensures
     (ap (λ (first : ℕ). run_heading s.run.run s.run.«record» first c.file_time-last.result) c.file_time-first.ensures
-    ∙ ap (λ (last : ℕ). run_heading s.run.run s.run.«record» (file_time c.args.tai s.first_at) last) c.file_time-last.ensures)
+    ∙ ap (λ (last : ℕ). run_heading s.run.run s.run.«record» (file_time c.args.shift s.first_at) last) c.file_time-last.ensures)

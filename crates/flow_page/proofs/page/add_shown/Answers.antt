@@ -15,14 +15,14 @@ pub returns : goal.returns
 unfolding run_part
 returns c =
     let r = c.add_run_tables.result in
-    let tai = c.args.tai in
+    let shift = c.args.shift in
     let m = c.args.media.now in
     let flow = c.args.flow.now in
     let s = c.args.shown.now in
     let types : List TypeShown = c.as_slice-types.result.now in
     let a : List ℕ = flow_heading (flow.media + 1) (target_of m) in
-    let b : List ℕ = run_heading s.run.run s.run.«record» (file_time tai s.first_at) (file_time tai s.last_at) in
-    let d : List ℕ = words_list types (group_name m.interlaced) tai in
+    let b : List ℕ = run_heading s.run.run s.run.«record» (file_time shift s.first_at) (file_time shift s.last_at) in
+    let d : List ℕ = words_list types (group_name m.interlaced) shift in
     let e : List ℕ = steps_line m s.run.judged.frames s.run.numbers.step in
     let f : List ℕ = run_grid m s types in
     let g : List ℕ = run_tables m s types flow.runs in
@@ -33,4 +33,4 @@ returns c =
     (two_ok r _ e (f ++ g) _ _ c.in_ok-add_steps.ensures
     (two_ok r _ f g _ _ c.in_ok-add_run_grid.ensures
     (added_ok r _ _ _ g c.add_run_tables.ensures (ap (λ (runs : List MeasuredRun). run_tables m s types runs) c.as_slice.ensures)))))))
-    (ap (λ (types : List TypeShown). run_part tai m flow s types) (c.as_slice-types.ensures.value ∙ c.in_ok-types.ensures))
+    (ap (λ (types : List TypeShown). run_part shift m flow s types) (c.as_slice-types.ensures.value ∙ c.in_ok-types.ensures))

@@ -9,7 +9,7 @@ use Rattle.flow_page.proofs.page.add_words_list.Goals as goal
 pub returns : goal.returns
 returns c =
     let r = c.add_markup-2.result in
-    let words : List ℕ = flat_map (λ (t : TypeShown). type_words t c.args.group.now c.args.tai) c.args.types.now in
+    let words : List ℕ = flat_map (λ (t : TypeShown). type_words t c.args.group.now c.args.shift) c.args.types.now in
     let end : List ℕ = codes "</ul>\n" in
     two_ok r (string_bytes c.args.text.now) (codes "<ul class=\"words\">\n") (words ++ end) _ _ c.in_ok-add_markup.ensures
     (two_ok r _ words end _ _ c.in_ok-add_words.ensures c.add_markup-2.ensures)

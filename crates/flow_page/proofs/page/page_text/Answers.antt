@@ -13,7 +13,7 @@ returns c =
     let b : List ℕ = note_line c.args.note in
     let d : List ℕ = media_table session flows in
     let e : List ℕ = legend in
-    let f : List ℕ = flow_parts c.args.tai session flows in
+    let f : List ℕ = flow_parts c.args.shift session flows in
     let g : List ℕ = contents_part c.args.contents.now in
     let h : List ℕ = page_end in
     two _ a (b ++ (d ++ (e ++ (f ++ (g ++ h))))) _ _ c.in_ok-add_page_start.ensures

@@ -6,5 +6,5 @@ use Rattle.flow_page.proofs.words.add_words.Given as goal
 
 abbrev pub invariant-loop-shown : goal.invariant-loop-shown
 invariant-loop-shown l =
-    string_bytes l.text ++ flat_map (λ t. type_words t l.group l.tai) (drop l.shown-index l.types)
-    ≡ string_bytes l.fn.text ++ flat_map (λ t. type_words t l.group l.tai) l.types
+    string_bytes l.text ++ flat_map (λ t. type_words t l.group l.shift) (drop l.shown-index l.types)
+    ≡ string_bytes l.fn.text ++ flat_map (λ t. type_words t l.group l.shift) l.types

@@ -239,14 +239,14 @@ all_sent {S} name left faults s lanes columns sources jobs dones texts notes row
     (subst (HasSentAll s f lanes (capture_of text) (slice_index_or notes f n)) (sym (row_at dones rows f d b there)) sent)
 
 rows-over_by : (s : Setting) (captures : List Capture) (b : Bool) → s.joined ≡ b
-    → rows_of_files s.tai 0 s.media (if b then joined_records (map (λ (c : Capture). c.records) captures) ∷ [] else map (λ (c : Capture). c.records) captures)
-    ≡ rows_over b s.tai s.media (map (λ (c : Capture). c.records) captures)
-rows-over_by s captures true e = append-nil (rows_of s.tai 0 s.media (joined_records (map (λ (c : Capture). c.records) captures)))
+    → rows_of_files s.options 0 s.media (if b then joined_records (map (λ (c : Capture). c.records) captures) ∷ [] else map (λ (c : Capture). c.records) captures)
+    ≡ rows_over b s.options s.media (map (λ (c : Capture). c.records) captures)
+rows-over_by s captures true e = append-nil (rows_of s.options 0 s.media (joined_records (map (λ (c : Capture). c.records) captures)))
 rows-over_by s captures false e = refl
 
 -- the rows of the keys are those over the records
 key_rows : (s : Setting) (captures : List Capture) → map (key_row s captures) (keys s (length captures))
-    ≡ rows_over s.joined s.tai s.media (map (λ (c : Capture). c.records) captures)
+    ≡ rows_over s.joined s.options s.media (map (λ (c : Capture). c.records) captures)
 key_rows s captures = rows-keys s captures ∙ rows-over_by s captures s.joined refl
 
 -- what came back of a run
@@ -291,7 +291,7 @@ pub found : {S : Type 0} (name : S → List ℕ) (left : S → Option (List ℕ)
     → posted ≡ map (λ d. d.receipts) wdones → AreRead name left faults s lanes ijobs idones → AreNotes notes idones → passes ≡ map (λ d. d.passes) idones
     → senders ≡ dealt_all (map (λ v. v.items) passes) (replicate s.workers []) → AreClosed senders takers → All IsWhole notes
     → ((row_for : FlowKey → Row) → ArePosted book row_for (length s.media) s.workers (keys s files) posted → rows ≡ map row_for (keys s files))
-    → AreTexts left texts sources → AreFound texts (rows_over s.joined s.tai s.media) notes rows
+    → AreTexts left texts sources → AreFound texts (rows_over s.joined s.options s.media) notes rows
 found {S} name left faults s files book lanes columns sources wjobs wdones takers posted ijobs idones notes passes senders rows texts
     is made intakes long worked takers_is posted_is read notes_is passes_is dealt_out closed whole rows_are are_texts =
     let captures : List Capture = map capture_of texts in

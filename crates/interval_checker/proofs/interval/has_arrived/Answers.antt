@@ -17,7 +17,7 @@ returns-then-is_before c = λ stamps within sampled.
     let are = c.reads-reads.ensures stamps (omega (arith, within)) sampled in
     let some : 0 < f.count = omega (arith, c.if-claim-gt0.true) in
     let at : c.args.sample.now.last_counted + c.added-added.result ≡ slice_index stamps (f.count - 1) =
-    omega (arith, c.added-added.ensures.value, sampled-counted f c.args.claim.now.tai stamps c.args.sample.now sampled some (omega (arith, within))) in
+    omega (arith, c.added-added.ensures.value, sampled-counted f c.args.claim.now.options stamps c.args.sample.now sampled some (omega (arith, within))) in
     let holds : c.is_before.result ≡ true = search rules in (
       λ never. cc,
       λ came. absurd (arrived-fewer m n stamps kind c.reads-reads.result f.to f.count _ c.is_before.result are sampled.rising some at
@@ -34,9 +34,9 @@ returns c = λ stamps within sampled.
     let u = c.args.sample.now.behind + c.added-added.result in
     let are = c.reads-reads.ensures stamps (omega (arith, within)) sampled in
     let at : 0 < f.count → t ≡ slice_index stamps (f.count - 1) = λ some.
-    omega (arith, c.added-added.ensures.value, sampled-counted f c.args.claim.now.tai stamps c.args.sample.now sampled some (omega (arith, within))) in
+    omega (arith, c.added-added.ensures.value, sampled-counted f c.args.claim.now.options stamps c.args.sample.now sampled some (omega (arith, within))) in
     let behind : u ≡ slice_index stamps f.count =
-    omega (arith, c.added-added.ensures.value, sampled-behind f c.args.claim.now.tai stamps c.args.sample.now sampled (omega (arith, within))) in
+    omega (arith, c.added-added.ensures.value, sampled-behind f c.args.claim.now.options stamps c.args.sample.now sampled (omega (arith, within))) in
     let last : 0 < f.count → below (read_of m n (anchor_of m (slice_index stamps 0)) (gapped_of kind) f.to) (whole t) ≡ false =
     elim c.else-claim-gt0.branch as (λ _. 0 < f.count → below (read_of m n (anchor_of m (slice_index stamps 0)) (gapped_of kind) f.to) (whole t) ≡ false) [
       | else-claim-gt0-via-then-claim-gt0+else-is_before w ↦ λ some.

@@ -3,6 +3,7 @@ use Rattle.std.proofs.Common.{◌≡◌, ◌≤◌, ◌<◌, ◌+◌, ℕ, List,
 use Rattle.std.proofs.Common.{subst, arith, append-nil, append_assoc, length-append, take-append-drop}
 use Rattle.std.specs.Prelude.{◌⊎◌}
 use Rattle.std.proofs.lemmas.List.Elements.{filter_map-append}
+use Rattle.timing_base.specs.Shifts.{FlowOptions}
 use Rattle.timing_base.specs.Captures.{Record}
 use Rattle.timing_base.specs.Flows.{first_fault_below}
 use Rattle.timing_base.specs.Judged.{judged}
@@ -39,70 +40,70 @@ use Rattle.timing_measure.proofs.lemmas.series.Ending.{some-put}
 use Rattle.timing_measure.proofs.lemmas.series.Fronting.{RowsBefore, rows-ahead}
 
 -- these rows were put behind the header so far, and with more they are the rows of the flow
-pub record AreBegun (frames : Bool) (m : Media) (tai : ℕ) (packets : List FlowPacket) (gone text : List ℕ) : Type 0 where
+pub record AreBegun (frames : Bool) (m : Media) (options : FlowOptions) (packets : List FlowPacket) (gone text : List ℕ) : Type 0 where
   pub put : List ℕ
   pub text_is : gone ++ text ≡ header_text frames ++ put
   pub more : List ℕ
-  pub are : AreRowsOfFlow frames m tai packets (put ++ more)
+  pub are : AreRowsOfFlow frames m options packets (put ++ more)
 
 -- what the output tells of the packets before a place
-before-place : (past : PastRows) (m : Media) (tai : ℕ) (packets : List FlowPacket) (n : ℕ) (so_far : SoFar) (done : List Run)
+before-place : (past : PastRows) (m : Media) (options : FlowOptions) (packets : List FlowPacket) (n : ℕ) (so_far : SoFar) (done : List Run)
     (open_run : Option (OpenRun RowsMeter)) (out : Rows)
-    → OpensAt m tai packets n so_far done open_run → TellsAt RowsStandsFor Tells past m tai packets n open_run out
-    → Tells past out m tai (parts_before m packets tai n) (open_before packets tai n)
-before-place past m tai packets n so_far done None out o t =
-    subst (λ k. Tells past out m tai (parts_before m packets tai k) (open_before packets tai k)) (sym o.0) t
-before-place past m tai packets n so_far done (Some open_run) out o t = t.out_tells
+    → OpensAt m options packets n so_far done open_run → TellsAt RowsStandsFor Tells past m options packets n open_run out
+    → Tells past out m options (parts_before m packets options n) (open_before packets options n)
+before-place past m options packets n so_far done None out o t =
+    subst (λ k. Tells past out m options (parts_before m packets options k) (open_before packets options k)) (sym o.0) t
+before-place past m options packets n so_far done (Some open_run) out o t = t.out_tells
 
 -- the rows of the first packets, of which none has a fault
-begun-going : (frames : Bool) (gone : List ℕ) (m : Media) (tai : ℕ) (packets : List FlowPacket) (n : ℕ) (out : Rows) → IsMedia m
+begun-going : (frames : Bool) (gone : List ℕ) (m : Media) (options : FlowOptions) (packets : List FlowPacket) (n : ℕ) (out : Rows) → IsMedia m
     → first_fault_below packets m.pt n ≡ None → n ≤ length packets
-    → Tells (past_of frames gone) out m tai (parts_before m packets tai n) (open_before packets tai n)
-    → AreBegun frames m tai packets gone out.text.items
-begun-going frames gone m tai packets n out is none within t =
-    let rows = rows-ahead frames m tai packets n t.put is none within (subst (λ f. RowsBefore f m tai packets n t.put) t.frames_is t.are) in
+    → Tells (past_of frames gone) out m options (parts_before m packets options n) (open_before packets options n)
+    → AreBegun frames m options packets gone out.text.items
+begun-going frames gone m options packets n out is none within t =
+    let rows = rows-ahead frames m options packets n t.put is none within (subst (λ f. RowsBefore f m options packets n t.put) t.frames_is t.are) in
     record { put = t.put; text_is = t.text_is; more = rows.0; are = rows.1 }
 
-begun-state : (frames : Bool) (gone : List ℕ) (m : Media) (tai : ℕ) (packets rest : List FlowPacket) (state : State RowsMeter) (out : Rows) → IsMedia m
-    → IsAt m tai packets state → StateTells RowsStandsFor Tells (past_of frames gone) m tai packets state out
-    → AreBegun frames m tai (packets ++ rest) gone out.text.items
-begun-state frames gone m tai packets rest (Going flow) out is at told =
+begun-state : (frames : Bool) (gone : List ℕ) (m : Media) (options : FlowOptions) (packets rest : List FlowPacket) (state : State RowsMeter) (out : Rows) → IsMedia m
+    → IsAt m options packets state → StateTells RowsStandsFor Tells (past_of frames gone) m options packets state out
+    → AreBegun frames m options (packets ++ rest) gone out.text.items
+begun-state frames gone m options packets rest (Going flow) out is at told =
     let all = packets ++ rest in
     let n = length packets in
     let past = past_of frames gone in
     let long : length all ≡ length packets + length rest = length-append packets rest in
     let stands = at.2 in
-    let opens : OpensAt m tai all n stands.so_far flow.done.items flow.open =
-    subst (λ (x : Media). OpensAt x tai all n stands.so_far flow.done.items flow.open) at.0
+    let opens : OpensAt m options all n stands.so_far flow.done.items flow.open =
+    subst (λ (x : Media). OpensAt x options all n stands.so_far flow.done.items flow.open) at.0
     (subst (λ s. OpensAt flow.media s all n stands.so_far flow.done.items flow.open) at.1 (stands.runs rest)) in
-    begun-going frames gone m tai all n out is
+    begun-going frames gone m options all n out is
     (subst (λ (x : Media). first_fault_below all x.pt n ≡ None) at.0 (stands.sound rest)) (omega (arith, long))
-    (before-place past m tai all n stands.so_far flow.done.items flow.open out opens (told rest))
-begun-state frames gone m tai packets rest (Refused rec fault) out is at told =
+    (before-place past m options all n stands.so_far flow.done.items flow.open out opens (told rest))
+begun-state frames gone m options packets rest (Refused rec fault) out is at told =
     let all = packets ++ rest in
     let n = length packets in
     let past = past_of frames gone in
     let long : length all ≡ length packets + length rest = length-append packets rest in
     let first = at.first rest in
-    let t = subst (λ x. Tells past out m tai (parts_before m all tai (sound_before x n)) (open_before all tai (sound_before x n))) first (told rest) in
+    let t = subst (λ x. Tells past out m options (parts_before m all options (sound_before x n)) (open_before all options (sound_before x n))) first (told rest) in
     let whole = fault-kept all m.pt n (length all) _ (omega (arith, long)) first in
     record {
       put = t.put;
       text_is = t.text_is;
       more = [];
-      are = subst (AreRowsOfFlow frames m tai all) (sym (append-nil t.put))
-          (subst (λ o. AreRowsUpTo frames m tai all o t.put) (sym whole)
-          (subst (λ f. RowsBefore f m tai all at.index t.put) t.frames_is t.are));
+      are = subst (AreRowsOfFlow frames m options all) (sym (append-nil t.put))
+          (subst (λ o. AreRowsUpTo frames m options all o t.put) (sym whole)
+          (subst (λ f. RowsBefore f m options all at.index t.put) t.frames_is t.are));
     }
-begun-state frames gone m tai packets rest Spent out is at told = absurd at
+begun-state frames gone m options packets rest Spent out is at told = absurd at
 
 -- a flow whose records were taken has begun with its rows, whatever records follow
-series-begun : (frames : Bool) (m : Media) (number tai : ℕ) (gone : List ℕ) (x : SeriesFlow) (taken rest : List Record) → IsMedia m
-    → StandsFor frames m number tai gone x taken
-    → AreBegun frames m tai (flow (taken ++ rest) m) gone (text_of x)
-series-begun frames m number tai gone x taken rest is h =
-    subst (λ l. AreBegun frames m tai l gone (text_of x)) (sym (filter_map-append (flow_packet m) taken rest))
-    (begun-state frames gone m tai (flow taken m) (flow rest m) x.flow.taker.judge.state x.flow.taker.out is h.fed.judge_is.state (h.fed.told refl))
+series-begun : (frames : Bool) (m : Media) (number : ℕ) (options : FlowOptions) (gone : List ℕ) (x : SeriesFlow) (taken rest : List Record) → IsMedia m
+    → StandsFor frames m number options gone x taken
+    → AreBegun frames m options (flow (taken ++ rest) m) gone (text_of x)
+series-begun frames m number options gone x taken rest is h =
+    subst (λ l. AreBegun frames m options l gone (text_of x)) (sym (filter_map-append (flow_packet m) taken rest))
+    (begun-state frames gone m options (flow taken m) (flow rest m) x.flow.taker.judge.state x.flow.taker.out is h.fed.judge_is.state (h.fed.told refl))
 
 -- an answer that has rows
 text-of-rows : (frames : Bool) (m : Media) (note : FileNote) (v : Verdict) (rows : List ℕ) → 0 < length rows
@@ -119,13 +120,13 @@ pieces gone text put more header count is =
     ∙ append_assoc (gone ++ take count text) (drop count text) more
 
 -- a prefix of what was made so far is one of the answer's text, if a row was made
-begins-some : (frames : Bool) (m : Media) (tai : ℕ) (items : List Record) (note : FileNote) (gone made : List ℕ) (count : ℕ)
-    → AreBegun frames m tai (flow items m) gone made
+begins-some : (frames : Bool) (m : Media) (options : FlowOptions) (items : List Record) (note : FileNote) (gone made : List ℕ) (count : ℕ)
+    → AreBegun frames m options (flow items m) gone made
     → length (header_text frames) < length gone + length made
-    → IsFrontOf (DefinesSeries frames tai m items note) (gone ++ take count made)
-begins-some frames m tai items note gone made count begun more =
+    → IsFrontOf (DefinesSeries frames options m items note) (gone ++ take count made)
+begins-some frames m options items note gone made count begun more =
     let rows = begun.put ++ begun.more in
-    let v = verdict_of m (judged (flow items m) m.pt tai) in
+    let v = verdict_of m (judged (flow items m) m.pt options) in
     let put : 0 < length begun.put = some-put (header_text frames) begun.put gone made begun.text_is more in
     let some : 0 < length rows = omega (arith, put, length-append begun.put begun.more) in
     record {
@@ -146,36 +147,36 @@ rows-held : (frames : Bool) (gone made : List ℕ) (waiting : ℕ) → Waits fra
 rows-held frames gone made waiting (inl w) some = omega (arith, w.1, some)
 rows-held frames gone made waiting (inr w) some = omega (arith, w.1)
 
-begins-none : (frames : Bool) (m : Media) (tai : ℕ) (items : List Record) (note : FileNote) (gone made : List ℕ)
-    → AreBegun frames m tai (flow items m) gone made
+begins-none : (frames : Bool) (m : Media) (options : FlowOptions) (items : List Record) (note : FileNote) (gone made : List ℕ)
+    → AreBegun frames m options (flow items m) gone made
     → (gone ≡ []) ⊎ (length (header_text frames) < length gone + length made)
-    → (gone ≡ []) ⊎ IsFrontOf (DefinesSeries frames tai m items note) gone
-begins-none frames m tai items note gone made begun (inl none) = inl none
-begins-none frames m tai items note gone made begun (inr more) =
-    inr (subst (IsFrontOf (DefinesSeries frames tai m items note)) (append-nil gone) (begins-some frames m tai items note gone made 0 begun more))
+    → (gone ≡ []) ⊎ IsFrontOf (DefinesSeries frames options m items note) gone
+begins-none frames m options items note gone made begun (inl none) = inl none
+begins-none frames m options items note gone made begun (inr more) =
+    inr (subst (IsFrontOf (DefinesSeries frames options m items note)) (append-nil gone) (begins-some frames m options items note gone made 0 begun more))
 
 -- what was written where it stopped
-stopped-case : (frames : Bool) (m : Media) (tai : ℕ) (items : List Record) (note : FileNote) (gone made : List ℕ) (waiting count : ℕ)
-    → AreBegun frames m tai (flow items m) gone made → Waits frames gone waiting
+stopped-case : (frames : Bool) (m : Media) (options : FlowOptions) (items : List Record) (note : FileNote) (gone made : List ℕ) (waiting count : ℕ)
+    → AreBegun frames m options (flow items m) gone made → Waits frames gone waiting
     → (count ≡ 0) ⊎ (waiting < length made)
-    → (gone ++ take count made ≡ []) ⊎ IsFrontOf (DefinesSeries frames tai m items note) (gone ++ take count made)
-stopped-case frames m tai items note gone made waiting count begun waits (inl none) =
+    → (gone ++ take count made ≡ []) ⊎ IsFrontOf (DefinesSeries frames options m items note) (gone ++ take count made)
+stopped-case frames m options items note gone made waiting count begun waits (inl none) =
     let same : gone ≡ gone ++ take count made = sym (ap (λ k. gone ++ take k made) none ∙ append-nil gone) in
-    subst (λ l. (l ≡ []) ⊎ IsFrontOf (DefinesSeries frames tai m items note) l) same
-    (begins-none frames m tai items note gone made begun (rows-gone frames gone made waiting waits))
-stopped-case frames m tai items note gone made waiting count begun waits (inr some) =
-    inr (begins-some frames m tai items note gone made count begun (rows-held frames gone made waiting waits some))
+    subst (λ l. (l ≡ []) ⊎ IsFrontOf (DefinesSeries frames options m items note) l) same
+    (begins-none frames m options items note gone made begun (rows-gone frames gone made waiting waits))
+stopped-case frames m options items note gone made waiting count begun waits (inr some) =
+    inr (begins-some frames m options items note gone made count begun (rows-held frames gone made waiting waits some))
 
 -- what `series` has written where it stopped is nothing, or a prefix of the answer's text
-pub stopped-begins : (frames : Bool) (m : Media) (number tai : ℕ) (items : List Record) (note : FileNote) (o : Output) (old : SeriesFlow)
-    → IsMedia m → StandsFor frames m number tai [] old [] → Stopped o old items
-    → (front : List ℕ) × Appended o front × ((front ≡ []) ⊎ IsFrontOf (DefinesSeries frames tai m items note) front)
-stopped-begins frames m number tai items note o old is fresh s =
-    let stands : StandsFor frames m number tai s.written s.stood s.taken = s.goes frames m number tai [] [] fresh in
-    let begun : AreBegun frames m tai (flow items m) s.written (text_of s.stood) =
-    subst (λ l. AreBegun frames m tai (flow l m) s.written (text_of s.stood)) (sym s.whole)
-    (series-begun frames m number tai s.written s.stood s.taken s.rest is stands) in (
+pub stopped-begins : (frames : Bool) (m : Media) (number : ℕ) (options : FlowOptions) (items : List Record) (note : FileNote) (o : Output) (old : SeriesFlow)
+    → IsMedia m → StandsFor frames m number options [] old [] → Stopped o old items
+    → (front : List ℕ) × Appended o front × ((front ≡ []) ⊎ IsFrontOf (DefinesSeries frames options m items note) front)
+stopped-begins frames m number options items note o old is fresh s =
+    let stands : StandsFor frames m number options s.written s.stood s.taken = s.goes frames m number options [] [] fresh in
+    let begun : AreBegun frames m options (flow items m) s.written (text_of s.stood) =
+    subst (λ l. AreBegun frames m options (flow l m) s.written (text_of s.stood)) (sym s.whole)
+    (series-begun frames m number options s.written s.stood s.taken s.rest is stands) in (
       s.written ++ take s.count (text_of s.stood),
       s.appended,
-      stopped-case frames m tai items note s.written (text_of s.stood) s.stood.waiting s.count begun stands.waits s.some,
+      stopped-case frames m options items note s.written (text_of s.stood) s.stood.waiting s.count begun stands.waits s.some,
     )

@@ -35,22 +35,22 @@ BeginsOr job media text front = (front ≡ []) ⊎ IsFrontOf (HasAnswer (series_
 
 -- nothing was taken yet of the flow of the job
 abbrev pub IsFresh : SeriesJob → Media → SeriesFlow → Type 0
-IsFresh job m old = StandsFor job.frames m job.flow.media job.flow.tai [] old []
+IsFresh job m old = StandsFor job.frames m job.flow.media job.flow.options [] old []
 
 -- the answer over the packet records of the capture
 pub has-series : (job : SeriesJob) (media : List Media) (m : Media) (text : List ℕ) (items : List Record) (note : FileNote) (answer : Answer)
-    → slice_get media job.flow.media ≡ Some m → Records text (2 ^ 40) items note → DefinesSeries job.frames job.flow.tai m items note answer
+    → slice_get media job.flow.media ≡ Some m → Records text (2 ^ 40) items note → DefinesSeries job.frames job.flow.options m items note answer
     → HasAnswer (series_query job) media (text ∷ []) answer
 has-series job media m text items note answer found records h = record {
   files = items ∷ [];
   notes = note ∷ [];
   records = (records, tt);
-  defined = subst (λ o. OnMedia o (λ x. DefinesSeries job.frames job.flow.tai x items note answer)) (sym found) h;
+  defined = subst (λ o. OnMedia o (λ x. DefinesSeries job.frames job.flow.options x items note answer)) (sym found) h;
 }
 
 begins-or : (job : SeriesJob) (media : List Media) (m : Media) (text : List ℕ) (items : List Record) (note : FileNote) (front : List ℕ)
     → slice_get media job.flow.media ≡ Some m → Records text (2 ^ 40) items note
-    → (front ≡ []) ⊎ IsFrontOf (DefinesSeries job.frames job.flow.tai m items note) front → BeginsOr job media text front
+    → (front ≡ []) ⊎ IsFrontOf (DefinesSeries job.frames job.flow.options m items note) front → BeginsOr job media text front
 begins-or job media m text items note front found records (inl none) = inl none
 begins-or job media m text items note front found records (inr f) =
     inr (record { answer = f.answer; has = has-series job media m text items note f.answer found records f.has; rest = f.rest; whole = f.whole })
@@ -60,7 +60,7 @@ stopped-at : (job : SeriesJob) (media : List Media) (m : Media) (o : Output) (ol
     → slice_get media job.flow.media ≡ Some m → IsMedia m → IsFresh job m old → Records text (2 ^ 40) items note → Stopped o old items
     → HasBegun o (BeginsOr job media text)
 stopped-at job media m o old text items note found is fresh records stopped =
-    let s = stopped-begins job.frames m job.flow.media job.flow.tai items note o old is fresh stopped in
+    let s = stopped-begins job.frames m job.flow.media job.flow.options items note o old is fresh stopped in
     (s.0, s.1, begins-or job media m text items note s.0 found records s.2)
 
 -- it stopped while it read a capture
@@ -86,7 +86,7 @@ pub rest-of-flow : (job : SeriesJob) (media : List Media) (m : Media) (o : Outpu
     → HasRest o (HasAnswer (series_query job) media (text ∷ [])) rest
 rest-of-flow job media m o old new text note rest found fresh c ends =
     let written = c.copies.written in
-    let r = ends job.frames m job.flow.media job.flow.tai written c.items (c.copies.goes job.frames m job.flow.media job.flow.tai [] [] fresh) in (
+    let r = ends job.frames m job.flow.media job.flow.options written c.items (c.copies.goes job.frames m job.flow.media job.flow.options [] [] fresh) in (
       written,
       c.copies.appended,
       has-series job media m text c.items note (record { text = written ++ rest.text; status = rest.status }) found c.records
@@ -107,6 +107,6 @@ pub rest-status : (job : SeriesJob) (m : Media) (o : Output) (old new : SeriesFl
     → IsFresh job m old → CopiesSome o old new → EndsSeries note new rest → judged_ends false rest.status ≡ true
 rest-status job m o old new note rest fresh c ends =
     let r =
-    ends job.frames m job.flow.media job.flow.tai c.1.written c.0 (c.1.goes job.frames m job.flow.media job.flow.tai [] [] fresh) in
-    let v = verdict_of m (judged (flow c.0 m) m.pt job.flow.tai) in
+    ends job.frames m job.flow.media job.flow.options c.1.written c.0 (c.1.goes job.frames m job.flow.media job.flow.options [] [] fresh) in
+    let v = verdict_of m (judged (flow c.0 m) m.pt job.flow.options) in
     subst (λ (s : Status). judged_ends false s ≡ true) (sym (ap (λ (a : Answer). a.status) r.whole)) (of-rows job.frames m note v r.rows)

@@ -31,9 +31,9 @@ pub copies-none : (o : Output) (f : SeriesFlow) → o.new ≡ o.old → Copies o
 copies-none o f same = record {
   written = [];
   appended = subst (λ n. Appends o.old n []) (sym same) (appends-same o.old);
-  goes = λ frames m number tai gone before h.
-      subst (λ l. StandsFor frames m number tai l f (before ++ [])) (sym (append-nil gone))
-      (subst (StandsFor frames m number tai gone f) (sym (append-nil before)) h);
+  goes = λ frames m number options gone before h.
+      subst (λ l. StandsFor frames m number options l f (before ++ [])) (sym (append-nil gone))
+      (subst (StandsFor frames m number options gone f) (sym (append-nil before)) h);
 }
 
 -- some records more were taken
@@ -41,9 +41,9 @@ copies-more : (o : Output) (old mid new : SeriesFlow) (a b : List Record) → Co
 copies-more o old mid new a b c t = record {
   written = c.written;
   appended = c.appended;
-  goes = λ frames m number tai gone before h.
-      subst (StandsFor frames m number tai (gone ++ c.written) new) (append_assoc before a b)
-      (t frames m number tai (gone ++ c.written) (before ++ a) (c.goes frames m number tai gone before h));
+  goes = λ frames m number options gone before h.
+      subst (StandsFor frames m number options (gone ++ c.written) new) (append_assoc before a b)
+      (t frames m number options (gone ++ c.written) (before ++ a) (c.goes frames m number options gone before h));
 }
 
 -- what was made was written
@@ -52,9 +52,9 @@ copies-poured : (o : Output) (new : Option (List ℕ)) (now : ℕ) (old f g : Se
 copies-poured o new now old f g items poured c more pours = record {
   written = c.written ++ poured;
   appended = Appends-trans o.old o.new new c.written poured c.appended more;
-  goes = λ frames m number tai gone before h.
-      subst (λ l. StandsFor frames m number tai l g (before ++ items)) (append_assoc gone c.written poured)
-      (pours frames m number tai (gone ++ c.written) (before ++ items) (c.goes frames m number tai gone before h));
+  goes = λ frames m number options gone before h.
+      subst (λ l. StandsFor frames m number options l g (before ++ items)) (append_assoc gone c.written poured)
+      (pours frames m number options (gone ++ c.written) (before ++ items) (c.goes frames m number options gone before h));
 }
 
 -- memory ran out: what was written stands

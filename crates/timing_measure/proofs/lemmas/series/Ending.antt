@@ -1,6 +1,7 @@
 -- A flow whose rows were written is over: what is left of its answer.
 use Rattle.std.proofs.Common.{◌≡◌, ◌≤◌, ◌<◌, ◌+◌, ◌∙◌, ◌++◌, ◌∷◌, ℕ, Bool, true, false, List, [], length, Option, Some, None, inl, inr, refl, ap, sym, subst}
 use Rattle.std.proofs.Common.{arith, length-append}
+use Rattle.timing_base.specs.Shifts.{FlowOptions}
 use Rattle.timing_base.specs.Captures.{Record}
 use Rattle.timing_base.specs.Flows.{FirstFault, first_fault}
 use Rattle.timing_base.specs.Judged.{judged}
@@ -30,21 +31,21 @@ use Rattle.timing_measure.specs.series.Status.{series_status}
 use Rattle.timing_measure.specs.declared.series.flow.SeriesFlow.{SeriesFlow}
 
 -- these rows were put behind the header, and so much was written
-record HasPut (frames : Bool) (m : Media) (tai : ℕ) (packets : List FlowPacket) (gone text : List ℕ) : Type 0 where
+record HasPut (frames : Bool) (m : Media) (options : FlowOptions) (packets : List FlowPacket) (gone text : List ℕ) : Type 0 where
   pub put : List ℕ
-  pub are : AreRowsOfFlow frames m tai packets put
+  pub are : AreRowsOfFlow frames m options packets put
   pub text_is : gone ++ text ≡ header_text frames ++ put
 
-put-up-to : (frames : Bool) (m : Media) (tai : ℕ) (packets : List FlowPacket) (gone : List ℕ) (rows : Rows) (o : Option FirstFault)
-    → TellsEnd Tells (past_of frames gone) m tai packets o rows
-    → (put : List ℕ) × AreRowsUpTo frames m tai packets o put × (gone ++ rows.text.items ≡ header_text frames ++ put)
-put-up-to frames m tai packets gone rows None h = (h.put, subst (λ f. AreRowsUpTo f m tai packets None h.put) h.frames_is h.are, h.text_is)
-put-up-to frames m tai packets gone rows (Some first) h = (h.put, subst (λ f. AreRowsUpTo f m tai packets (Some first) h.put) h.frames_is h.are, h.text_is)
+put-up-to : (frames : Bool) (m : Media) (options : FlowOptions) (packets : List FlowPacket) (gone : List ℕ) (rows : Rows) (o : Option FirstFault)
+    → TellsEnd Tells (past_of frames gone) m options packets o rows
+    → (put : List ℕ) × AreRowsUpTo frames m options packets o put × (gone ++ rows.text.items ≡ header_text frames ++ put)
+put-up-to frames m options packets gone rows None h = (h.put, subst (λ f. AreRowsUpTo f m options packets None h.put) h.frames_is h.are, h.text_is)
+put-up-to frames m options packets gone rows (Some first) h = (h.put, subst (λ f. AreRowsUpTo f m options packets (Some first) h.put) h.frames_is h.are, h.text_is)
 
-has-put : (frames : Bool) (m : Media) (tai : ℕ) (packets : List FlowPacket) (gone : List ℕ) (rows : Rows)
-    → TellsEnd Tells (past_of frames gone) m tai packets (first_fault packets m.pt) rows → HasPut frames m tai packets gone rows.text.items
-has-put frames m tai packets gone rows h =
-    let p = put-up-to frames m tai packets gone rows (first_fault packets m.pt) h in
+has-put : (frames : Bool) (m : Media) (options : FlowOptions) (packets : List FlowPacket) (gone : List ℕ) (rows : Rows)
+    → TellsEnd Tells (past_of frames gone) m options packets (first_fault packets m.pt) rows → HasPut frames m options packets gone rows.text.items
+has-put frames m options packets gone rows h =
+    let p = put-up-to frames m options packets gone rows (first_fault packets m.pt) h in
     record { put = p.0; are = p.1; text_is = p.2 }
 
 no-bytes : (xs : List ℕ) → length xs ≡ 0 → xs ≡ []
@@ -52,19 +53,19 @@ no-bytes [] e = refl
 no-bytes (x ∷ xs) e = absurd (omega (arith, e))
 
 -- the header still waits, and there is no row
-rest-none : (frames : Bool) (m : Media) (tai : ℕ) (note : FileNote) (items : List Record) (gone text : List ℕ) (waiting : ℕ) (rest : Answer)
-    → Waits frames gone waiting → 0 < waiting → length text ≤ waiting → HasPut frames m tai (flow items m) gone text
-    → rest ≡ not_judged m (verdict_of m (judged (flow items m) m.pt tai))
-    → IsRestOf frames m tai note items gone rest
-rest-none frames m tai note items gone text waiting rest (inr w) some few h is = absurd (omega (arith, some, w.0))
-rest-none frames m tai note items gone text waiting rest (inl w) some few h is =
-    let v = verdict_of m (judged (flow items m) m.pt tai) in
+rest-none : (frames : Bool) (m : Media) (options : FlowOptions) (note : FileNote) (items : List Record) (gone text : List ℕ) (waiting : ℕ) (rest : Answer)
+    → Waits frames gone waiting → 0 < waiting → length text ≤ waiting → HasPut frames m options (flow items m) gone text
+    → rest ≡ not_judged m (verdict_of m (judged (flow items m) m.pt options))
+    → IsRestOf frames m options note items gone rest
+rest-none frames m options note items gone text waiting rest (inr w) some few h is = absurd (omega (arith, some, w.0))
+rest-none frames m options note items gone text waiting rest (inl w) some few h is =
+    let v = verdict_of m (judged (flow items m) m.pt options) in
     let long : length text ≡ length (header_text frames) + length h.put =
     ap length (ap (λ l. l ++ text) (sym w.0) ∙ h.text_is) ∙ length-append (header_text frames) h.put in
     let none : h.put ≡ [] = no-bytes h.put (omega (arith, long, few, w.1)) in
     record {
       rows = [];
-      are = subst (AreRowsOfFlow frames m tai (flow items m)) none h.are;
+      are = subst (AreRowsOfFlow frames m options (flow items m)) none h.are;
       whole = ap (λ l. record { text = l ++ rest.text; status = rest.status }) w.0 ∙ is;
     }
 
@@ -79,12 +80,12 @@ pub some-put : (header put gone text : List ℕ) → gone ++ text ≡ header ++ 
 some-put header put gone text e more =
     omega (arith, more, sym (length-append gone text) ∙ ap length e ∙ length-append header put)
 
-rest-rows : (frames : Bool) (m : Media) (tai : ℕ) (note : FileNote) (items : List Record) (gone : List ℕ) (waiting : ℕ) (rest : Answer)
-    → Waits frames gone waiting → (0 < waiting → waiting < length rest.text) → HasPut frames m tai (flow items m) gone rest.text
+rest-rows : (frames : Bool) (m : Media) (options : FlowOptions) (note : FileNote) (items : List Record) (gone : List ℕ) (waiting : ℕ) (rest : Answer)
+    → Waits frames gone waiting → (0 < waiting → waiting < length rest.text) → HasPut frames m options (flow items m) gone rest.text
     → 0 < length (header_text frames)
-    → rest.status ≡ series_status note (verdict_of m (judged (flow items m) m.pt tai))
-    → IsRestOf frames m tai note items gone rest
-rest-rows frames m tai note items gone waiting rest (inl w) more h head status =
+    → rest.status ≡ series_status note (verdict_of m (judged (flow items m) m.pt options))
+    → IsRestOf frames m options note items gone rest
+rest-rows frames m options note items gone waiting rest (inl w) more h head status =
     let long : waiting < length rest.text = more (omega (arith, head, w.1)) in
     record {
       rows = h.put;
@@ -92,7 +93,7 @@ rest-rows frames m tai note items gone waiting rest (inl w) more h head status =
       whole = by-rows frames m note _ h.put gone rest
           (some-put (header_text frames) h.put gone rest.text h.text_is (omega (arith, long, w.1))) h.text_is status;
     }
-rest-rows frames m tai note items gone waiting rest (inr w) more h head status = record {
+rest-rows frames m options note items gone waiting rest (inr w) more h head status = record {
   rows = h.put;
   are = h.are;
   whole = by-rows frames m note _ h.put gone rest
@@ -106,35 +107,35 @@ header-some false = omega arith
 
 -- what the judge and the rows of a flow that has ended say of its packets
 pub record Finishes (x : SeriesFlow) (told : Row × Rows) : Type 0 where
-  pub result : (m : Media) (key : FlowKey) (tai : ℕ) (packets : List FlowPacket) → JudgeStandsFor m key tai x.flow.taker.judge packets
-      → told.0 ≡ row packets key m tai
-  pub tells : (past : PastRows) (m : Media) (key : FlowKey) (tai : ℕ) (packets : List FlowPacket)
-      → IsFed true RowsStandsFor Tells past m key tai x.flow.taker packets → TellsOfAll Tells past m tai packets told.1
+  pub result : (m : Media) (key : FlowKey) (options : FlowOptions) (packets : List FlowPacket) → JudgeStandsFor m key options x.flow.taker.judge packets
+      → told.0 ≡ row packets key m options
+  pub tells : (past : PastRows) (m : Media) (key : FlowKey) (options : FlowOptions) (packets : List FlowPacket)
+      → IsFed true RowsStandsFor Tells past m key options x.flow.taker packets → TellsOfAll Tells past m options packets told.1
 
-verdict-is : (x : SeriesFlow) (told : Row × Rows) (frames : Bool) (m : Media) (number tai : ℕ) (gone : List ℕ) (items : List Record) → Finishes x told
-    → StandsFor frames m number tai gone x items → told.0.verdict ≡ verdict_of m (judged (flow items m) m.pt tai)
-verdict-is x told frames m number tai gone items f h =
-    ap (λ (r : Row). r.verdict) (f.result m (key_of 0 number) tai (flow items m) h.fed.judge_is)
+verdict-is : (x : SeriesFlow) (told : Row × Rows) (frames : Bool) (m : Media) (number : ℕ) (options : FlowOptions) (gone : List ℕ) (items : List Record) → Finishes x told
+    → StandsFor frames m number options gone x items → told.0.verdict ≡ verdict_of m (judged (flow items m) m.pt options)
+verdict-is x told frames m number options gone items f h =
+    ap (λ (r : Row). r.verdict) (f.result m (key_of 0 number) options (flow items m) h.fed.judge_is)
 
-rows-put : (x : SeriesFlow) (told : Row × Rows) (frames : Bool) (m : Media) (number tai : ℕ) (gone : List ℕ) (items : List Record) → Finishes x told
-    → StandsFor frames m number tai gone x items → HasPut frames m tai (flow items m) gone told.1.text.items
-rows-put x told frames m number tai gone items f h =
-    has-put frames m tai (flow items m) gone told.1 (f.tells (past_of frames gone) m (key_of 0 number) tai (flow items m) h.fed)
+rows-put : (x : SeriesFlow) (told : Row × Rows) (frames : Bool) (m : Media) (number : ℕ) (options : FlowOptions) (gone : List ℕ) (items : List Record) → Finishes x told
+    → StandsFor frames m number options gone x items → HasPut frames m options (flow items m) gone told.1.text.items
+rows-put x told frames m number options gone items f h =
+    has-put frames m options (flow items m) gone told.1 (f.tells (past_of frames gone) m (key_of 0 number) options (flow items m) h.fed)
 
 -- there is no row: the verdict is the answer
 pub ends-none : (note : FileNote) (x : SeriesFlow) (told : Row × Rows) (rest : Answer) → Finishes x told → 0 < x.waiting
     → length told.1.text.items ≤ x.waiting → rest ≡ not_judged x.flow.media told.0.verdict
     → EndsSeries note x rest
-ends-none note x told rest f some few is frames m number tai gone items h =
-    rest-none frames m tai note items gone told.1.text.items x.waiting rest h.waits some few (rows-put x told frames m number tai gone items f h)
-    (is ∙ ap (λ (n : Media). not_judged n told.0.verdict) h.media_is ∙ ap (not_judged m) (verdict-is x told frames m number tai gone items f h))
+ends-none note x told rest f some few is frames m number options gone items h =
+    rest-none frames m options note items gone told.1.text.items x.waiting rest h.waits some few (rows-put x told frames m number options gone items f h)
+    (is ∙ ap (λ (n : Media). not_judged n told.0.verdict) h.media_is ∙ ap (not_judged m) (verdict-is x told frames m number options gone items f h))
 
 -- the rows that weren't written yet are the rest
 pub ends-rows : (note : FileNote) (x : SeriesFlow) (told : Row × Rows) (rest : Answer) → Finishes x told
     → (0 < x.waiting → x.waiting < length told.1.text.items) → rest.text ≡ told.1.text.items → rest.status ≡ series_status note told.0.verdict
     → EndsSeries note x rest
-ends-rows note x told rest f some text ends frames m number tai gone items h =
-    rest-rows frames m tai note items gone x.waiting rest h.waits
+ends-rows note x told rest f some text ends frames m number options gone items h =
+    rest-rows frames m options note items gone x.waiting rest h.waits
     (λ waits. subst (λ l. x.waiting < length l) (sym text) (some waits))
-    (subst (HasPut frames m tai (flow items m) gone) (sym text) (rows-put x told frames m number tai gone items f h)) (header-some frames)
-    (ends ∙ ap (series_status note) (verdict-is x told frames m number tai gone items f h))
+    (subst (HasPut frames m options (flow items m) gone) (sym text) (rows-put x told frames m number options gone items f h)) (header-some frames)
+    (ends ∙ ap (series_status note) (verdict-is x told frames m number options gone items f h))

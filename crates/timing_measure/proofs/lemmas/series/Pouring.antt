@@ -3,6 +3,7 @@ use Rattle.std.proofs.Common.{◌≡◌, ◌≤◌, ◌<◌, ◌∙◌, ◌++◌
 use Rattle.std.proofs.Common.{length-append}
 use Rattle.std.specs.Prelude.{IfOk, Result, Ok, Err}
 use Rattle.std.proofs.lemmas.List.Elements.{filter_map-append}
+use Rattle.timing_base.specs.Shifts.{FlowOptions}
 use Rattle.timing_base.specs.Captures.{Record}
 use Rattle.timing_base.specs.Keys.{key_of}
 use Rattle.timing_base.specs.Media.{Media}
@@ -28,24 +29,24 @@ room-less few many x less room = record { few = room_less few many x.flow.taker 
 -- some records more were taken
 pub series-took : (old new : SeriesFlow) (more : List Record) → new.waiting ≡ old.waiting
     → TakesFlow (λ m x y l. Feeds true RowsStandsFor Tells m x y l) old.flow new.flow more → TakesOn old new more
-series-took old new more same t frames m number tai gone items h =
+series-took old new more same t frames m number options gone items h =
     let feeds : Feeds true RowsStandsFor Tells m old.flow.taker new.flow.taker more =
     subst (λ (x : Media). Feeds true RowsStandsFor Tells x old.flow.taker new.flow.taker more) h.media_is t.fed in
     record {
       media_is = t.media ∙ h.media_is;
-      fed = subst (IsFed true RowsStandsFor Tells (past_of frames gone) m (key_of 0 number) tai new.flow.taker)
-          (sym (filter_map-append (flow_packet m) items more)) (feeds (past_of frames gone) (key_of 0 number) tai (flow items m) h.fed);
+      fed = subst (IsFed true RowsStandsFor Tells (past_of frames gone) m (key_of 0 number) options new.flow.taker)
+          (sym (filter_map-append (flow_packet m) items more)) (feeds (past_of frames gone) (key_of 0 number) options (flow items m) h.fed);
       waits = subst (Waits frames gone) (sym same) h.waits;
     }
 
 -- what stood in a text was taken out
-tells-out : (frames : Bool) (gone : List ℕ) (old new : Rows) (m : Media) (tai : ℕ) (over : List JudgedPart) (part : Option OpenPart)
-    → new.frames ≡ old.frames → new.text.items ≡ [] → Tells (past_of frames gone) old m tai over part
-    → Tells (past_of frames (gone ++ old.text.items)) new m tai over part
-tells-out frames gone old new m tai over part same none t = record {
+tells-out : (frames : Bool) (gone : List ℕ) (old new : Rows) (m : Media) (options : FlowOptions) (over : List JudgedPart) (part : Option OpenPart)
+    → new.frames ≡ old.frames → new.text.items ≡ [] → Tells (past_of frames gone) old m options over part
+    → Tells (past_of frames (gone ++ old.text.items)) new m options over part
+tells-out frames gone old new m options over part same none t = record {
   frames_is = same ∙ t.frames_is;
   put = t.put;
-  are = subst (λ f. AreRowsSoFar f m tai over part t.put) (sym same) t.are;
+  are = subst (λ f. AreRowsSoFar f m options over part t.put) (sym same) t.are;
   text_is = ap (λ l. (gone ++ old.text.items) ++ l) none ∙ append-nil (gone ++ old.text.items) ∙ t.text_is;
 }
 
@@ -58,16 +59,16 @@ waits-out frames gone text waiting some (inr h) = inr (refl, omega (arith, h.1, 
 -- all that was made was written
 pub poured-out : (old new : SeriesFlow) → HoldsText old → new.flow.media ≡ old.flow.media → new.flow.taker.judge ≡ old.flow.taker.judge
     → new.flow.taker.out.frames ≡ old.flow.taker.out.frames → text_of new ≡ [] → new.waiting ≡ 0 → PoursOn old new (text_of old)
-poured-out old new some media judge same none waits frames m number tai gone items h = record {
+poured-out old new some media judge same none waits frames m number options gone items h = record {
   media_is = media ∙ h.media_is;
   fed = record {
-    judge_is = subst (λ (j : FlowJudge RowsMeter). JudgeStandsFor m (key_of 0 number) tai j (flow items m)) (sym judge) h.fed.judge_is;
+    judge_is = subst (λ (j : FlowJudge RowsMeter). JudgeStandsFor m (key_of 0 number) options j (flow items m)) (sym judge) h.fed.judge_is;
     told = λ wants.
         subst (λ (j : FlowJudge RowsMeter).
-        JudgeTells RowsStandsFor Tells (past_of frames (gone ++ text_of old)) m tai (flow items m) j new.flow.taker.out) (sym judge)
-        (carried-tells RowsStandsFor Tells (past_of frames gone) (past_of frames (gone ++ text_of old)) m tai old.flow.taker.judge (flow items m)
+        JudgeTells RowsStandsFor Tells (past_of frames (gone ++ text_of old)) m options (flow items m) j new.flow.taker.out) (sym judge)
+        (carried-tells RowsStandsFor Tells (past_of frames gone) (past_of frames (gone ++ text_of old)) m options old.flow.taker.judge (flow items m)
         old.flow.taker.out new.flow.taker.out
-        (λ over part t. tells-out frames gone old.flow.taker.out new.flow.taker.out m tai over part same none t) (h.fed.told wants));
+        (λ over part t. tells-out frames gone old.flow.taker.out new.flow.taker.out m options over part same none t) (h.fed.told wants));
   };
   waits = subst (Waits frames (gone ++ text_of old)) (sym waits) (waits-out frames gone (text_of old) old.waiting some h.waits);
 }

@@ -12,11 +12,11 @@ pub returns-clause-answers : goal.returns-clause-answers
 returns-clause-answers c =
     let job = c.args.job.now in
     let m = c.args.media.now in
-    let seconds : c.flow.inside.tai ≡ job.flow.tai = search rules in
+    let seconds : c.flow.inside.options ≡ job.flow.options = search rules in
     let same : c.job.inside.kind ≡ job.kind = search rules in
     if-ok c.told_of.result
     (λ answer answers items h.
-    subst (λ (k : Kind). OnRun m (HasShape job.list job.flow.tai k m items) (judged (flow items m) m.pt job.flow.tai) answer) same
+    subst (λ (k : Kind). OnRun m (HasShape job.list job.flow.options k m items) (judged (flow items m) m.pt job.flow.options) answer) same
     (subst (λ (x : ℕ). OnRun m (HasShape job.list x c.job.inside.kind m items) (judged (flow items m) m.pt x) answer) seconds
     (answers job.list items (subst (λ (x : ℕ). IsKeptFlow m x job.list items c.args.kept) (sym seconds) h))))
     c.told_of.ensures.answers
@@ -26,12 +26,12 @@ returns-clause-some c =
     let job = c.args.job.now in
     let m = c.args.media.now in
     let items = c.requires.items in
-    let seconds : c.flow.inside.tai ≡ job.flow.tai = search rules in
+    let seconds : c.flow.inside.options ≡ job.flow.options = search rules in
     let same : c.job.inside.kind ≡ job.kind = search rules in
     if-ok c.told_of.result
     (λ answer answers. record {
       items = items;
-      on_run = subst (λ (k : Kind). OnRun m (HasShape job.list job.flow.tai k m items) (judged (flow items m) m.pt job.flow.tai) answer) same
+      on_run = subst (λ (k : Kind). OnRun m (HasShape job.list job.flow.options k m items) (judged (flow items m) m.pt job.flow.options) answer) same
           (subst (λ (x : ℕ). OnRun m (HasShape job.list x c.job.inside.kind m items) (judged (flow items m) m.pt x) answer) seconds
           (answers job.list items (subst (λ (x : ℕ). IsKeptFlow m x job.list items c.args.kept) (sym seconds) c.requires.flow_is)));
     })

@@ -5,12 +5,12 @@ use Rattle.timing_reach.proofs.window.measure.Goals as goal
 
 pub returns-clause-told : goal.returns-clause-told
 returns-clause-told g c = λ text whole.
-    let same : c.job.inside.tai ≡ c.args.job.now.tai = search rules in
+    let same : c.job.inside.options ≡ c.args.job.now.options = search rules in
     subst (λ (x : ℕ). IsMeasuredIn c.args.media.now x text c.in_ok-finish.field-0) same
-    (measured-in text c.args.media.now _ c.job.inside.tai c.new-reading.result _ c.in_ok-finish.field-0 c.new-reading.ensures.stands
-    (c.in_ok-reading.ensures.told text (search rules)) (λ packets h. c.in_ok-finish.ensures c.args.media.now _ c.job.inside.tai packets h))
+    (measured-in text c.args.media.now _ c.job.inside.options c.new-reading.result _ c.in_ok-finish.field-0 c.new-reading.ensures.stands
+    (c.in_ok-reading.ensures.told text (search rules)) (λ packets h. c.in_ok-finish.ensures c.args.media.now _ c.job.inside.options packets h))
 
 pub returns-clause-windows : goal.returns-clause-windows
 returns-clause-windows g c =
-    has-windows c.args.media.now _ c.job.inside.tai _ c.new-reading.result _ c.in_ok-finish.field-0 c.new-reading.ensures.stands
-    c.in_ok-reading.ensures.fed (λ packets h. c.in_ok-finish.ensures c.args.media.now _ c.job.inside.tai packets h)
+    has-windows c.args.media.now _ c.job.inside.options _ c.new-reading.result _ c.in_ok-finish.field-0 c.new-reading.ensures.stands
+    c.in_ok-reading.ensures.fed (λ packets h. c.in_ok-finish.ensures c.args.media.now _ c.job.inside.options packets h)

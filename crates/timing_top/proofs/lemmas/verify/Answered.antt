@@ -67,7 +67,7 @@ same-finds : (there : Option Media) (job : ReportJob) (claim : ReportProof) (tex
     → All (λ name. text name ≡ also name) (captures_for there job claim.key)
     → FindsOf there job claim text finding → FindsOf there job claim also finding
 same-finds None job claim text also finding same h = h
-same-finds (Some media) job claim text also finding same h = subst (λ l. Finds media claim job.tai l finding)
+same-finds (Some media) job claim text also finding same h = subst (λ l. Finds media claim job.options l finding)
     (same-map text also (captures_of job claim.key) same) h
 
 -- the answer depends on the texts of the needed captures alone

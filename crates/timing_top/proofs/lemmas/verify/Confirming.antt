@@ -2,6 +2,7 @@
 use Rattle.std.proofs.Common.{◌≡◌, ◌≤◌, ◌<◌, ℕ, zero, suc, Bool, List, [], ◌∷◌, Option, refl, arith, ◌∙◌, sym, subst}
 use Rattle.std.proofs.lemmas.List.Elements.{All-head, All-tail, All-weaker}
 use Rattle.std.specs.Prelude.{All, Result, Err, Some, None, slice_get}
+use Rattle.timing_base.specs.Shifts.{FlowOptions}
 use Rattle.timing_base.specs.Captures.{Record, joined}
 use Rattle.timing_base.specs.Judged.{judged}
 use Rattle.timing_base.specs.Media.{Media}
@@ -36,12 +37,12 @@ tell-texts name left faults texts (n ∷ ns) (s ∷ ss) [] f t = absurd t
 tell-texts name left faults texts (n ∷ ns) (s ∷ ss) (r ∷ rs) f t = (f.1 ∙ t.0, tell-texts name left faults texts ns ss rs f.3 t.1)
 
 -- what a reading of texts answers is what is found in them
-pub finds-answer : (m : Media) (claim : ReportProof) (tai : ℕ) (texts : List (List ℕ)) (r : Reading) (finding : Result Bool Unjudged)
-    → IsReadFor m tai texts claim r
+pub finds-answer : (m : Media) (claim : ReportProof) (options : FlowOptions) (texts : List (List ℕ)) (r : Reading) (finding : Result Bool Unjudged)
+    → IsReadFor m options texts claim r
     → ((items : List Record) → HasRead r items → IsAsked (asked_by r) claim.run claim.proof
     → Says (media_of r) claim.kind claim.proof claim.run (judged (flow items (media_of r)) (media_of r).pt (tai_of r)) finding)
-    → Finds m claim tai texts finding
-finds-answer m claim tai texts r finding is answers =
+    → Finds m claim options texts finding
+finds-answer m claim options texts r finding is answers =
     let all = some-records texts in
     let says = answers (joined all.0) (is.read all.0 all.1 all.2) is.asked in
     record {
@@ -60,16 +61,16 @@ pub no-reading : (o : Option Reading) (r : Reading) → o ≡ None → o ≡ Som
 no-reading o r e f = cc
 
 -- a reading that was made with a claim's needs, and was read
-pub one-read : (m : Media) (claim : ReportProof) (tai : ℕ) (texts : List (List ℕ)) (first : Reading) (rs : List Reading) (finding : Result Bool Unjudged)
-    → media_of first ≡ m → tai_of first ≡ tai → IsAsked (asked_by first) claim.run claim.proof
+pub one-read : (m : Media) (claim : ReportProof) (options : FlowOptions) (texts : List (List ℕ)) (first : Reading) (rs : List Reading) (finding : Result Bool Unjudged)
+    → media_of first ≡ m → tai_of first ≡ options → IsAsked (asked_by first) claim.run claim.proof
     → AreSame (first ∷ []) rs → ReadAs rs texts
     → ((x : Media) (t : ℕ) (l : List (List ℕ)) (r : Reading) → slice_get rs 0 ≡ Some r → IsReadFor x t l claim r → Finds x claim t l finding)
-    → Finds m claim tai texts finding
-one-read m claim tai texts first [] finding media late asked same read finds = absurd same
-one-read m claim tai texts first (r ∷ rs) finding media late asked same read finds =
-    finds m tai texts r refl record {
+    → Finds m claim options texts finding
+one-read m claim options texts first [] finding media late asked same read finds = absurd same
+one-read m claim options texts first (r ∷ rs) finding media late asked same read finds =
+    finds m options texts r refl record {
       media = same.0.media ∙ media;
-      late = same.0.tai ∙ late;
+      late = same.0.options ∙ late;
       asked = asked-no_less (asked_by first) (asked_by r) claim.run claim.proof same.0.asked asked;
       read = λ files notes records. (read files notes records).0;
     }

@@ -1,6 +1,7 @@
 -- What follows for the two commands from what their steps found.
 use Rattle.std.proofs.Common.{◌≡◌, ℕ, false, List, Option, Some, None, refl, ap, ◌∙◌, sym, subst, inl, inr}
 use Rattle.std.specs.Prelude.{Bool, MatchOption, Result, Ok, slice_get}
+use Rattle.timing_base.specs.Shifts.{FlowOptions}
 use Rattle.timing_base.specs.Jobs.{ReportJob, VerifyJob}
 use Rattle.timing_base.specs.Media.{Media}
 use Rattle.timing_base.specs.declared.row.Unjudged.{Unjudged}
@@ -71,16 +72,16 @@ report-read i j job media outcome asked all claims s named same there told h =
     (needed-seen i j outcome job media all (λ text. Gives outcome (HasReported job media all text)) s n)) h)
 
 -- what was found in captures with these contents is the answer of `verify`
-pub has-verified : (job : VerifyJob) (media : List Media) (m : Media) (texts : List (List ℕ)) (claim : ReportProof) (tai : ℕ) (finding : Result Bool Unjudged)
-    (answer : Answer) → slice_get media job.media ≡ Some m → claim ≡ claim_of job → tai ≡ job.tai → Finds m claim tai texts finding → answer ≡ verified finding
+pub has-verified : (job : VerifyJob) (media : List Media) (m : Media) (texts : List (List ℕ)) (claim : ReportProof) (options : FlowOptions) (finding : Result Bool Unjudged)
+    (answer : Answer) → slice_get media job.media ≡ Some m → claim ≡ claim_of job → options ≡ job.options → Finds m claim options texts finding → answer ≡ verified finding
     → HasAnswer (verify_query job) media texts answer
-has-verified job media m texts claim tai finding answer found asked late h is = record {
+has-verified job media m texts claim options finding answer found asked late h is = record {
   files = h.files;
   notes = h.notes;
   records = h.records;
   defined = subst (λ o. OnMedia o (λ x. DefinesVerified job x h.files answer)) (sym found) (record {
     finding = finding;
-    finds = subst (λ (c : ReportProof). FindsIn m c job.tai h.files finding) asked
+    finds = subst (λ (c : ReportProof). FindsIn m c job.options h.files finding) asked
         (subst (λ (t : ℕ). FindsIn m claim t h.files finding) late h.says);
     answer_is = is;
   });

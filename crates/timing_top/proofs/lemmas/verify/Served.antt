@@ -5,6 +5,7 @@ use Rattle.std.proofs.lemmas.List.{length-take-le, take_more}
 use Rattle.std.proofs.lemmas.List.Elements.{All-contains, All-contains_itself, All-get_or, All-nil, All-push, All-weaker}
 use Rattle.std.specs.Option.{option_map}
 use Rattle.std.specs.Prelude.{All, Bool, true, false, if◌then◌else◌, nat_lt, Contains, IfErr, Result, Ok, Err, map, slice_get, slice_index_or}
+use Rattle.timing_base.specs.Shifts.{FlowOptions}
 use Rattle.timing_base.specs.Captures.{Record}
 use Rattle.timing_base.specs.Jobs.{ReportJob}
 use Rattle.timing_base.specs.Media.{Media}
@@ -39,27 +40,27 @@ asks-more a b file media n claims d within less h here =
     (All-push (Asks b file media) (take n claims) (get_or claims n d)
     (All-weaker (Asks a file media) (Asks b file media) (asks-no_less a b file media less) (take n claims) h) here)
 
-asked-append : (tai : ℕ) (claims : List ReportProof) (file number : ℕ) (ms : List Media) (rs : List Reading) (m : Media) (r : Reading)
-    → AreAsked tai claims file number ms rs
-    → IsAskedAll tai claims file (number + length ms) m r → AreAsked tai claims file number (ms ++ m ∷ []) (rs ++ r ∷ [])
-asked-append tai claims file number [] [] m r h is = (subst (λ (n : ℕ). IsAskedAll tai claims file n m r) (omega arith) is, tt)
-asked-append tai claims file number [] (x ∷ rs) m r h is = absurd h
-asked-append tai claims file number (l ∷ ms) [] m r h is = absurd h
-asked-append tai claims file number (l ∷ ms) (x ∷ rs) m r h is =
+asked-append : (options : FlowOptions) (claims : List ReportProof) (file number : ℕ) (ms : List Media) (rs : List Reading) (m : Media) (r : Reading)
+    → AreAsked options claims file number ms rs
+    → IsAskedAll options claims file (number + length ms) m r → AreAsked options claims file number (ms ++ m ∷ []) (rs ++ r ∷ [])
+asked-append options claims file number [] [] m r h is = (subst (λ (n : ℕ). IsAskedAll options claims file n m r) (omega arith) is, tt)
+asked-append options claims file number [] (x ∷ rs) m r h is = absurd h
+asked-append options claims file number (l ∷ ms) [] m r h is = absurd h
+asked-append options claims file number (l ∷ ms) (x ∷ rs) m r h is =
     let far : number + length (l ∷ ms) ≡ number + 1 + length ms = omega arith in
-    (h.0, asked-append tai claims file (number + 1) ms rs m r h.1 (subst (λ (n : ℕ). IsAskedAll tai claims file n m r) far is))
+    (h.0, asked-append options claims file (number + 1) ms rs m r h.1 (subst (λ (n : ℕ). IsAskedAll options claims file n m r) far is))
 
 -- the readings of the first media, and that of the next one
-pub asked-more : (tai : ℕ) (claims : List ReportProof) (file n : ℕ) (media : List Media) (rs more : List Reading) (m : Media) (r : Reading)
+pub asked-more : (options : FlowOptions) (claims : List ReportProof) (file n : ℕ) (media : List Media) (rs more : List Reading) (m : Media) (r : Reading)
     → n < length media → get_or media n m ≡ m
-    → AreAsked tai claims file 0 (take n media) rs → IsAskedAll tai claims file n m r → more ≡ rs ++ r ∷ []
-    → AreAsked tai claims file 0 (take (n + 1) media) more
-asked-more tai claims file n media rs more m r within at h is e =
+    → AreAsked options claims file 0 (take n media) rs → IsAskedAll options claims file n m r → more ≡ rs ++ r ∷ []
+    → AreAsked options claims file 0 (take (n + 1) media) more
+asked-more options claims file n media rs more m r within at h is e =
     let long : 0 + length (take n media) ≡ n = omega (arith, length-take-le n media (omega (arith, within))) in
     let next : take (n + 1) media ≡ take n media ++ m ∷ [] = take_more media n m within ∙ ap (λ (x : Media). take n media ++ x ∷ []) at in
-    subst (λ (l : List Media). AreAsked tai claims file 0 l more) (sym next)
-    (subst (λ (l : List Reading). AreAsked tai claims file 0 (take n media ++ m ∷ []) l) (sym e)
-    (asked-append tai claims file 0 (take n media) rs m r h (subst (λ (x : ℕ). IsAskedAll tai claims file x m r) (sym long) is)))
+    subst (λ (l : List Media). AreAsked options claims file 0 l more) (sym next)
+    (subst (λ (l : List Reading). AreAsked options claims file 0 (take n media ++ m ∷ []) l) (sym e)
+    (asked-append options claims file 0 (take n media) rs m r h (subst (λ (x : ℕ). IsAskedAll options claims file x m r) (sym long) is)))
 
 -- a reading more that isn't begun
 none-append : (rs : List Reading) (r : Reading) → HaveRead rs [] → HasRead r [] → HaveRead (rs ++ r ∷ []) []
@@ -77,35 +78,35 @@ pub room-more : (rs more : List Reading) (r : Reading) → more ≡ rs ++ r ∷ 
 room-more rs more r e h none = subst (HaveRoom (2 ^ 40)) (sym e) (room-append rs r h none)
 
 -- the readings of all media, where they have read on
-pub asked-same : (tai : ℕ) (claims : List ReportProof) (file number : ℕ) (ms : List Media) (olds news : List Reading)
-    → AreAsked tai claims file number ms olds → AreSame olds news → AreAsked tai claims file number ms news
-asked-same tai claims file number [] [] [] h same = tt
-asked-same tai claims file number [] [] (n ∷ ns) h same = absurd same
-asked-same tai claims file number [] (o ∷ os) news h same = absurd h
-asked-same tai claims file number (m ∷ ms) [] news h same = absurd h
-asked-same tai claims file number (m ∷ ms) (o ∷ os) [] h same = absurd same
-asked-same tai claims file number (m ∷ ms) (o ∷ os) (n ∷ ns) h same = (
+pub asked-same : (options : FlowOptions) (claims : List ReportProof) (file number : ℕ) (ms : List Media) (olds news : List Reading)
+    → AreAsked options claims file number ms olds → AreSame olds news → AreAsked options claims file number ms news
+asked-same options claims file number [] [] [] h same = tt
+asked-same options claims file number [] [] (n ∷ ns) h same = absurd same
+asked-same options claims file number [] (o ∷ os) news h same = absurd h
+asked-same options claims file number (m ∷ ms) [] news h same = absurd h
+asked-same options claims file number (m ∷ ms) (o ∷ os) [] h same = absurd same
+asked-same options claims file number (m ∷ ms) (o ∷ os) (n ∷ ns) h same = (
   record {
     media = same.0.media ∙ h.0.media;
-    late = same.0.tai ∙ h.0.late;
+    late = same.0.options ∙ h.0.late;
     asks = All-weaker (Asks (asked_by o) file number) (Asks (asked_by n) file number) (asks-no_less (asked_by o) (asked_by n) file number same.0.asked) claims
         h.0.asks;
   },
-  asked-same tai claims file (number + 1) ms os ns h.1 same.1,
+  asked-same options claims file (number + 1) ms os ns h.1 same.1,
 )
 
 -- the reading of a media
-asked-at : (tai : ℕ) (claims : List ReportProof) (file number k : ℕ) (ms : List Media) (rs : List Reading) (m : Media)
-    → AreAsked tai claims file number ms rs → slice_get ms k ≡ Some m
-    → (r : Reading) × (slice_get rs k ≡ Some r) × IsAskedAll tai claims file (number + k) m r
-asked-at tai claims file number k [] rs m h e = cc
-asked-at tai claims file number k (l ∷ ms) [] m h e = absurd h
-asked-at tai claims file number zero (l ∷ ms) (r ∷ rs) m h e =
+asked-at : (options : FlowOptions) (claims : List ReportProof) (file number k : ℕ) (ms : List Media) (rs : List Reading) (m : Media)
+    → AreAsked options claims file number ms rs → slice_get ms k ≡ Some m
+    → (r : Reading) × (slice_get rs k ≡ Some r) × IsAskedAll options claims file (number + k) m r
+asked-at options claims file number k [] rs m h e = cc
+asked-at options claims file number k (l ∷ ms) [] m h e = absurd h
+asked-at options claims file number zero (l ∷ ms) (r ∷ rs) m h e =
     let same : l ≡ m = cc in
-    (r, refl, subst (λ (x : Media). IsAskedAll tai claims file (number + 0) x r) same (subst (λ (n : ℕ). IsAskedAll tai claims file n l r) (omega arith) h.0))
-asked-at tai claims file number (suc k) (l ∷ ms) (r ∷ rs) m h e =
-    let there = asked-at tai claims file (number + 1) k ms rs m h.1 e in
-    (there.0, there.1, subst (λ (n : ℕ). IsAskedAll tai claims file n m there.0) (omega arith) there.2)
+    (r, refl, subst (λ (x : Media). IsAskedAll options claims file (number + 0) x r) same (subst (λ (n : ℕ). IsAskedAll options claims file n l r) (omega arith) h.0))
+asked-at options claims file number (suc k) (l ∷ ms) (r ∷ rs) m h e =
+    let there = asked-at options claims file (number + 1) k ms rs m h.1 e in
+    (there.0, there.1, subst (λ (n : ℕ). IsAskedAll options claims file n m there.0) (omega arith) there.2)
 
 read-at : (rs : List Reading) (k : ℕ) (r : Reading) (items : List Record) → HaveRead rs items → slice_get rs k ≡ Some r → HasRead r items
 read-at [] k r items h e = cc
@@ -118,11 +119,11 @@ pub serves-finds : (job : ReportJob) (media : List Media) (claims : List ReportP
     → slice_get media claim.key.media ≡ Some m
     → ((x : Media) (t : ℕ) (l : List (List ℕ)) (r : Reading) → slice_get read.readings.items claim.key.media ≡ Some r → IsReadFor x t l claim r
     → Finds x claim t l finding)
-    → Finds m claim job.tai (map text (captures_of job claim.key)) finding
+    → Finds m claim job.options (map text (captures_of job claim.key)) finding
 serves-finds job media claims text read claim m finding s same reported there finds =
-    let at = asked-at job.tai claims read.file 0 claim.key.media media read.readings.items m s.asked there in
+    let at = asked-at job.options claims read.file 0 claim.key.media media read.readings.items m s.asked there in
     let names : captures_of job (key_at read.file) ≡ captures_of job claim.key = ap (λ f. captures_of job (key_at f)) (sym same) in
-    finds m job.tai (map text (captures_of job claim.key)) at.0 at.1 record {
+    finds m job.options (map text (captures_of job claim.key)) at.0 at.1 record {
       media = at.2.media;
       late = at.2.late;
       asked = All-contains (Asks (asked_by at.0) read.file (0 + claim.key.media)) claims claim at.2.asks reported same (omega arith);
@@ -174,7 +175,7 @@ served-push texts lacks job media claims reads more read e all here =
 pub found-of : (texts : List ℕ → Option (List ℕ)) (lacks : List ℕ → Type 0) (job : ReportJob) (media : List Media) (claims : List ReportProof)
     (read : FileRead) (claim : ReportProof) (m : Media) (finding : Result Bool Unjudged) → IsServed texts lacks job media claims read
     → read.file ≡ claim.key.file
-    → ((text : List ℕ → List ℕ) → Serves job media claims text read → Finds m claim job.tai (map text (captures_of job claim.key)) finding)
+    → ((text : List ℕ → List ℕ) → Serves job media claims text read → Finds m claim job.options (map text (captures_of job claim.key)) finding)
     → IsFound texts lacks job m claim finding
 found-of texts lacks job media claims read claim m finding served same finds =
     let names : captures_of job (key_at read.file) ≡ captures_of job claim.key = ap (λ f. captures_of job (key_at f)) same in

@@ -5,6 +5,7 @@ use Rattle.std.proofs.lemmas.Bool.{cases_lt}
 use Rattle.std.proofs.lemmas.List.Elements.{All-cons, All-head, All-map, All-nil, All-tail}
 use Rattle.std.specs.List.{list_all, list_any}
 use Rattle.std.specs.Prelude.{All, Result, Ok, Err, map, slice_get}
+use Rattle.timing_base.specs.Shifts.{FlowOptions}
 use Rattle.timing_base.specs.Captures.{Record, joined}
 use Rattle.timing_base.specs.Jobs.{ReportJob, VerifyJob}
 use Rattle.timing_base.specs.Judged.{FlowVerdict, JudgedRun, RunOutcome, absent, refused, gap, in_one_run, in_runs, no_whole_frame, whole_frames, judged}
@@ -142,18 +143,18 @@ only-said m kind f run (gap rec expected got) a b h k = h ∙ sym k
 only-said m kind f run (in_one_run outcome) a b h k = only-at m kind f (outcome ∷ []) run a b h k
 only-said m kind f run (in_runs runs) a b h k = only-at m kind f (map (λ r. r.outcome) runs) run a b h k
 
-pub some-finding : (media : Media) (claim : ReportProof) (tai : ℕ) (texts : List (List ℕ)) → (finding : Result Bool Unjudged)
-    × Finds media claim tai texts finding
-some-finding media claim tai texts =
+pub some-finding : (media : Media) (claim : ReportProof) (options : FlowOptions) (texts : List (List ℕ)) → (finding : Result Bool Unjudged)
+    × Finds media claim options texts finding
+some-finding media claim options texts =
     let all = some-records texts in
-    let said = some-said media claim.kind claim.proof claim.run (judged (flow (joined all.0) media) media.pt tai) in
+    let said = some-said media claim.kind claim.proof claim.run (judged (flow (joined all.0) media) media.pt options) in
     (said.0, record { files = all.0; notes = all.1; records = all.2; says = said.1 })
 
-pub only-finding : (media : Media) (claim : ReportProof) (tai : ℕ) (texts : List (List ℕ)) (a b : Result Bool Unjudged) → Finds media claim tai texts a
-    → Finds media claim tai texts b → a ≡ b
-only-finding media claim tai texts a b h k =
-    only-said media claim.kind claim.proof claim.run (judged (flow (joined k.files) media) media.pt tai) a b
-    (subst (λ (files : List (List Record)). Says media claim.kind claim.proof claim.run (judged (flow (joined files) media) media.pt tai) a)
+pub only-finding : (media : Media) (claim : ReportProof) (options : FlowOptions) (texts : List (List ℕ)) (a b : Result Bool Unjudged) → Finds media claim options texts a
+    → Finds media claim options texts b → a ≡ b
+only-finding media claim options texts a b h k =
+    only-said media claim.kind claim.proof claim.run (judged (flow (joined k.files) media) media.pt options) a b
+    (subst (λ (files : List (List Record)). Says media claim.kind claim.proof claim.run (judged (flow (joined files) media) media.pt options) a)
     (only-records texts h.files k.files h.notes k.notes h.records k.records).0 h.says)
     k.says
 
@@ -164,14 +165,14 @@ once-verify job media files notes a b h k = on (slice_get media job.media) h k
     on : (found : Option Media) → OnMedia found (λ m. DefinesVerified job m files a) → OnMedia found (λ m. DefinesVerified job m files b) → a ≡ b
     on None h k = absurd h
     on (Some m) h k =
-        h.answer_is ∙ ap verified (only-said m job.kind job.proof 0 (judged (flow (joined files) m) m.pt job.tai) h.finding k.finding h.finds k.finds)
+        h.answer_is ∙ ap verified (only-said m job.kind job.proof 0 (judged (flow (joined files) m) m.pt job.options) h.finding k.finding h.finds k.finds)
         ∙ sym k.answer_is
 
 some-there : (job : VerifyJob) (found : Option Media) (files : List (List Record)) → not_there found ≡ None
     → (answer : Answer) × OnMedia found (λ m. DefinesVerified job m files answer)
 some-there job None files h = absurd (some-none (verified (Ok false)) h)
 some-there job (Some m) files h =
-    let said = some-said m job.kind job.proof 0 (judged (flow (joined files) m) m.pt job.tai) in
+    let said = some-said m job.kind job.proof 0 (judged (flow (joined files) m) m.pt job.options) in
     (verified said.0, record { finding = said.0; finds = said.1; answer_is = refl })
 
 pub some-verify : (job : VerifyJob) (texts : List (List ℕ)) → DefinesSome (verify_query job) texts
@@ -188,12 +189,12 @@ some-verified job media texts unsettled =
 some-of : (there : Option Media) (job : ReportJob) (claim : ReportProof) (text : List ℕ → List ℕ) → (finding : Result Bool Unjudged)
     × FindsOf there job claim text finding
 some-of None job claim text = (Ok false, refl)
-some-of (Some media) job claim text = some-finding media claim job.tai (map text (captures_of job claim.key))
+some-of (Some media) job claim text = some-finding media claim job.options (map text (captures_of job claim.key))
 
 only-of : (there : Option Media) (job : ReportJob) (claim : ReportProof) (text : List ℕ → List ℕ) (a b : Result Bool Unjudged) → FindsOf there job claim text a
     → FindsOf there job claim text b → a ≡ b
 only-of None job claim text a b h k = h ∙ sym k
-only-of (Some media) job claim text a b h k = only-finding media claim job.tai (map text (captures_of job claim.key)) a b h k
+only-of (Some media) job claim text a b h k = only-finding media claim job.options (map text (captures_of job claim.key)) a b h k
 
 -- what is said of one that was checked
 abbrev FindsChecked : ReportJob → List Media → (List ℕ → List ℕ) → Checked → Type 0

@@ -46,7 +46,7 @@ returns-in-Some-found-clause-judged g c = record {
   told = λ names texts fetched told.
       some-at c.in_ok-sources.field-0.found c.in-Some-found.found
       (λ found. (read : List (List ℕ)) → AreTexts (left_of g.H.Source.Source.left) read c.args.sources.items
-      → AreFound read (rows_over c.args.joined c.args.tai c.args.media.now) found.notes.items found.rows.items)
+      → AreFound read (rows_over c.args.joined c.args.options c.args.media.now) found.notes.items found.rows.items)
       c.in-Some-found.is c.in_ok-sources.ensures.told texts
       (fetched-texts (name_of g.H.Source.Source.name) (left_of g.H.Source.Source.left) (faults_of g.H.Source.Source.faults)
       (classic_texts (g.H.Shelf.text c.args.shelf.now)) names texts c.args.sources.items fetched told);

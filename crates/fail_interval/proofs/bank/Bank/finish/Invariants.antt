@@ -1,4 +1,5 @@
 use Rattle.std.proofs.Common.{ℕ, List}
+use Rattle.timing_base.specs.Shifts.{FlowOptions}
 use Rattle.timing_base.specs.Captures.{Record}
 use Rattle.timing_base.specs.Media.{Media}
 use Rattle.fail_interval.specs.BankStands.{StandsFor}
@@ -6,5 +7,5 @@ use Rattle.fail_interval.specs.Taken.{HasRows}
 use Rattle.fail_interval.proofs.bank.Bank.finish.Given as goal
 
 abbrev pub invariant-loop-flow : goal.invariant-loop-flow
-invariant-loop-flow l = (media : List Media) (file tai : ℕ) (items : List Record) → StandsFor media file tai l.fn.self items
-    → HasRows tai file media items l.fn.rows.items l.rows.items l.flow-iterator.rest.items
+invariant-loop-flow l = (media : List Media) (file : ℕ) (options : FlowOptions) (items : List Record) → StandsFor media file options l.fn.self items
+    → HasRows options file media items l.fn.rows.items l.rows.items l.flow-iterator.rest.items

@@ -14,11 +14,11 @@ loop-number-preserved c =
     let key = key_of c.args.file c.loop-number.number in
     let flow = c.new-in-loop-number.result in
     record {
-      stands = judges-more c.args.tai c.args.file c.loop-number.number c.args.media.now c.loop-number.flows.items c.push.new.self.items []
+      stands = judges-more c.args.options c.args.file c.loop-number.number c.args.media.now c.loop-number.flows.items c.push.new.self.items []
           m flow (search rules) (sym c.index-media-number.is) c.loop-number.invariant.stands
           record {
             media = c.new-in-loop-number.ensures.media;
-            judge = subst (λ (j : Judging). StandsFor m key c.args.tai j.judge []) (sym c.new-in-loop-number.ensures.taker) c.new.ensures.stands;
+            judge = subst (λ (j : Judging). StandsFor m key c.args.options j.judge []) (sym c.new-in-loop-number.ensures.taker) c.new.ensures.stands;
           }
           c.in_ok-push.ensures.items;
       awaits = All-same (AwaitsExpected expected_next) c.push.new.self.items (c.loop-number.flows.items ++ flow ∷ []) c.in_ok-push.ensures.items

@@ -7,7 +7,7 @@ use Rattle.fail_interval.proofs.bank.Bank.new.Given as goal
 
 abbrev pub invariant-loop-number : goal.invariant-loop-number
 invariant-loop-number l = record {
-  stands : AreJudgesOf l.tai l.file 0 (take l.number l.media) l.flows.items [];
+  stands : AreJudgesOf l.options l.file 0 (take l.number l.media) l.flows.items [];
   awaits : All (AwaitsExpected expected_next) l.flows.items;
   none : most_fed l.flows.items ≡ 0;
 }

@@ -27,5 +27,5 @@ pub returns-clause-takes : goal.returns-clause-takes
 returns-clause-takes c =
     let r : Record = record { number = c.args.number; stamp = c.args.at; bytes = c.args.frame.now } in
     if-ok c.take.result
-    (λ _ takes media file tai items h. judges-fed tai file 0 media (flows_of c.args.self.now.demux) (flows_of c.take.new.self) items (r ∷ []) takes h)
+    (λ _ takes media file options items h. judges-fed options file 0 media (flows_of c.args.self.now.demux) (flows_of c.take.new.self) items (r ∷ []) takes h)
     c.take.ensures.takes

@@ -35,7 +35,7 @@ returns-clause-goes_on g c = λ _ packets h.
       | then-is_none+in_default w ↦ w.self-is
       | else-is_none w ↦ w.self-is
     ])
-    c.begin.ensures.media c.begin.ensures.tai c.begin.ensures.grouper c.in_ok-begin.ensures.room
+    c.begin.ensures.media c.begin.ensures.shift c.begin.ensures.grouper c.in_ok-begin.ensures.room
     (λ run e. elim c.if-is_none.branch as (λ _. (n : ℕ) × (c.in-Ok.cut ≡ Some n)) [
       | then-is_none+in_default w ↦ absurd (w.in_default.not-Some run e)
       | else-is_none w ↦ some-of _ w.if-is_none.ensures

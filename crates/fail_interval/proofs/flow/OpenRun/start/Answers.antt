@@ -8,12 +8,12 @@ pub feed-requires : goal.feed-requires
 feed-requires g c = ∣ (in_head 0, record { stands = c.new-judge.ensures.stands _; fits = fresh-fits c.args.packet.at _ }) ∣₁
 
 pub returns-clause-tells : goal.returns-clause-tells
-returns-clause-tells g c = λ wants past tai first over is heads telling.
-    c.in_ok-feed.ensures.tells wants past tai first first over (in_head 0) [] [] (record {
+returns-clause-tells g c = λ wants past shift first over is heads telling.
+    c.in_ok-feed.ensures.tells wants past shift first first over (in_head 0) [] [] (record {
       stands = c.new-judge.ensures.stands _;
       fits = fresh-fits
           c.args.packet.at _;
     })
     is heads refl tt
-    (subst (λ judge. TellsOf g.M.RunMeter.stands g.M.RunMeter.tells past c.args.media.now tai c.args.run.run first over judge c.args.out.now [] [])
+    (subst (λ judge. TellsOf g.M.RunMeter.stands g.M.RunMeter.tells past c.args.media.now shift c.args.run.run first over judge c.args.out.now [] [])
     (sym c.new-judge.ensures.is) (record { told = (refl, refl); out_tells = telling }))

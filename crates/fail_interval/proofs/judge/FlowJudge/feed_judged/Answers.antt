@@ -17,15 +17,15 @@ returns-in-Ok-true-clause-took g c = λ _.
     let went = c.feed_judged.ensures.goes_on (c.in-Ok-true.is ∙ ap Ok c.in-Ok-true.field-0-test) in
     record {
       fed = refl;
-      expects = λ media key tai packets s. took-expected media key tai c.args.at c.args.self.now _ packets went c.requires.few c.requires.stamp s;
-      stands = λ media key tai packets rec s.
-          stands-expected media key tai rec c.args.at c.args.self.now _ _ packets went c.requires.few c.requires.stamp s;
+      expects = λ media key options packets s. took-expected media key options c.args.at c.args.self.now _ packets went c.requires.few c.requires.stamp s;
+      stands = λ media key options packets rec s.
+          stands-expected media key options rec c.args.at c.args.self.now _ _ packets went c.requires.few c.requires.stamp s;
       going = λ spent. let was = went.is in cc;
       next = expected-next c.args.at c.args.self.now.state _ went;
     }
 
 pub returns-in-Ok-true-clause-tells : goal.returns-in-Ok-true-clause-tells
-returns-in-Ok-true-clause-tells g c = λ _ wants past out media key tai packets s t.
+returns-in-Ok-true-clause-tells g c = λ _ wants past out media key options packets s t.
     let went = c.feed_judged.ensures.tells (c.in-Ok-true.is ∙ ap Ok c.in-Ok-true.field-0-test) wants in
-    expected-tells g.M.RunMeter.stands g.M.RunMeter.tells past media key tai c.args.rec c.args.at c.args.self.now _ packets out went c.requires.few
+    expected-tells g.M.RunMeter.stands g.M.RunMeter.tells past media key options c.args.rec c.args.at c.args.self.now _ packets out went c.requires.few
     c.requires.stamp s t

@@ -19,7 +19,7 @@ invariant_of-self-in-None g c = record {
 pub returns-in-None-clause-takes : goal.returns-in-None-clause-takes
 returns-in-None-clause-takes g c =
     going-more _ c.args.rec c.args.at (Ok c.args.rtp) c.args.self.now _ _ _ c.in-Going.is c.requires.few c.requires.stamp
-    c.feed-step.ensures.media c.feed-step.ensures.tai
+    c.feed-step.ensures.media c.feed-step.ensures.options
     (c.feed-step.ensures.goes_on (c.in-Ok.is ∙ ap Ok c.in-None.is))
 
 pub invariant_of-self-in-Some : goal.invariant_of-self-in-Some
@@ -31,13 +31,13 @@ returns-in-Some-clause-takes g c =
     (c.feed-step.ensures.ends _ (c.in-Ok.is ∙ ap Ok c.in-Some.is))
 
 pub returns-in-Refused-clause-tells : goal.returns-in-Refused-clause-tells
-returns-in-Refused-clause-tells g c = λ _ past media key tai packets s t.
-    ended-tells g.M.RunMeter.stands g.M.RunMeter.tells past media key tai _ _ c.args.self.now _ packets _ c.args.out.now c.in-Refused.is c.in-Refused.is s t
+returns-in-Refused-clause-tells g c = λ _ past media key options packets s t.
+    ended-tells g.M.RunMeter.stands g.M.RunMeter.tells past media key options _ _ c.args.self.now _ packets _ c.args.out.now c.in-Refused.is c.in-Refused.is s t
 
 pub returns-in-None-clause-tells : goal.returns-in-None-clause-tells
-returns-in-None-clause-tells g c = λ wants past media key tai packets s t.
+returns-in-None-clause-tells g c = λ wants past media key options packets s t.
     let took = c.in-Ok.is ∙ ap Ok c.in-None.is in
-    went-tells g.M.RunMeter.stands g.M.RunMeter.tells past media key tai c.args.self.now _ packets
+    went-tells g.M.RunMeter.stands g.M.RunMeter.tells past media key options c.args.self.now _ packets
     (record { rec = c.args.rec; at = c.args.at; rtp = Ok c.args.rtp })
     c.args.out.now c.feed-step.new.out (record {
       flow = c.in-Going.flow;
@@ -45,17 +45,17 @@ returns-in-None-clause-tells g c = λ wants past media key tai packets s t.
       is = c.in-Going.is;
       becomes = refl;
       media = c.feed-step.ensures.media;
-      tai = c.feed-step.ensures.tai;
+      options = c.feed-step.ensures.options;
       goes = c.feed-step.ensures.tells took wants;
     }) c.requires.few c.requires.stamp s t
 
 pub returns-in-Some-clause-tells : goal.returns-in-Some-clause-tells
-returns-in-Some-clause-tells g c = λ _ past media key tai packets s t.
+returns-in-Some-clause-tells g c = λ _ past media key options packets s t.
     let refused = c.in-Ok.is ∙ ap Ok c.in-Some.is in
     on_ok c.refuse.result
-    (refused-tells g.M.RunMeter.stands g.M.RunMeter.tells past media key tai c.args.rec c.in-Some.fault c.args.self.now c.in-Going.flow c.refuse.new.self
+    (refused-tells g.M.RunMeter.stands g.M.RunMeter.tells past media key options c.args.rec c.in-Some.fault c.args.self.now c.in-Going.flow c.refuse.new.self
     packets (record { rec = c.args.rec; at = c.args.at; rtp = Ok c.args.rtp }) c.feed-step.new.out c.in-Going.is
     (c.refuse.ensures.going c.feed-step.new.self refl).1
     (c.feed-step.ensures.ends _ refused) c.requires.few c.requires.stamp s
-    (same-tells g.M.RunMeter.stands g.M.RunMeter.tells past media tai packets c.args.self.now.state c.args.self.now.state c.args.out.now c.feed-step.new.out
+    (same-tells g.M.RunMeter.stands g.M.RunMeter.tells past media options packets c.args.self.now.state c.args.self.now.state c.args.out.now c.feed-step.new.out
     refl (c.feed-step.ensures.out _ refused) t))

@@ -16,7 +16,7 @@ returns-clause-takes g c =
     let same = c.feed_on.ensures.other (c.in-Ok-false.is ∙ ap Ok c.in-Ok-false.field-0-test) in
     record {
       fed = c.feed_other.ensures.takes.fed;
-      stands = λ media key tai packets s. c.feed_other.ensures.takes.stands media key tai packets (same-state media key tai c.args.self.now _ _ packets same s);
+      stands = λ media key options packets s. c.feed_other.ensures.takes.stands media key options packets (same-state media key options c.args.self.now _ _ packets same s);
       spends = c.feed_other.ensures.takes.spends;
       stays = λ spent. c.feed_other.ensures.takes.stays (same ∙ spent);
     }
@@ -27,16 +27,16 @@ returns-in-Ok-true-clause-takes g c =
     went-more _ c.args.rec c.args.at c.args.rtp c.args.self.now _ _ went c.requires.few c.requires.stamp
 
 pub returns-clause-tells : goal.returns-clause-tells
-returns-clause-tells g c = λ wants past media key tai packets s t.
+returns-clause-tells g c = λ wants past media key options packets s t.
     let not = c.in-Ok-false.is ∙ ap Ok c.in-Ok-false.field-0-test in
     let same = c.feed_on.ensures.other not in
-    c.feed_other.ensures.tells wants past media key tai packets (same-state media key tai c.args.self.now _ _ packets same s)
-    (same-tells g.M.RunMeter.stands g.M.RunMeter.tells past media tai packets c.args.self.now.state c.feed_on.new.self c.args.out.now c.feed_on.new.out same
+    c.feed_other.ensures.tells wants past media key options packets (same-state media key options c.args.self.now _ _ packets same s)
+    (same-tells g.M.RunMeter.stands g.M.RunMeter.tells past media options packets c.args.self.now.state c.feed_on.new.self c.args.out.now c.feed_on.new.out same
     (c.feed_on.ensures.out not) t)
 
 pub returns-in-Ok-true-clause-tells : goal.returns-in-Ok-true-clause-tells
-returns-in-Ok-true-clause-tells g c = λ wants past media key tai packets s t.
+returns-in-Ok-true-clause-tells g c = λ wants past media key options packets s t.
     let went = c.feed_on.ensures.tells (c.in-Ok-true.is ∙ ap Ok c.in-Ok-true.field-0-test) wants in
-    went-tells g.M.RunMeter.stands g.M.RunMeter.tells past media key tai c.args.self.now _ packets
+    went-tells g.M.RunMeter.stands g.M.RunMeter.tells past media key options c.args.self.now _ packets
     (record { rec = c.args.rec; at = c.args.at; rtp = Ok c.args.rtp })
     c.args.out.now c.feed_on.new.out went c.requires.few c.requires.stamp s t

@@ -13,7 +13,7 @@ returns-clause-takes g c =
     (λ flow packets rest h. unread-ends flow packets rest c.args.rec c.args.at c.args.fault h)
 
 pub returns-clause-tells : goal.returns-clause-tells
-returns-clause-tells g c = λ out past media key tai packets s t.
-    refuses-tells g.M.RunMeter.stands g.M.RunMeter.tells past media key tai c.args.rec c.args.fault c.args.self.now _ packets
+returns-clause-tells g c = λ out past media key options packets s t.
+    refuses-tells g.M.RunMeter.stands g.M.RunMeter.tells past media key options c.args.rec c.args.fault c.args.self.now _ packets
     (record { rec = c.args.rec; at = c.args.at; rtp = Err c.args.fault }) out _ c.refuse.ensures
     (λ flow packets rest h. unread-ends flow packets rest c.args.rec c.args.at c.args.fault h) c.requires.few c.requires.stamp s t

@@ -8,7 +8,7 @@ returns-in-Going-clause-goes_on g c = λ took. record {
   is = c.in-Going.is;
   becomes = refl;
   media = c.feed_on.ensures.media;
-  tai = c.feed_on.ensures.tai;
+  options = c.feed_on.ensures.options;
   goes = c.feed_on.ensures.goes_on took;
 }
 
@@ -19,6 +19,6 @@ returns-in-Going-clause-tells g c = λ took wants. record {
   is = c.in-Going.is;
   becomes = refl;
   media = c.feed_on.ensures.media;
-  tai = c.feed_on.ensures.tai;
+  options = c.feed_on.ensures.options;
   goes = c.feed_on.ensures.tells took wants;
 }

@@ -7,7 +7,7 @@ returns-clause-verdict g c = λ m so_far s.
     groups-verdict m c.args.self c.in-Groups.groups c.in_ok-close-in-Groups.field-0 so_far c.in-Groups.is c.in_ok-close-in-Groups.ensures.judged s
 
 pub returns-clause-tells : goal.returns-clause-tells
-returns-clause-tells g c = λ past m tai number first over so_far fed committed s whole was.
+returns-clause-tells g c = λ past m shift number first over so_far fed committed s whole was.
     let closed = c.in_ok-close-in-Groups.ensures in
     close-tells g.M.RunMeter.stands g.M.RunMeter.tells past m c.args.self c.in-Groups.groups c.in_ok-close-in-Groups.field-0 c.args.out.now c.close.new.out
-    tai number first over so_far fed committed c.in-Groups.is (record { judged = closed.judged; closes = closed.tells }) s whole was
+    shift number first over so_far fed committed c.in-Groups.is (record { judged = closed.judged; closes = closed.tells }) s whole was

@@ -14,9 +14,9 @@ returns-in-Groups-clause-takes g c = λ so_far h.
     c.feed.ensures.whole
 
 pub returns-in-Groups-clause-tells : goal.returns-in-Groups-clause-tells
-returns-in-Groups-clause-tells g c = λ wants past tai first p over so_far fed committed h is heads stamps whole was.
+returns-in-Groups-clause-tells g c = λ wants past shift first p over so_far fed committed h is heads stamps whole was.
     IfOk-weaker c.feed.result _ _
     (λ _ calls.
     groups-tells g.M.RunMeter.stands g.M.RunMeter.tells past c.args.media.now c.args.self.now c.in-Groups.groups c.feed.new.self c.args.out.now c.feed.new.out
-    c.args.packet c.args.marker tai c.args.run.now.run first p over so_far fed committed c.in-Groups.is calls h is stamps whole was)
+    c.args.packet c.args.marker shift c.args.run.now.run first p over so_far fed committed c.in-Groups.is calls h is stamps whole was)
     (c.feed.ensures.told wants)

@@ -22,18 +22,18 @@ returns-else-marker-clause-whole g c = λ m so_far h.
     c.put.ensures.judged c.put.ensures.meters c.if-marker.false h
 
 pub returns-in_ok-end_group-clause-told : goal.returns-in_ok-end_group-clause-told
-returns-in_ok-end_group-clause-told g c = λ wants past m so_far tai number first p over fed committed h stamps told whole stood tells.
+returns-in_ok-end_group-clause-told g c = λ wants past m so_far shift number first p over fed committed h stamps told whole stood tells.
     let ends = c.in_ok-end_group.ensures in
     let now = marked-told g.M.RunMeter.stands g.M.RunMeter.tells past m c.args.self.now c.put.new.self c.end_group.new.self c.args.out.now
     c.end_group.new.out so_far
-    c.args.packet c.args.marker tai number first p over fed committed c.if-marker.true c.put.ensures.params c.end_group.ensures.params
+    c.args.packet c.args.marker shift number first p over fed committed c.if-marker.true c.put.ensures.params c.end_group.ensures.params
     (c.in_ok-put.ensures.told wants) (record { told_so = ends.told; tells_so = ends.tells }) h stamps told whole
     (record { stands_so = stood; tells_so = tells }) in
     (now.stands_so, now.tells_so)
 
 pub returns-else-marker-clause-told : goal.returns-else-marker-clause-told
-returns-else-marker-clause-told g c = λ wants past m so_far tai number first p over fed committed h stamps told whole stood tells.
+returns-else-marker-clause-told g c = λ wants past m so_far shift number first p over fed committed h stamps told whole stood tells.
     let now = unmarked-told g.M.RunMeter.stands g.M.RunMeter.tells past m c.args.self.now c.put.new.self c.args.out.now so_far
-    c.args.packet c.args.marker tai number first p over fed committed c.if-marker.false c.put.ensures.params
+    c.args.packet c.args.marker shift number first p over fed committed c.if-marker.false c.put.ensures.params
     (c.in_ok-put.ensures.told wants) h stamps told (record { stands_so = stood; tells_so = tells }) in
     (now.stands_so, now.tells_so)

@@ -16,8 +16,8 @@ returns-clause-whole g c = λ m so_far h.
 pub returns-clause-told : goal.returns-clause-told
 returns-clause-told g c = λ wants.
     IfOk-weaker c.put.result _ _
-    (λ _ put m so_far tai number first p fed committed h stamps told stood.
-    put-told g.M.RunMeter.stands m c.args.self.now c.put.new.self so_far c.args.packet false tai number first p fed committed c.put.ensures.params put h
+    (λ _ put m so_far shift number first p fed committed h stamps told stood.
+    put-told g.M.RunMeter.stands m c.args.self.now c.put.new.self so_far c.args.packet false shift number first p fed committed c.put.ensures.params put h
     stamps told
     stood)
     (c.put.ensures.told wants)

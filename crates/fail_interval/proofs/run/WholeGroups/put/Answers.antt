@@ -11,7 +11,7 @@ feed-requires g c = (bounds-known _ _ _ c.requires).in_time
 pub returns-then-WANTS_LEVELS-clause-told : goal.returns-then-WANTS_LEVELS-clause-told
 returns-then-WANTS_LEVELS-clause-told g c = λ _.
     IfOk-weaker c.feed.result _ _
-    (λ _ feeds tai r p fed committed follows n told stood.
-    fed-told g.M.RunMeter.stands c.args.self.now.params _ _ c.args.packet _ tai r fed committed p (stamps_of tai fed) feeds refl follows.fit
-    (c.feed_level-level.ensures.level (stamps_of tai fed) follows) n told stood)
+    (λ _ feeds shift r p fed committed follows n told stood.
+    fed-told g.M.RunMeter.stands c.args.self.now.params _ _ c.args.packet _ shift r fed committed p (stamps_of shift fed) feeds refl follows.fit
+    (c.feed_level-level.ensures.level (stamps_of shift fed) follows) n told stood)
     c.feed.ensures

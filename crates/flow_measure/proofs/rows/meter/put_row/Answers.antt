@@ -21,7 +21,7 @@ returns-then-not-to-clause-puts c =
     on-ok c.extend_from_slice.result after (before ++ line) before (PutsRow to.frames m n old new c.args.kept before after)
     c.extend_from_slice.ensures.items
     (packet-put to.frames m n old new c.args.kept c.packet_row-row.result before after line c.if-not-to.true c.of_packet.ensures
-    (λ tai run packets p is h. c.packet_row-row.ensures m tai run n packets p is h) c.feed-group.ensures.stands)
+    (λ shift run packets p is h. c.packet_row-row.ensures m shift run n packets p is h) c.feed-group.ensures.stands)
 
 pub returns-in-Some-clause-puts : goal.returns-in-Some-clause-puts
 returns-in-Some-clause-puts c =
@@ -36,7 +36,7 @@ returns-in-Some-clause-puts c =
     on-ok c.extend_from_slice-in-Some.result after (before ++ line) before (PutsRow to.frames m n old new c.args.kept before after)
     c.extend_from_slice-in-Some.ensures.items
     (group-put to.frames m n old new c.args.kept c.in-Some.group before after line c.if-not-to.false c.of_group.ensures
-    c.in-Some.ensures.row (λ tai run packets h. c.in-Some.ensures.ends m tai run n packets h) c.in-Some.ensures.stands)
+    c.in-Some.ensures.row (λ shift run packets h. c.in-Some.ensures.ends m shift run n packets h) c.in-Some.ensures.stands)
 
 pub returns-in-None-clause-puts : goal.returns-in-None-clause-puts
 returns-in-None-clause-puts c =
@@ -44,4 +44,4 @@ returns-in-None-clause-puts c =
     let m = c.args.params.now.media in
     let n = c.args.params.now.n in
     group-still to.frames m n c.args.maker.now c.feed-group.new.self c.args.kept to.text.items c.if-not-to.false
-    (λ tai run packets h. c.in-None.ensures.ends m tai run n packets h) c.in-None.ensures.stands
+    (λ shift run packets h. c.in-None.ensures.ends m shift run n packets h) c.in-None.ensures.stands

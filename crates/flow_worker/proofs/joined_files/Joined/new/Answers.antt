@@ -16,7 +16,7 @@ loop-preserved c = record {
 
 pub returns : goal.returns
 returns c =
-    let s : Setting = record { media = c.args.run.now.media.now; workers = length c.args.run.now.lanes.now; joined = true; tai = c.args.run.now.tai } in
+    let s : Setting = record { media = c.args.run.now.media.now; workers = length c.args.run.now.lanes.now; joined = true; options = c.args.run.now.options } in
     let joined : Joined = record { alloc = c.args.alloc; judges = c.in_ok-judges.judges; files = c.loop.all; next = 0; before = 0 } in
     let count : length c.loop.all.items ≡ c.args.run.now.files = search rules in
     record {

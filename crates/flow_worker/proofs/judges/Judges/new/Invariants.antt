@@ -7,6 +7,6 @@ abbrev pub invariant-loop-number : goal.invariant-loop-number
 invariant-loop-number l = record {
   count : length l.places.items ≡ l.number;
   each : (joined : Bool) → IsDealt joined l.file
-      → EachFrom (λ number. IsPlace record { media = l.run.media.now; workers = length l.run.lanes.now; joined = joined; tai = l.run.tai } l.worker
+      → EachFrom (λ number. IsPlace record { media = l.run.media.now; workers = length l.run.lanes.now; joined = joined; options = l.run.options } l.worker
       (key_of l.file number) []) 0 l.places.items;
 }

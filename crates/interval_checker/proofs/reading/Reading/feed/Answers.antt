@@ -11,5 +11,5 @@ returns-in-None-clause-reads c = λ r e.
     reads-inside c.feed.result c.args.self.now _ r c.args.packet _ _
     (ap (λ (q : Reading). q.walk) c.self.view_is) (ap (λ (q : Reading). q.media.pt) c.self.view_is)
     e (sym (ap (λ (q : Reading). q.refused) c.self.view_is) ∙ c.in-None.is) c.err-self-inside.ensures.value (ap (λ (q : Reading). q.media) c.self.view_is)
-    (ap (λ (q : Reading). q.tai) c.self.view_is) c.feed.ensures.asked
+    (ap (λ (q : Reading). q.options) c.self.view_is) c.feed.ensures.asked
     c.feed.ensures.goes_on c.feed.ensures.ends

@@ -7,13 +7,13 @@ pub returns-in-NoWholeFrame : goal.returns-in-NoWholeFrame
 returns-in-NoWholeFrame c = λ o asked ends.
     let claim = c.args.claim.now in
     let a = c.args.self.now.asked in
-    says-head claim.media claim.kind claim.proof a c.args.run claim.tai c.in-NoWholeFrame.head o
-    (subst (EndsAs a c.args.run claim.tai o) c.in-NoWholeFrame.is ends)
+    says-head claim.media claim.kind claim.proof a c.args.run claim.shift c.in-NoWholeFrame.head o
+    (subst (EndsAs a c.args.run claim.shift o) c.in-NoWholeFrame.is ends)
 
 pub returns-in-WholeFrames : goal.returns-in-WholeFrames
 returns-in-WholeFrames c = λ o asked ends.
     let claim = c.args.claim.now in
     let a = c.args.self.now.asked in
-    says-frames claim.media claim.kind claim.proof a c.args.run claim.tai c.in-WholeFrames.frames c.of-sample.result c.is_confirmed.result o
-    (subst (EndsAs a c.args.run claim.tai o) c.in-WholeFrames.is ends)
+    says-frames claim.media claim.kind claim.proof a c.args.run claim.shift c.in-WholeFrames.frames c.of-sample.result c.is_confirmed.result o
+    (subst (EndsAs a c.args.run claim.shift o) c.in-WholeFrames.is ends)
     (λ raw count kept rising. c.of-sample.ensures raw count kept asked rising) c.is_confirmed.ensures

@@ -12,8 +12,8 @@ returns-in-None c = λ pt packets i places k asked.
     let claim = c.args.claim.now in
     let a = c.args.self.now.asked in
     let same : c.from-run.result ≡ claim.run = omega (arith, c.from-run.ensures) in
-    let os = map (λ (r : FlowRun). r.outcome) (runs_between packets claim.tai i 0 places) in
-    let at = c.ending.ensures pt claim.tai claim.proof packets i places k (subst (λ r. IsAsked a r claim.proof) (sym same) asked) in
+    let os = map (λ (r : FlowRun). r.outcome) (runs_between packets claim.shift i 0 places) in
+    let at = c.ending.ensures pt claim.shift claim.proof packets i places k (subst (λ r. IsAsked a r claim.proof) (sym same) asked) in
     subst (λ r. SaysAt claim.media claim.kind claim.proof os r (Ok false)) same
     (says-beyond claim.media claim.kind claim.proof c.from-run.result os (MatchOption-at_none _ _ c.in-None.is at))
 
@@ -22,9 +22,9 @@ returns-in-Some c = λ pt packets i places k asked.
     let claim = c.args.claim.now in
     let a = c.args.self.now.asked in
     let same : c.from-run.result ≡ claim.run = omega (arith, c.from-run.ensures) in
-    let os = map (λ (r : FlowRun). r.outcome) (runs_between packets claim.tai i 0 places) in
+    let os = map (λ (r : FlowRun). r.outcome) (runs_between packets claim.shift i 0 places) in
     let is = subst (λ r. IsAsked a r claim.proof) (sym same) asked in
-    let at = c.ending.ensures pt claim.tai claim.proof packets i places k is in
+    let at = c.ending.ensures pt claim.shift claim.proof packets i places k is in
     subst (λ r. SaysAt claim.media claim.kind claim.proof os r c.answer.result) same
-    (says-at claim.media claim.kind claim.proof a c.from-run.result claim.tai c.from-run.result os c.in-Some.ending c.answer.result
+    (says-at claim.media claim.kind claim.proof a c.from-run.result claim.shift c.from-run.result os c.in-Some.ending c.answer.result
     (MatchOption-at_some _ _ c.in-Some.ending c.in-Some.is at) (λ o ends. c.answer.ensures o is ends))

@@ -10,8 +10,8 @@ returns-clause-asked c =
     record { endings = c.over.ensures.endings; stamps = c.over.ensures.stamps }
 
 pub returns-clause-keeps : goal.returns-clause-keeps
-returns-clause-keeps c = λ pt tai packets i k e.
-    cut-keeps pt tai packets i c.args.self.now _ c.ending_here-ending.result k e
+returns-clause-keeps c = λ pt shift packets i k e.
+    cut-keeps pt shift packets i c.args.self.now _ c.ending_here-ending.result k e
     record {
       fed = refl;
       before = refl;
@@ -20,4 +20,4 @@ returns-clause-keeps c = λ pt tai packets i k e.
       marks = refl;
       asked = record { endings = c.over.ensures.endings; stamps = c.over.ensures.stamps };
     }
-    (c.ending_here-ending.ensures pt tai packets i (cuts packets i) k)
+    (c.ending_here-ending.ensures pt shift packets i (cuts packets i) k)

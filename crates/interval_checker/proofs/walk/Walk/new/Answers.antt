@@ -4,4 +4,4 @@ use Rattle.interval_checker.proofs.walk.Walk.new.Goals as goal
 
 pub returns-clause-stands : goal.returns-clause-stands
 returns-clause-stands c =
-    λ pt tai. record { ahead = λ rest. new-keeps pt tai rest _ record { fed = refl; before = refl; cut_count = refl; start = refl; marks = refl } }
+    λ pt shift. record { ahead = λ rest. new-keeps pt shift rest _ record { fed = refl; before = refl; cut_count = refl; start = refl; marks = refl } }

@@ -6,15 +6,15 @@ use Rattle.interval_checker.proofs.Walking.{marks-behind, pass-keeps}
 use Rattle.interval_checker.proofs.walk.Walk.pass.Goals as goal
 
 pub returns-clause-keeps : goal.returns-clause-keeps
-returns-clause-keeps c = λ pt tai packets i k read within none.
+returns-clause-keeps c = λ pt shift packets i k read within none.
     let marker = ap (λ (r : Rtp). r.marker) (rtp-is packets i c.args.at c.args.rtp read) in
-    pass-keeps pt tai packets i c.args.self.now _ k within none record {
+    pass-keeps pt shift packets i c.args.self.now _ k within none record {
       fed = ap (λ n. n + 1) c.keep.ensures.fed;
       cut_count = c.keep.ensures.cuts;
       start = c.keep.ensures.start;
       before = c.next_before-before.result;
       before_is = refl;
-      after = c.next_before-before.ensures.after pt tai packets i (cuts packets (i + 1)) k read;
+      after = c.next_before-before.ensures.after pt shift packets i (cuts packets (i + 1)) k read;
       begins = c.next_marks-marks.ensures.begins;
       goes_on = c.next_marks-marks.ensures.goes_on;
       here = λ marks are e. c.next_marks-marks.ensures.here marks are (sym marker ∙ e);

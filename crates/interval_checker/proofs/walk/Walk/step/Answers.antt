@@ -5,34 +5,34 @@ use Rattle.interval_checker.proofs.Faults.{fault-split, rtp-is}
 use Rattle.interval_checker.proofs.walk.Walk.step.Goals as goal
 
 pub returns-in-Some-clause-ends : goal.returns-in-Some-clause-ends
-returns-in-Some-clause-ends c = λ tai packets i k read within.
-    let cut = c.is_cut-cut.ensures.is c.args.pt tai packets i c.args.at k read in
-    let split = fault-split packets c.args.pt i c.args.at c.args.rtp c.fault.result read (c.fault.ensures.is tai packets i k read cut) in
+returns-in-Some-clause-ends c = λ shift packets i k read within.
+    let cut = c.is_cut-cut.ensures.is c.args.pt shift packets i c.args.at k read in
+    let split = fault-split packets c.args.pt i c.args.at c.args.rtp c.fault.result read (c.fault.ensures.is shift packets i k read cut) in
     sym (split ∙ ap (λ f. first_of f (size_fault 262144 packets i)) c.in-Some.is)
 
 pub returns-in-Some-group_fault-clause-ends : goal.returns-in-Some-group_fault-clause-ends
-returns-in-Some-group_fault-clause-ends c = λ tai packets i k read within.
-    let cut = c.is_cut-cut.ensures.is c.args.pt tai packets i c.args.at k read in
-    let entered = c.enter.ensures.keeps c.args.pt tai packets i k cut in
+returns-in-Some-group_fault-clause-ends c = λ shift packets i k read within.
+    let cut = c.is_cut-cut.ensures.is c.args.pt shift packets i c.args.at k read in
+    let entered = c.enter.ensures.keeps c.args.pt shift packets i k cut in
     let marker = ap (λ (r : Rtp). r.marker) (rtp-is packets i c.args.at c.args.rtp read) in
-    let split = fault-split packets c.args.pt i c.args.at c.args.rtp c.fault.result read (c.fault.ensures.is tai packets i k read cut) in
+    let split = fault-split packets c.args.pt i c.args.at c.args.rtp c.fault.result read (c.fault.ensures.is shift packets i k read cut) in
     sym (split ∙ (ap (λ f. first_of f (size_fault 262144 packets i)) c.in_default.is
-    ∙ (sym (c.group_fault.ensures.is c.args.pt tai packets i entered marker) ∙ c.in-Some-group_fault.is)))
+    ∙ (sym (c.group_fault.ensures.is c.args.pt shift packets i entered marker) ∙ c.in-Some-group_fault.is)))
 
 pub returns-clause-ends : goal.returns-clause-ends
-returns-clause-ends c = λ tai packets i k read within.
-    let cut = c.is_cut-cut.ensures.is c.args.pt tai packets i c.args.at k read in
-    let entered = c.enter.ensures.keeps c.args.pt tai packets i k cut in
+returns-clause-ends c = λ shift packets i k read within.
+    let cut = c.is_cut-cut.ensures.is c.args.pt shift packets i c.args.at k read in
+    let entered = c.enter.ensures.keeps c.args.pt shift packets i k cut in
     let marker = ap (λ (r : Rtp). r.marker) (rtp-is packets i c.args.at c.args.rtp read) in
-    let split = fault-split packets c.args.pt i c.args.at c.args.rtp c.fault.result read (c.fault.ensures.is tai packets i k read cut) in
+    let split = fault-split packets c.args.pt i c.args.at c.args.rtp c.fault.result read (c.fault.ensures.is shift packets i k read cut) in
     sym (split ∙ (ap (λ f. first_of f (size_fault 262144 packets i)) c.in_default.is
-    ∙ (sym (c.group_fault.ensures.is c.args.pt tai packets i entered marker) ∙ c.in_default-group_fault.is)))
+    ∙ (sym (c.group_fault.ensures.is c.args.pt shift packets i entered marker) ∙ c.in_default-group_fault.is)))
 
 pub returns-clause-goes_on : goal.returns-clause-goes_on
-returns-clause-goes_on c = λ tai packets i k read within none.
-    let cut = c.is_cut-cut.ensures.is c.args.pt tai packets i c.args.at k read in
-    let entered = c.enter.ensures.keeps c.args.pt tai packets i k cut in
+returns-clause-goes_on c = λ shift packets i k read within none.
+    let cut = c.is_cut-cut.ensures.is c.args.pt shift packets i c.args.at k read in
+    let entered = c.enter.ensures.keeps c.args.pt shift packets i k cut in
     let marker = ap (λ (r : Rtp). r.marker) (rtp-is packets i c.args.at c.args.rtp read) in
-    let split = fault-split packets c.args.pt i c.args.at c.args.rtp c.fault.result read (c.fault.ensures.is tai packets i k read cut) in
-    c.pass.ensures.keeps c.args.pt tai packets i entered read within (split ∙ (ap (λ f. first_of f (size_fault 262144 packets i)) c.in_default.is
-    ∙ (sym (c.group_fault.ensures.is c.args.pt tai packets i entered marker) ∙ c.in_default-group_fault.is)))
+    let split = fault-split packets c.args.pt i c.args.at c.args.rtp c.fault.result read (c.fault.ensures.is shift packets i k read cut) in
+    c.pass.ensures.keeps c.args.pt shift packets i entered read within (split ∙ (ap (λ f. first_of f (size_fault 262144 packets i)) c.in_default.is
+    ∙ (sym (c.group_fault.ensures.is c.args.pt shift packets i entered marker) ∙ c.in_default-group_fault.is)))

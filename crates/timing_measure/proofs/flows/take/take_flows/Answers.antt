@@ -23,23 +23,23 @@ take_by-requires g c = record {
 pub returns-clause-told : goal.returns-clause-told
 returns-clause-told g c = λ text whole.
     let meter = g.M.RunMeter in
-    let tai = c.job.inside.tai in
-    let same : tai ≡ c.args.job.now.tai = ap (λ (job : CaptureJob). job.tai) c.job.view_is in
+    let options = c.job.inside.options in
+    let same : options ≡ c.args.job.now.options = ap (λ (job : CaptureJob). job.options) c.job.view_is in
     let taken : TakenFlows _ _ _ = record { note = c.in_ok-taken.taken.note; flows = c.into_flows.result; beside = c.in_ok-taken.both.second } in
     subst (λ (x : ℕ). AreTakenIn meter.WANTS_LEVELS meter.stands meter.tells g.B.Taker.takes x c.args.media.now text c.args.beside taken) same
-    (taken-in meter.WANTS_LEVELS meter.stands meter.tells g.B.Taker.takes tai c.args.media.now text
+    (taken-in meter.WANTS_LEVELS meter.stands meter.tells g.B.Taker.takes options c.args.media.now text
     (record { first = c.in_ok-new.field-0; second = c.args.beside }) c.in_ok-taken.both c.in_ok-taken.taken taken
-    (subst (AreMetered meter.WANTS_LEVELS meter.stands meter.tells tai c.args.media.now []) (sym c.in_ok-new.ensures.flows) c.in_ok-flows.ensures.stands)
+    (subst (AreMetered meter.WANTS_LEVELS meter.stands meter.tells options c.args.media.now []) (sym c.in_ok-new.ensures.flows) c.in_ok-flows.ensures.stands)
     (c.in_ok-taken.ensures.told text whole) refl c.into_flows.ensures refl)
 
 pub returns-clause-some : goal.returns-clause-some
 returns-clause-some g c =
     let meter = g.M.RunMeter in
-    let tai = c.job.inside.tai in
-    let same : tai ≡ c.args.job.now.tai = ap (λ (job : CaptureJob). job.tai) c.job.view_is in
+    let options = c.job.inside.options in
+    let same : options ≡ c.args.job.now.options = ap (λ (job : CaptureJob). job.options) c.job.view_is in
     let taken : TakenFlows _ _ _ = record { note = c.in_ok-taken.taken.note; flows = c.into_flows.result; beside = c.in_ok-taken.both.second } in
     subst (λ (x : ℕ). AreTakenOf meter.WANTS_LEVELS meter.stands meter.tells x c.args.media.now taken) same
-    (taken-of meter.WANTS_LEVELS meter.stands meter.tells g.B.Taker.takes tai (2 ^ 36) c.args.media.now
+    (taken-of meter.WANTS_LEVELS meter.stands meter.tells g.B.Taker.takes options (2 ^ 36) c.args.media.now
     (record { first = c.in_ok-new.field-0; second = c.args.beside }) c.in_ok-taken.both taken
-    (subst (AreMetered meter.WANTS_LEVELS meter.stands meter.tells tai c.args.media.now []) (sym c.in_ok-new.ensures.flows) c.in_ok-flows.ensures.stands)
+    (subst (AreMetered meter.WANTS_LEVELS meter.stands meter.tells options c.args.media.now []) (sym c.in_ok-new.ensures.flows) c.in_ok-flows.ensures.stands)
     c.in_ok-taken.ensures.fed c.into_flows.ensures)

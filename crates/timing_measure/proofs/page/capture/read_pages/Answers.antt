@@ -10,8 +10,8 @@ returns-clause-told g c = λ text whole.
     record {
       items = taken.items;
       records = taken.records;
-      are = flows-end true PairStandsFor TellsPair (tt, tt) EndsPage IsFlowPage c.args.job.now.tai c.args.media.now taken.items
-          c.in_ok-taken.taken.flows.items c.in_ok-flows.flows.items (λ f e ends m number packets h. ends m number c.args.job.now.tai packets h)
+      are = flows-end true PairStandsFor TellsPair (tt, tt) EndsPage IsFlowPage c.args.job.now.options c.args.media.now taken.items
+          c.in_ok-taken.taken.flows.items c.in_ok-flows.flows.items (λ f e ends m number packets h. ends m number c.args.job.now.options packets h)
           taken.are c.in_ok-flows.ensures;
       found_is = c.in_ok-found.ensures taken.items (taken.beside [] c.new-scan.ensures.stands);
     }
@@ -21,7 +21,7 @@ returns-clause-some g c =
     let taken = c.in_ok-taken.ensures.some in
     record {
       items = taken.items;
-      are = flows-end true PairStandsFor TellsPair (tt, tt) EndsPage IsFlowPage c.args.job.now.tai c.args.media.now taken.items
-          c.in_ok-taken.taken.flows.items c.in_ok-flows.flows.items (λ f e ends m number packets h. ends m number c.args.job.now.tai packets h)
+      are = flows-end true PairStandsFor TellsPair (tt, tt) EndsPage IsFlowPage c.args.job.now.options c.args.media.now taken.items
+          c.in_ok-taken.taken.flows.items c.in_ok-flows.flows.items (λ f e ends m number packets h. ends m number c.args.job.now.options packets h)
           taken.are c.in_ok-flows.ensures;
     }

@@ -34,5 +34,5 @@ returns-clause-lists c =
     let end : c.loop-packet.packet ≡ length stamps = search rules in
     if-ok c.finish.result
     (λ answer is w given fit. lists-all w c.loop-packet.leaver c.loop-packet.delays stamps answer is
-    (subst (λ k. HasListed w c.loop-packet.leaver c.loop-packet.delays (in_tai w.tai stamps) k) end (c.loop-packet.invariant.listed w given fit)))
+    (subst (λ k. HasListed w c.loop-packet.leaver c.loop-packet.delays (in_tai w.options stamps) k) end (c.loop-packet.invariant.listed w given fit)))
     c.finish.ensures

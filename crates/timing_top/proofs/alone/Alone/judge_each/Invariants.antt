@@ -11,7 +11,7 @@ use Rattle.timing_top.proofs.alone.Alone.judge_each.Given as goal
 abbrev pub invariant-loop-source : goal.invariant-loop-source
 invariant-loop-source g l = record {
   reading : Goes g.H.Shelf g.H.Source.Source l.fn.shelf l.shelf l.fn.sources.items l.source-iterator.rest.items l.outcome (length l.found.notes.items)
-      (λ read. AreFound read (rows_of_files l.self.tai 0 l.self.media.now) l.found.notes.items l.found.rows.items);
+      (λ read. AreFound read (rows_of_files l.self.options 0 l.self.media.now) l.found.notes.items l.found.rows.items);
   fresh : All (λ source. (faults_of g.H.Source.Source.faults) source ≡ 0) l.source-iterator.rest.items;
   count : IfOk l.outcome (λ _. length l.found.notes.items + length l.source-iterator.rest.items ≡ length l.fn.sources.items);
   of_session : IfOk l.outcome (λ _. AreOfSession l.self.media.now l.found.rows.items);

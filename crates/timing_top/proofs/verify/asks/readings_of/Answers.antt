@@ -10,18 +10,18 @@ use Rattle.timing_top.proofs.verify.asks.readings_of.Goals as goal
 
 pub loop-number-init : goal.loop-number-init
 loop-number-init c = record {
-  asked = subst (λ (l : List Reading). AreAsked c.args.tai c.args.claims.now c.args.file 0 [] l) (sym c.new-readings.ensures.items) tt;
+  asked = subst (λ (l : List Reading). AreAsked c.args.options c.args.claims.now c.args.file 0 [] l) (sym c.new-readings.ensures.items) tt;
   none = subst (λ (l : List Reading). HaveRead l []) (sym c.new-readings.ensures.items) tt;
   room = subst (HaveRoom (2 ^ 40)) (sym c.new-readings.ensures.items) tt;
 }
 
 pub loop-number-preserved : goal.loop-number-preserved
 loop-number-preserved c = record {
-  asked = asked-more c.args.tai c.args.claims.now c.args.file c.loop-number.number c.args.media.now c.loop-number.readings.items c.push.new.self.items
+  asked = asked-more c.args.options c.args.claims.now c.args.file c.loop-number.number c.args.media.now c.loop-number.readings.items c.push.new.self.items
       c.index-media-number.result c.new.result (search rules) (sym c.index-media-number.is) c.loop-number.invariant.asked
       record {
         media = c.new.ensures.media;
-        late = c.new.ensures.tai;
+        late = c.new.ensures.options;
         asks = subst (λ (a : Asked). All (Asks a c.args.file c.loop-number.number) c.args.claims.now) (sym c.new.ensures.asked) c.in_ok-asked.ensures;
       } c.in_ok-push.ensures.items;
   none = none-more c.loop-number.readings.items c.push.new.self.items c.new.result c.in_ok-push.ensures.items c.loop-number.invariant.none
@@ -32,7 +32,7 @@ loop-number-preserved c = record {
 
 pub returns-clause-asked : goal.returns-clause-asked
 returns-clause-asked c =
-    subst (λ (l : List Media). AreAsked c.args.tai c.args.claims.now c.args.file 0 l c.loop-number.readings.items)
+    subst (λ (l : List Media). AreAsked c.args.options c.args.claims.now c.args.file 0 l c.loop-number.readings.items)
     (take_all c.loop-number.number c.args.media.now c.loop-number-test.false) c.loop-number.invariant.asked
 
 pub returns-clause-none : goal.returns-clause-none

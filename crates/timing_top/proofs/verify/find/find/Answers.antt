@@ -14,6 +14,6 @@ returns-clause-told g c = λ texts told.
     let asked : IsAsked (asked_by first) claim.run claim.proof =
     subst (λ a. IsAsked a claim.run claim.proof) (sym c.new.ensures.asked)
     (subst (λ r. IsAsked c.ask.new.self r claim.proof) same c.in_ok-ask.ensures.asked) in
-    one-read c.args.media.now claim c.args.tai texts first c.in_ok-read.read.items c.answer_of.result c.new.ensures.media c.new.ensures.tai asked
+    one-read c.args.media.now claim c.args.options texts first c.in_ok-read.read.items c.answer_of.result c.new.ensures.media c.new.ensures.options asked
     (subst (λ l. AreSame l c.in_ok-read.read.items) items c.in_ok-read.ensures.same) (c.in_ok-read.ensures.told texts told)
     (λ x t l r e is. c.answer_of.ensures x t l r (ap (λ rs. slice_get rs 0) c.deref.ensures.value ∙ e) is)

@@ -15,10 +15,10 @@ returns-clause-follows g c =
     let named : c.as_slice-names.result.now ≡ c.args.job.now.captures = search rules in
     let asked : c.claim_of-claim.result ≡ claim_of c.args.job.now = search rules in
     let found : slice_get c.args.session.now c.args.job.now.media ≡ Some c.media_of-media.result.now = search rules in
-    let late : c.job.inside.tai ≡ c.args.job.now.tai = search rules in
+    let late : c.job.inside.options ≡ c.args.job.now.options = search rules in
     reads-all (verify_query c.args.job.now) c.args.session.now (seen_of g.H.Shelf c.args.shelf.now c.find.new.shelf) _
     (subst (AreThere (g.H.Shelf.lacks c.args.shelf.now)) named c.in_ok-finding.ensures.there)
-    (λ texts t. has-verified c.args.job.now c.args.session.now c.media_of-media.result.now texts c.claim_of-claim.result c.job.inside.tai
+    (λ texts t. has-verified c.args.job.now c.args.session.now c.media_of-media.result.now texts c.claim_of-claim.result c.job.inside.options
     c.in_ok-finding.finding c.in_ok-verified.field-0 found asked late
     (c.in_ok-finding.ensures.told texts (subst (λ names. AreTold (classic_texts (g.H.Shelf.text c.args.shelf.now)) names texts) (sym named) t))
     c.in_ok-verified.ensures) tt

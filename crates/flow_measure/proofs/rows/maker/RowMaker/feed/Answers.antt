@@ -8,7 +8,7 @@ use Rattle.flow_measure.proofs.lemmas.rows.Grouping.{ends-group, ends-row, goes-
 use Rattle.flow_measure.proofs.rows.maker.RowMaker.feed.Goals as goal
 
 pub returns-then-not-pass-clause-stands : goal.returns-then-not-pass-clause-stands
-returns-then-not-pass-clause-stands c = λ tai run before p is h.
+returns-then-not-pass-clause-stands c = λ shift run before p is h.
     let m = c.args.params.now.media in
     let n = c.args.params.now.n in
     let old = c.args.self.now in
@@ -19,12 +19,12 @@ returns-then-not-pass-clause-stands c = λ tai run before p is h.
     let moved = step.within (search rules) in
     let same = t.walk in
     let size : w.n ≡ n = step.n ∙ ap (λ (v : GroupWalk). v.n) same ∙ h.n_is in
-    goes-on m tai run n old x _ before p refl refl refl size (omega (arith, step.seen, ap (λ (v : GroupWalk). v.seen) same, h.seen))
+    goes-on m shift run n old x _ before p refl refl refl size (omega (arith, step.seen, ap (λ (v : GroupWalk). v.seen) same, h.seen))
     (omega (arith, moved.1, ap (λ (v : GroupWalk). v.place) same)) (moved.2 ∙ ap (λ (v : GroupWalk). v.group) same)
-    (taken m tai run n old x before p c.args.kept t.begins t.widens is h)
+    (taken m shift run n old x before p c.args.kept t.begins t.widens is h)
 
 pub returns-clause-row : goal.returns-clause-row
-returns-clause-row c = λ tai run before p is h.
+returns-clause-row c = λ shift run before p is h.
     let m = c.args.params.now.media in
     let n = c.args.params.now.n in
     let old = c.args.self.now in
@@ -36,9 +36,9 @@ returns-clause-row c = λ tai run before p is h.
     let since = c.since_start.result in
     let fits : FitsSigned w128 since = search rules in
     let n0_fits : FitsSigned w128 x.n0 = search rules in
-    ends-row m tai run n old x before p c.args.kept.packet.at _
+    ends-row m shift run n old x before p c.args.kept.packet.at _
     (omega (arith, moved.0, ap (λ (v : GroupWalk). v.place) same, ap (λ (v : GroupWalk). v.n) same, h.n_is))
-    (ap (λ (q : RunPacket). q.at) is.packet_is) (placed m tai run n old before h)
+    (ap (λ (q : RunPacket). q.at) is.packet_is) (placed m shift run n old before h)
     (record {
       place = place-kept x.row _ _ _ _ _ _;
       last = to_z-of_z w128 since fits ∙ c.since_start.ensures.value
@@ -49,10 +49,10 @@ returns-clause-row c = λ tai run before p is h.
       linear_least = refl;
       linear = refl;
     })
-    (taken m tai run n old x before p c.args.kept t.begins t.widens is h)
+    (taken m shift run n old x before p c.args.kept t.begins t.widens is h)
 
 pub returns-clause-stands : goal.returns-clause-stands
-returns-clause-stands c = λ tai run before p is h.
+returns-clause-stands c = λ shift run before p is h.
     let m = c.args.params.now.media in
     let n = c.args.params.now.n in
     let old = c.args.self.now in
@@ -63,6 +63,6 @@ returns-clause-stands c = λ tai run before p is h.
     let moved = step.over (search rules) in
     let same = t.walk in
     let size : w.n ≡ n = step.n ∙ ap (λ (v : GroupWalk). v.n) same ∙ h.n_is in
-    ends-group m tai run n old x _ before p refl refl refl size (omega (arith, step.seen, ap (λ (v : GroupWalk). v.seen) same, h.seen))
+    ends-group m shift run n old x _ before p refl refl refl size (omega (arith, step.seen, ap (λ (v : GroupWalk). v.seen) same, h.seen))
     moved.1 (omega (arith, moved.2, ap (λ (v : GroupWalk). v.group) same))
-    (taken m tai run n old x before p c.args.kept t.begins t.widens is h)
+    (taken m shift run n old x before p c.args.kept t.begins t.widens is h)

@@ -3,14 +3,14 @@ use Rattle.flow_page.proofs.lemmas.drawing.Longest.{drawn-kept}
 use Rattle.flow_page.proofs.drawing.meter.DrawingMeterRunMeter.commit.Goals as goal
 
 pub returns-clause-stands : goal.returns-clause-stands
-returns-clause-stands c = λ tai r fed committed size whole h.
+returns-clause-stands c = λ shift r fed committed size whole h.
     let s = c.args.self.now in
     record {
       run_is = h.run_is;
       rest = [];
       whole = sym (append-nil fed);
       all_are = h.all_are;
-      committed_are = drawn-kept c.args._params.now.media r.n tai s.committed s.all c.keep.new.self fed committed h.rest h.whole c.keep.ensures.draws
+      committed_are = drawn-kept c.args._params.now.media r.n shift s.committed s.all c.keep.new.self fed committed h.rest h.whole c.keep.ensures.draws
           h.committed_are h.all_are;
       regions_are = h.regions_are;
     }
