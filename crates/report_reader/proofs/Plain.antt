@@ -52,7 +52,11 @@ narrow_fits = record {
 
 pub plain_reported : AreReported (check_of (codes "a.pcap")) (plain_media ∷ []) (note.End ∷ []) (first_flow (verdict.Judged narrow) ∷ [])
 plain_reported = record {
-  is_job = record { captures_are = record { some = omega arith; few = omega arith }; workers_few = omega arith; options_are = record { tai_most = omega arith; delay_most = omega arith } };
+  is_job = record {
+    captures_are = record { some = omega arith; few = omega arith };
+    workers_few = omega arith;
+    options_are = record { tai_most = omega arith; delay_most = omega arith };
+  };
   names = one (λ name. is_file_name name ≡ true) (codes "a.pcap") refl;
   is_session = record { some = omega arith; few = omega arith };
   media = one FitsMedia plain_media record { is = plain_is; address = omega arith; port = omega arith };
