@@ -2,7 +2,7 @@
 use Rattle.std.proofs.Common.{◌≡◌, ◌≤◌, ◌+◌, ◌*◌, ◌^◌, ℕ, zero, suc, Bool, true, false, List, [], ◌∷◌, length, Some, refl, arith, ap, ◌∙◌, sym}
 use Rattle.std.proofs.lemmas.List.Elements.{All-append, All-cons, All-head, All-nil, All-tail, All-weaker}
 use Rattle.std.specs.Prelude.{All, map, slice_get}
-use Rattle.timing_base.specs.Shifts.{FlowOptions}
+use Rattle.timing_base.specs.Shifts.{AreFlowOptions, FlowOptions}
 use Rattle.timing_base.specs.Captures.{Record, joined}
 use Rattle.timing_base.specs.Grouped.{IsGrouped, IsGroupedOutcome, IsGroupedVerdict}
 use Rattle.timing_base.specs.Judged.{FlowRun, FlowVerdict, JudgedRun, RunOutcome, absent, gap, in_one_run, in_runs, judged, no_whole_frame, refused}
@@ -102,39 +102,39 @@ record IsInFiles (media : List Media) (options : FlowOptions) (first : ℕ) (fil
   there : slice_get media r.key.media ≡ Some m
   tells : TellsFlow m (judged (flow items m) m.pt options) r.verdict
 
-files-rows : (media : List Media) (options : FlowOptions) (first : ℕ) (texts : List (List ℕ)) (files : List (List Record)) (notes : List FileNote) → options ≤ 1000 → All IsMedia media
+files-rows : (media : List Media) (options : FlowOptions) (first : ℕ) (texts : List (List ℕ)) (files : List (List Record)) (notes : List FileNote) → AreFlowOptions options → All IsMedia media
     → All AreBytes texts
     → AreRecords texts files notes → All (IsInFiles media options first files) (rows_of_files options first media files)
-files-rows media options first [] [] [] seconds are bytes h = All-nil (IsInFiles media options first [])
-files-rows media options first (t ∷ ts) (items ∷ files) (n ∷ ns) seconds are bytes h =
+files-rows media options first [] [] [] shifts are bytes h = All-nil (IsInFiles media options first [])
+files-rows media options first (t ∷ ts) (items ∷ files) (n ∷ ns) shifts are bytes h =
     let P = IsInFiles media options first (items ∷ files) in
     let small = one-small t items n (All-head AreBytes t ts bytes) h.0 in
     All-append P (rows_of options first media items) (rows_of_files options (first + 1) media files)
     (All-weaker (IsInFile media options first items) P
     (λ r k. record { place = zero; file_is = omega (arith, k.file_is); items = items; found = refl; m = k.m; there = k.there; tells = k.tells })
     (rows_of options first media items)
-    (all-rows media options first items are (λ m. flow-grouped m options 0 (2 ^ 36) items seconds (omega arith) small)))
+    (all-rows media options first items are (λ m. flow-grouped m options 0 (2 ^ 36) items shifts (omega arith) small)))
     (All-weaker (IsInFiles media options (first + 1) files) P
     (λ r k. record { place = suc k.place; file_is = omega (arith, k.file_is); items = k.items; found = k.found; m = k.m; there = k.there; tells = k.tells })
     (rows_of_files options (first + 1) media files)
-    (files-rows media options (first + 1) ts files ns seconds are (All-tail AreBytes t ts bytes) h.1))
-files-rows media options first [] [] (n ∷ ns) seconds are bytes h = absurd h
-files-rows media options first [] (f ∷ fs) notes seconds are bytes h = absurd h
-files-rows media options first (t ∷ ts) [] notes seconds are bytes h = absurd h
-files-rows media options first (t ∷ ts) (f ∷ fs) [] seconds are bytes h = absurd h
+    (files-rows media options (first + 1) ts files ns shifts are (All-tail AreBytes t ts bytes) h.1))
+files-rows media options first [] [] (n ∷ ns) shifts are bytes h = absurd h
+files-rows media options first [] (f ∷ fs) notes shifts are bytes h = absurd h
+files-rows media options first (t ∷ ts) [] notes shifts are bytes h = absurd h
+files-rows media options first (t ∷ ts) (f ∷ fs) [] shifts are bytes h = absurd h
 
 -- what the rows of captures tell
-pub rows-exact : (b : Bool) (options : FlowOptions) (media : List Media) (texts : List (List ℕ)) (files : List (List Record)) (notes : List FileNote) → options ≤ 1000
+pub rows-exact : (b : Bool) (options : FlowOptions) (media : List Media) (texts : List (List ℕ)) (files : List (List Record)) (notes : List FileNote) → AreFlowOptions options
     → length texts ≤ 16 → All IsMedia media
     → All AreBytes texts → AreRecords texts files notes → All (IsExactRow b options media files) (rows_over b options media files)
-rows-exact true options media texts files notes seconds few are bytes h =
+rows-exact true options media texts files notes shifts few are bytes h =
     All-weaker (IsInFile media options 0 (joined files)) (IsExactRow true options media files)
     (λ r k. record { m = k.m; media_is = k.there; items = joined files; items_are = refl; tells = k.tells })
     (rows_of options 0 media (joined files))
     (all-rows media options 0 (joined files) are
-    (λ m. flow-grouped m options 0 (2 ^ 36 * length texts) (joined files) seconds (omega (arith, few)) (joined-small 0 texts files notes bytes h)))
-rows-exact false options media texts files notes seconds few are bytes h =
+    (λ m. flow-grouped m options 0 (2 ^ 36 * length texts) (joined files) shifts (omega (arith, few)) (joined-small 0 texts files notes bytes h)))
+rows-exact false options media texts files notes shifts few are bytes h =
     All-weaker (IsInFiles media options 0 files) (IsExactRow false options media files)
     (λ r k. let e : k.place ≡ r.key.file = omega (arith, k.file_is) in
     record { m = k.m; media_is = k.there; items = k.items; items_are = ap (slice_get files) (sym e) ∙ k.found; tells = k.tells })
-    (rows_of_files options 0 media files) (files-rows media options 0 texts files notes seconds are bytes h)
+    (rows_of_files options 0 media files) (files-rows media options 0 texts files notes shifts are bytes h)

@@ -6,7 +6,7 @@ use Rattle.std.proofs.lemmas.Grind.{flat_map-append}
 use Rattle.std.proofs.lemmas.List.{length-map}
 use Rattle.std.proofs.lemmas.List.Elements.{All-append, All-head, All-nil, All-tail, All-weaker}
 use Rattle.std.specs.Prelude.{All, Ok, if◌then◌else◌, map, nat_lt, slice_get, slice_index_or}
-use Rattle.timing_base.specs.Shifts.{FlowOptions}
+use Rattle.timing_base.specs.Shifts.{AreFlowOptions, FlowOptions}
 use Rattle.timing_base.specs.Captures.{Record, joined, raised}
 use Rattle.timing_base.specs.Grouped.{IsGroupedVerdict}
 use Rattle.timing_base.specs.Jobs.{ReportJob}
@@ -101,27 +101,26 @@ here-finds media options first name names text items end records c h = record {
 }
 
 -- the fails of the rows of files
-files-rows : (media : List Media) (options : FlowOptions) (first : ℕ) (names : List (List ℕ)) (text : List ℕ → List ℕ) (files : List (List Record)) (notes : List FileNote) → options
-    ≤ 1000 → All IsMedia media
+files-rows : (media : List Media) (options : FlowOptions) (first : ℕ) (names : List (List ℕ)) (text : List ℕ → List ℕ) (files : List (List Record)) (notes : List FileNote) → AreFlowOptions options → All IsMedia media
     → All AreBytes (map text names) → AreRecords (map text names) files notes
     → All (IsInFiles media options first names text) (fails_of (rows_of_files options first media files))
-files-rows media options first [] text [] [] seconds are bytes h = All-nil (IsInFiles media options first [] text)
-files-rows media options first (name ∷ names) text (items ∷ files) (end ∷ notes) seconds are bytes h =
+files-rows media options first [] text [] [] shifts are bytes h = All-nil (IsInFiles media options first [] text)
+files-rows media options first (name ∷ names) text (items ∷ files) (end ∷ notes) shifts are bytes h =
     let P = IsInFiles media options first (name ∷ names) text in
     let small = one-small (text name) items end (All-head AreBytes (text name) (map text names) bytes) h.0 in
     subst (All P) (sym (flat_map-append (λ (r : Row). verdict_fails r.key r.verdict) (rows_of options first media items)
     (rows_of_files options (first + 1) media files)))
     (All-append P (fails_of (rows_of options first media items)) (fails_of (rows_of_files options (first + 1) media files))
     (All-weaker (IsInFile media options first items) P (here-finds media options first name names text items end h.0) (fails_of (rows_of options first media items))
-    (all-rows media options first items are (λ m. flow-grouped m options 0 (2 ^ 36) items seconds (omega arith) small)))
+    (all-rows media options first items are (λ m. flow-grouped m options 0 (2 ^ 36) items shifts (omega arith) small)))
     (All-weaker (IsInFiles media options (first + 1) names text) P
     (λ c k. record { place = suc k.place; within = omega (arith, k.within); file_is = omega (arith, k.file_is); m = k.m; there = k.there; finds = k.finds })
     (fails_of (rows_of_files options (first + 1) media files))
-    (files-rows media options (first + 1) names text files notes seconds are (All-tail AreBytes (text name) (map text names) bytes) h.1)))
-files-rows media options first [] text [] (n ∷ ns) seconds are bytes h = absurd h
-files-rows media options first [] text (f ∷ fs) notes seconds are bytes h = absurd h
-files-rows media options first (name ∷ names) text [] notes seconds are bytes h = absurd h
-files-rows media options first (name ∷ names) text (f ∷ fs) [] seconds are bytes h = absurd h
+    (files-rows media options (first + 1) names text files notes shifts are (All-tail AreBytes (text name) (map text names) bytes) h.1)))
+files-rows media options first [] text [] (n ∷ ns) shifts are bytes h = absurd h
+files-rows media options first [] text (f ∷ fs) notes shifts are bytes h = absurd h
+files-rows media options first (name ∷ names) text [] notes shifts are bytes h = absurd h
+files-rows media options first (name ∷ names) text (f ∷ fs) [] shifts are bytes h = absurd h
 
 -- a fail of the job's rows, which its captures confirm
 abbrev pub IsConfirmed : ReportJob → List Media → (List ℕ → List ℕ) → ReportProof → Type 0
@@ -138,9 +137,9 @@ job_with sdp name options captures joined = record { sdp = sdp; report = name; o
 -- the captures confirm each fail of the rows, joined or each for itself
 pub confirmed-rows : (sdp name : List ℕ) (options : FlowOptions) (captures : List (List ℕ)) (b : Bool) (media : List Media) (text : List ℕ → List ℕ)
     (files : List (List Record)) (notes : List FileNote)
-    → options ≤ 1000 → length captures ≤ 16 → All IsMedia media → All AreBytes (map text captures) → AreRecords (map text captures) files notes
+    → AreFlowOptions options → length captures ≤ 16 → All IsMedia media → All AreBytes (map text captures) → AreRecords (map text captures) files notes
     → All (IsConfirmed (job_with sdp name options captures b) media text) (fails_of (rows_over b options media files))
-confirmed-rows sdp name options captures true media text files notes seconds few are bytes h =
+confirmed-rows sdp name options captures true media text files notes shifts few are bytes h =
     let job = job_with sdp name options captures true in
     let texts = map text captures in
     let count : length texts ≡ length captures = length-map captures text in
@@ -149,11 +148,11 @@ confirmed-rows sdp name options captures true media text files notes seconds few
     (λ c k. subst (λ o. FindsOf o job c text (Ok true)) (sym (media-there 1 media c k.m (omega (arith, k.file_is)) k.there))
     record { files = files; notes = notes; records = h; says = k.says })
     (fails_of (rows_of options 0 media (joined files)))
-    (all-rows media options 0 (joined files) are (λ m. flow-grouped m options 0 (2 ^ 36 * length texts) (joined files) seconds (omega (arith, count, few)) small))
-confirmed-rows sdp name options captures false media text files notes seconds few are bytes h =
+    (all-rows media options 0 (joined files) are (λ m. flow-grouped m options 0 (2 ^ 36 * length texts) (joined files) shifts (omega (arith, count, few)) small))
+confirmed-rows sdp name options captures false media text files notes shifts few are bytes h =
     let job = job_with sdp name options captures false in
     All-weaker (IsInFiles media options 0 captures text) (IsConfirmed job media text)
     (λ c k. let e : k.place ≡ c.key.file = omega (arith, k.file_is) in
     subst (λ o. FindsOf o job c text (Ok true)) (sym (media-there (length captures) media c k.m (omega (arith, k.file_is, k.within)) k.there))
     (subst (λ i. Finds k.m c options (text (slice_index_or captures i []) ∷ []) (Ok true)) e k.finds))
-    (fails_of (rows_of_files options 0 media files)) (files-rows media options 0 captures text files notes seconds are bytes h)
+    (fails_of (rows_of_files options 0 media files)) (files-rows media options 0 captures text files notes shifts are bytes h)

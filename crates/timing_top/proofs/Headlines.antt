@@ -71,7 +71,7 @@ the-report job media captures answer is are bytes many h = record {
   defined = h;
   only = λ other k. only-report job media (map classic captures) other answer k h;
   workers = λ number. same-report job number media (map classic captures) answer h;
-  rows_are = rows-exact job.joined job.options media (map classic captures) h.files h.notes is.tai_most
+  rows_are = rows-exact job.joined job.options media (map classic captures) h.files h.notes is.options_are
       (omega (arith, length-map captures classic, many, is.captures_are.few)) are (each-bytes captures bytes) h.records;
 }
 

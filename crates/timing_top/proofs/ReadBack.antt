@@ -37,7 +37,7 @@ report-told job media text files notes is h few =
     keys-over job.joined job.options media files ∙ ap (λ n. keys_of job.joined n (length media)) size in
     let most : length texts ≤ 16 = omega (arith, count, is.job_is.captures_are.few) in
     read-back job media notes (rows_over job.joined job.options media files) is.job_is is.session is.media_are are
-    (rows-fit job.joined job.options media texts files notes is.job_is.tai_most most is.media_are is.bytes h) is.names few
+    (rows-fit job.joined job.options media texts files notes is.job_is.options_are most is.media_are is.bytes h) is.names few
 
 -- and the captures confirm each
 pub report-confirmed : (job : CheckJob) (media : List Media) (text : List ℕ → List ℕ) (name : List ℕ) (files : List (List Record)) (notes : List FileNote)
@@ -45,7 +45,7 @@ pub report-confirmed : (job : CheckJob) (media : List Media) (text : List ℕ �
     → AreRecords (map text job.captures) files notes → All (IsConfirmed (reading_back job name) media text)
     (fails_of (rows_over job.joined job.options media files))
 report-confirmed job media text name files notes is records =
-    confirmed-rows job.sdp name job.options job.captures job.joined media text files notes is.job_is.tai_most is.job_is.captures_are.few is.media_are is.bytes
+    confirmed-rows job.sdp name job.options job.captures job.joined media text files notes is.job_is.options_are is.job_is.captures_are.few is.media_are is.bytes
     records
 
 same-some : (a b : List ReportProof) (o : Option (List ReportProof)) → o ≡ Some a → o ≡ Some b → a ≡ b

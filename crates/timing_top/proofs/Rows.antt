@@ -3,7 +3,7 @@ use Rattle.std.proofs.Common.{◌≡◌, ◌≤◌, ◌+◌, ◌*◌, ◌^◌, �
 use Rattle.std.proofs.lemmas.List.{map-append}
 use Rattle.std.proofs.lemmas.List.Elements.{All-append, All-cons, All-head, All-nil, All-tail}
 use Rattle.std.specs.Prelude.{All, map}
-use Rattle.timing_base.specs.Shifts.{FlowOptions}
+use Rattle.timing_base.specs.Shifts.{AreFlowOptions, FlowOptions}
 use Rattle.timing_base.specs.Captures.{Record, joined}
 use Rattle.timing_base.specs.Keys.{key_of, keys_of, keys_of_file, keys_of_files}
 use Rattle.timing_base.specs.Media.{IsMedia, Media}
@@ -51,32 +51,32 @@ records-length [] (f ∷ fs) notes h = absurd h
 records-length (t ∷ ts) [] notes h = absurd h
 records-length (t ∷ ts) (f ∷ fs) [] h = absurd h
 
-fits-from : (options : FlowOptions) (file number before most : ℕ) (ms : List Media) (items : List Record) → options ≤ 1000 → before + most ≤ 2 ^ 40 → All IsMedia ms
+fits-from : (options : FlowOptions) (file number before most : ℕ) (ms : List Media) (items : List Record) → AreFlowOptions options → before + most ≤ 2 ^ 40 → All IsMedia ms
     → AreSmall before most items
     → All Fitting (rows_from options file number ms items)
-fits-from options file number before most [] items seconds few are h = All-nil Fitting
-fits-from options file number before most (m ∷ ms) items seconds few are h =
+fits-from options file number before most [] items shifts few are h = All-nil Fitting
+fits-from options file number before most (m ∷ ms) items shifts few are h =
     All-cons Fitting (row (flow items m) (key_of file number) m options) (rows_from options file (number + 1) ms items)
-    (flow-fits m options before most items (All-head IsMedia m ms are) seconds few h)
-    (fits-from options file (number + 1) before most ms items seconds few (All-tail IsMedia m ms are) h)
+    (flow-fits m options before most items (All-head IsMedia m ms are) shifts few h)
+    (fits-from options file (number + 1) before most ms items shifts few (All-tail IsMedia m ms are) h)
 
-fits-files : (options : FlowOptions) (first : ℕ) (media : List Media) (texts : List (List ℕ)) (files : List (List Record)) (notes : List FileNote) → options ≤ 1000 → All IsMedia media
+fits-files : (options : FlowOptions) (first : ℕ) (media : List Media) (texts : List (List ℕ)) (files : List (List Record)) (notes : List FileNote) → AreFlowOptions options → All IsMedia media
     → All AreBytes texts
     → AreRecords texts files notes → All Fitting (rows_of_files options first media files)
-fits-files options first media [] [] [] seconds are bytes h = All-nil Fitting
-fits-files options first media (t ∷ ts) (f ∷ fs) (n ∷ ns) seconds are bytes h =
+fits-files options first media [] [] [] shifts are bytes h = All-nil Fitting
+fits-files options first media (t ∷ ts) (f ∷ fs) (n ∷ ns) shifts are bytes h =
     All-append Fitting (rows_of options first media f) (rows_of_files options (first + 1) media fs)
-    (fits-from options first 0 0 (2 ^ 36) media f seconds (omega arith) are (one-small t f n (All-head AreBytes t ts bytes) h.0))
-    (fits-files options (first + 1) media ts fs ns seconds are (All-tail AreBytes t ts bytes) h.1)
-fits-files options first media [] [] (n ∷ ns) seconds are bytes h = absurd h
-fits-files options first media [] (f ∷ fs) notes seconds are bytes h = absurd h
-fits-files options first media (t ∷ ts) [] notes seconds are bytes h = absurd h
-fits-files options first media (t ∷ ts) (f ∷ fs) [] seconds are bytes h = absurd h
+    (fits-from options first 0 0 (2 ^ 36) media f shifts (omega arith) are (one-small t f n (All-head AreBytes t ts bytes) h.0))
+    (fits-files options (first + 1) media ts fs ns shifts are (All-tail AreBytes t ts bytes) h.1)
+fits-files options first media [] [] (n ∷ ns) shifts are bytes h = absurd h
+fits-files options first media [] (f ∷ fs) notes shifts are bytes h = absurd h
+fits-files options first media (t ∷ ts) [] notes shifts are bytes h = absurd h
+fits-files options first media (t ∷ ts) (f ∷ fs) [] shifts are bytes h = absurd h
 
 -- the numbers of the rows
-pub rows-fit : (b : Bool) (options : FlowOptions) (media : List Media) (texts : List (List ℕ)) (files : List (List Record)) (notes : List FileNote) → options ≤ 1000
+pub rows-fit : (b : Bool) (options : FlowOptions) (media : List Media) (texts : List (List ℕ)) (files : List (List Record)) (notes : List FileNote) → AreFlowOptions options
     → length texts ≤ 16 → All IsMedia media
     → All AreBytes texts → AreRecords texts files notes → All Fitting (rows_over b options media files)
-rows-fit true options media texts files notes seconds few are bytes h =
-    fits-from options 0 0 0 (2 ^ 36 * length texts) media (joined files) seconds (omega (arith, few)) are (joined-small 0 texts files notes bytes h)
-rows-fit false options media texts files notes seconds few are bytes h = fits-files options 0 media texts files notes seconds are bytes h
+rows-fit true options media texts files notes shifts few are bytes h =
+    fits-from options 0 0 0 (2 ^ 36 * length texts) media (joined files) shifts (omega (arith, few)) are (joined-small 0 texts files notes bytes h)
+rows-fit false options media texts files notes shifts few are bytes h = fits-files options 0 media texts files notes shifts are bytes h

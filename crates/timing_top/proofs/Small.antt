@@ -6,7 +6,7 @@ use Rattle.std.proofs.lemmas.List.{length-map}
 use Rattle.std.proofs.lemmas.List.Elements.{All-append, All-cons, All-drop, All-head, All-map, All-nil, All-tail, All-take, All-weaker}
 use Rattle.std.specs.List.{cons_option}
 use Rattle.std.specs.Prelude.{All, Result, Ok, Err, if◌then◌else◌, map, nat_lt, slice_index, ◌==◌}
-use Rattle.timing_base.specs.Shifts.{FlowOptions}
+use Rattle.timing_base.specs.Shifts.{AreFlowOptions, FlowOptions}
 use Rattle.timing_base.specs.Captures.{IsStamp, Record, joined_after, raised}
 use Rattle.timing_base.specs.Flows.{AreStamped}
 use Rattle.timing_base.specs.Grouped.{IsGroupedVerdict}
@@ -171,7 +171,7 @@ flow-few m [] = omega arith
 flow-few m (r ∷ rs) = omega (arith, cons-few (flow_packet m r) (flow rs m), flow-few m rs)
 
 -- so each flow is judged in whole groups
-pub flow-grouped : (m : Media) (options : FlowOptions) (before most : ℕ) (items : List Record) → options ≤ 1000 → most ≤ 2 ^ 40 → AreSmall before most items
+pub flow-grouped : (m : Media) (options : FlowOptions) (before most : ℕ) (items : List Record) → AreFlowOptions options → most ≤ 2 ^ 40 → AreSmall before most items
     → IsGroupedVerdict (judged (flow items m) m.pt options)
-flow-grouped m options before most items seconds few h =
-    judged-grouped (flow items m) m.pt options (omega (arith, flow-few m items, h.few, few)) seconds (flow-stamped m (before + most) items h.each)
+flow-grouped m options before most items shifts few h =
+    judged-grouped (flow items m) m.pt options (omega (arith, flow-few m items, h.few, few)) shifts (flow-stamped m (before + most) items h.each)

@@ -6,16 +6,17 @@ use Rattle.std.proofs.lemmas.List.{length-map}
 use Rattle.std.proofs.lemmas.List.Elements.{All-append, All-cons, All-drop, All-head, All-map, All-nil, All-tail, All-take, All-weaker}
 use Rattle.std.specs.Option.{ForSome}
 use Rattle.std.specs.Prelude.{All, IsSome, Result, Ok, Err, if◌then◌else◌, map, nat_le, nat_lt, slice_index, ◌&&◌, ◌==◌, ⊤}
-use Rattle.timing_base.specs.Shifts.{FlowOptions}
+use Rattle.timing_base.specs.Shifts.{AreFlowOptions, FlowOptions, IsShift, Shift}
 use Rattle.timing_base.specs.Captures.{Record}
 use Rattle.timing_base.specs.Flows.{AreStamped, FirstFault, cuts, expected_number, fault, fault_if, first_fault, first_of, group_len, is_cut, is_cut_too_many}
 use Rattle.timing_base.specs.Flows.{is_other_payload, is_other_size, is_second_source, is_stamp_back, is_too_large, lacks_marker, markers, markers_before}
 use Rattle.timing_base.specs.Flows.{next_number, order_fault, packet, place_in_group, places, read_or_zeros, reading_fault, repeats_timestamp, rtp}
 use Rattle.timing_base.specs.Flows.{sender_fault, size_fault}
 use Rattle.timing_base.specs.Grouped.{AreGrouped, ExpectsAfterFirst, IsGrouped, IsGroupedOutcome, IsGroupedVerdict}
-use Rattle.timing_base.specs.Judged.{FlowRun, FlowVerdict, JudgedRun, RunOutcome, absent, head_len, in_one_run, in_runs, judged, judged_run, judged_runs}
+use Rattle.timing_base.specs.Judged.{FlowRun, FlowVerdict, JudgedRun, RunOutcome, absent, head_len, in_one_run, in_runs, judged, judged_as_numbered, judged_run, judged_runs}
 use Rattle.timing_base.specs.Judged.{no_whole_frame, refusal, refused_or, run_at, run_outcome, runs, runs_between, whole_frames}
 use Rattle.timing_base.specs.Media.{IsMedia, Media}
+use Rattle.timing_base.specs.Numbered.{counted, counted_from, counted_packet, counted_rtp, number_after, numbered}
 use Rattle.timing_base.specs.Rows.{ExpectAfterFirst}
 use Rattle.timing_base.specs.declared.fail.Broken.{Broken}
 use Rattle.timing_base.specs.declared.fail.Broken.TheVariants.{Bucket, Over, Empty}
@@ -32,6 +33,7 @@ use Rattle.timing_base.specs.declared.row.KindVerdict.TheVariants.{Pass, Fail}
 use Rattle.timing_base.specs.declared.row.Run.{Run}
 use Rattle.timing_base.proofs.FirstFaults.{first_fault-is}
 use Rattle.timing_base.proofs.Grouped.{unfaulted-grouped}
+use Rattle.timing_base.proofs.Numberings.{length-numbered, stamped-numbered}
 use Rattle.sender_params.specs.Keeps.{BreaksLimit, held_at}
 use Rattle.sender_params.specs.Ticks.{NeverFall, ticks_at}
 use Rattle.drain_bucket.specs.Word.{bucket_of, count_after}
@@ -251,11 +253,11 @@ outcome-case : (m : Media) (b : Bool) (head : ℕ) (j : JudgedRun) → IsMedia m
 outcome-case m true head j is h hj tj g = h
 outcome-case m false head j is h hj tj g = judged-fits m j is g hj tj
 
-outcome-fits : (m : Media) (packets : List FlowPacket) (options : FlowOptions) (from to : ℕ) → IsMedia m → to ≤ 2 ^ 41 → IsGroupedOutcome (run_outcome packets options from to)
-    → FitsRunVerdict (run_verdict_of m (run_outcome packets options from to))
-outcome-fits m packets options from to is few g =
+outcome-fits : (m : Media) (packets : List FlowPacket) (shift : Shift) (from to : ℕ) → IsMedia m → to ≤ 2 ^ 41 → IsGroupedOutcome (run_outcome packets shift from to)
+    → FitsRunVerdict (run_verdict_of m (run_outcome packets shift from to))
+outcome-fits m packets shift from to is few g =
     let head : IsWord (head_len (markers packets from to) from to) = omega (arith, head-low packets from to, few) in
-    outcome-case m (nat_lt (length (markers packets from to)) 2) (head_len (markers packets from to) from to) (judged_run packets options from to) is head head
+    outcome-case m (nat_lt (length (markers packets from to)) 2) (head_len (markers packets from to) from to) (judged_run packets shift from to) is head head
     (omega (arith, few)) g
 
 one-case : (m : Media) (o : RunOutcome) → FitsRunVerdict (run_verdict_of m o) → FitsVerdict (verdict_of m (in_one_run o))
@@ -266,31 +268,31 @@ expected-case : (b : Bool) (y : ℕ) → IsWord y → ForSome (if b then None el
 expected-case true y h = λ x e. cc
 expected-case false y h = λ x e. let same : y ≡ x = cc in subst IsWord same h
 
-run-fits : (m : Media) (most : ℕ) (packets : List FlowPacket) (options : FlowOptions) (from to : ℕ) → IsMedia m → most ≤ 2 ^ 41 → All (IsSmallPacket most) packets → to ≤ 2 ^ 41
-    → IsGroupedOutcome (run_outcome packets options from to) → FitsRun (run_of m (run_at packets options from to))
-run-fits m most packets options from to is few small low g =
+run-fits : (m : Media) (most : ℕ) (packets : List FlowPacket) (shift : Shift) (from to : ℕ) → IsMedia m → most ≤ 2 ^ 41 → All (IsSmallPacket most) packets → to ≤ 2 ^ 41
+    → IsGroupedOutcome (run_outcome packets shift from to) → FitsRun (run_of m (run_at packets shift from to))
+run-fits m most packets shift from to is few small low g =
     let here = packet-at most packets from small in
     record {
       rec = omega (arith, here.rec, few);
       number = word-of _ here.read.number;
       expected = expected-case (from == 0) (expected_number packets from) (next-small _);
-      outcome = outcome-fits m packets options from to is low g;
+      outcome = outcome-fits m packets shift from to is low g;
     }
 
-runs-fit : (m : Media) (most : ℕ) (packets : List FlowPacket) (options : FlowOptions) (to from : ℕ) (cs : List ℕ) → IsMedia m → most ≤ 2 ^ 41 → All (IsSmallPacket most) packets
+runs-fit : (m : Media) (most : ℕ) (packets : List FlowPacket) (shift : Shift) (to from : ℕ) (cs : List ℕ) → IsMedia m → most ≤ 2 ^ 41 → All (IsSmallPacket most) packets
     → to ≤ 2 ^ 41 → All (λ k. k < to) cs
-    → All (λ run. IsGroupedOutcome run.outcome) (runs_between packets options to from cs) → All FitsRun (map (run_of m) (runs_between packets options to from cs))
-runs-fit m most packets options to from [] is few small low cut g =
-    All-cons FitsRun (run_of m (run_at packets options from to)) []
-    (run-fits m most packets options from to is few small low (All-head (λ (run : FlowRun). IsGroupedOutcome run.outcome) (run_at packets options from to) [] g))
+    → All (λ run. IsGroupedOutcome run.outcome) (runs_between packets shift to from cs) → All FitsRun (map (run_of m) (runs_between packets shift to from cs))
+runs-fit m most packets shift to from [] is few small low cut g =
+    All-cons FitsRun (run_of m (run_at packets shift from to)) []
+    (run-fits m most packets shift from to is few small low (All-head (λ (run : FlowRun). IsGroupedOutcome run.outcome) (run_at packets shift from to) [] g))
     (All-nil FitsRun)
-runs-fit m most packets options to from (c ∷ cs) is few small low cut g =
+runs-fit m most packets shift to from (c ∷ cs) is few small low cut g =
     let P : FlowRun → Type 0 = λ run. IsGroupedOutcome run.outcome in
     let here : c < to = All-head (λ k. k < to) c cs cut in
-    All-cons FitsRun (run_of m (run_at packets options from c)) (map (run_of m) (runs_between packets options to c cs))
-    (run-fits m most packets options from c is few small (omega (arith, here, low)) (All-head P (run_at packets options from c) (runs_between packets options to c cs) g))
-    (runs-fit m most packets options to c cs is few small low (All-tail (λ k. k < to) c cs cut)
-    (All-tail P (run_at packets options from c) (runs_between packets options to c cs) g))
+    All-cons FitsRun (run_of m (run_at packets shift from c)) (map (run_of m) (runs_between packets shift to c cs))
+    (run-fits m most packets shift from c is few small (omega (arith, here, low)) (All-head P (run_at packets shift from c) (runs_between packets shift to c cs) g))
+    (runs-fit m most packets shift to c cs is few small low (All-tail (λ k. k < to) c cs cut)
+    (All-tail P (run_at packets shift from c) (runs_between packets shift to c cs) g))
 
 expects : (m : Media) (rs : List FlowRun) → ExpectsAfterFirst rs → ExpectAfterFirst (map (run_of m) rs)
 expects m [] h = tt
@@ -319,23 +321,49 @@ judged-case m true v h = tt
 judged-case m false v h = h
 
 -- the verdict on a flow
-verdict-fits : (m : Media) (most : ℕ) (options : FlowOptions) (packets : List FlowPacket) → IsMedia m → options ≤ 1000 → most ≤ 2 ^ 41 → length packets < 2 ^ 41 → AreStamped packets
+verdict-fits : (m : Media) (most : ℕ) (shift : Shift) (packets : List FlowPacket) → IsMedia m → IsShift shift → most ≤ 2 ^ 41 → length packets < 2 ^ 41 → AreStamped packets
     → All (IsSmallPacket most) packets
-    → FitsVerdict (verdict_of m (judged packets m.pt options))
-verdict-fits m most options packets is seconds few long stamped small =
+    → FitsVerdict (verdict_of m (judged_as_numbered packets m.pt shift))
+verdict-fits m most shift packets is shifts few long stamped small =
     judged-case m (length packets == 0) _
-    (refused-case m packets (first_fault packets m.pt) (judged_runs packets options)
+    (refused-case m packets (first_fault packets m.pt) (judged_runs packets shift)
     (λ i. let here = packet-at most packets i small in omega (arith, here.rec, few))
     (λ x e. fault-of most packets m.pt x small e)
-    (λ e. runs-case m (length (cuts packets (length packets)) == 0) (run_outcome packets options 0 (length packets)) (runs packets options)
-    (λ g. outcome-fits m packets options 0 (length packets) is (omega (arith, long)) g)
-    (λ g. runs-fit m most packets options (length packets) 0 (cuts packets (length packets)) is few small (omega (arith, long))
+    (λ e. runs-case m (length (cuts packets (length packets)) == 0) (run_outcome packets shift 0 (length packets)) (runs packets shift)
+    (λ g. outcome-fits m packets shift 0 (length packets) is (omega (arith, long)) g)
+    (λ g. runs-fit m most packets shift (length packets) 0 (cuts packets (length packets)) is few small (omega (arith, long))
     (places-low (is_cut packets) 0 (length packets)) g.outcomes)
-    (unfaulted-grouped packets m.pt options long seconds stamped e)))
+    (unfaulted-grouped packets m.pt shift long shifts stamped e)))
+
+-- counted numbers are small too
+counted-small : (before : Option ℕ) (n : ℕ) → counted before n < 2 ^ 32
+counted-small None n = omega arith
+counted-small (Some before) n = omega arith
+
+counted-read : (before : Option ℕ) (read : Result Rtp PacketFault) → IsRead read → IsRead (counted_rtp before read)
+counted-read before (Ok r) h = record { number = counted-small before r.number; fault = tt }
+counted-read before (Err fault) h = h
+
+counted_from-small : (most : ℕ) (before : Option ℕ) (packets : List FlowPacket) → All (IsSmallPacket most) packets
+    → All (IsSmallPacket most) (counted_from before packets)
+counted_from-small most before [] small = All-nil (IsSmallPacket most)
+counted_from-small most before (p ∷ ps) small =
+    let here = All-head (IsSmallPacket most) p ps small in
+    All-cons (IsSmallPacket most) (counted_packet before p) (counted_from (number_after before (counted_rtp before p.rtp)) ps)
+    (record { rec = here.rec; read = counted-read before p.rtp here.read })
+    (counted_from-small most (number_after before (counted_rtp before p.rtp)) ps (All-tail (IsSmallPacket most) p ps small))
+
+numbered-small : (most : ℕ) (seq16 : Bool) (packets : List FlowPacket) → All (IsSmallPacket most) packets
+    → All (IsSmallPacket most) (numbered seq16 packets)
+numbered-small most false packets small = small
+numbered-small most true packets small = counted_from-small most None packets small
 
 -- the verdict on a flow of small records
-pub flow-fits : (m : Media) (options : FlowOptions) (before most : ℕ) (items : List Record) → IsMedia m → options ≤ 1000 → before + most ≤ 2 ^ 40 → AreSmall before most items
-    → FitsVerdict (verdict_of m (judged (flow items m) m.pt options))
-flow-fits m options before most items is seconds few h =
-    verdict-fits m (before + most) options (flow items m) is seconds (omega (arith, few)) (omega (arith, flow-few m items, h.few, few))
-    (flow-stamped m (before + most) items h.each) (flow-small m (before + most) items h.each)
+pub flow-fits : (m : Media) (options : FlowOptions) (before most : ℕ) (items : List Record) → IsMedia m → AreFlowOptions options → before + most ≤ 2 ^ 40
+    → AreSmall before most items → FitsVerdict (verdict_of m (judged (flow items m) m.pt options))
+flow-fits m options before most items is shifts few h =
+    let packets = flow items m in
+    verdict-fits m (before + most) options.shift (numbered options.seq16 packets) is shifts (omega (arith, few))
+    (omega (arith, length-numbered options.seq16 packets, flow-few m items, h.few, few))
+    (stamped-numbered options.seq16 packets (flow-stamped m (before + most) items h.each))
+    (numbered-small (before + most) options.seq16 packets (flow-small m (before + most) items h.each))

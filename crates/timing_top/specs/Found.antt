@@ -49,11 +49,10 @@ Judges rows media tells from old new sources outcome =
     sources rows media outcome
 
 -- captures that may be judged: at most 16 and 64 media, no read of them has failed, and at most 1,000 seconds are added
-pub record AreReady {S : Type 0} (faults : S → ℕ) (sources : List S) (media : List Media) (options : FlowOptions) : Type 0 where
+pub record AreReady {S : Type 0} (faults : S → ℕ) (sources : List S) (media : List Media) : Type 0 where
   pub few : length sources ≤ 16
   pub fresh : All (λ source. faults source ≡ 0) sources
   pub few_media : length media ≤ 64
-  pub few_seconds : options ≤ 1000
 
 -- one more capture was judged by itself: its note and its results were appended
 pub record FindsNext (text : List ℕ) (media : List Media) (options : FlowOptions) (file : ℕ) (old_notes new_notes : List FileNote)

@@ -1,7 +1,6 @@
 //! Judges the captures of a job on one thread.
 
 ghost use Rattle.std.specs.Prelude.{◌≡◌};
-ghost use Rattle.timing_base.specs.Shifts.{FlowOptions as FlowOptionsValue};
 ghost use Rattle.timing_outside.specs.Shelves.{StaysAs};
 ghost use Rattle.fail_interval.specs.Rows.{rows_over};
 ghost use Rattle.pcapng_reader.specs.Sources.{faults_of};
@@ -10,7 +9,7 @@ ghost use Rattle.timing_top.specs.Found.{AreReady, Judges};
 use crate::captures::Found;
 use pcapng_reader::Classic;
 use std::alloc::Global;
-use timing_base::Media;
+use timing_base::{FlowOptions, Media};
 use timing_outside::Shelf;
 use timing_steps::Failure;
 
@@ -37,7 +36,7 @@ impl Alone<'_> {
         shelf: &mut H,
         sources: Vec<Classic<H::Source>>,
     ) -> Result<Found, Failure>
-        requires ready { AreReady (faults_of H.Source.faults) sources.items self.now.media.now self.now.options }
+        requires ready { AreReady (faults_of H.Source.faults) sources.items self.now.media.now }
         ensures judged { Judges (rows_over self.now.joined self.now.options self.now.media.now) self.now.media.now
             H.Shelf H.Source.Source shelf.old shelf.new sources.items result }
         ensures stays { StaysAs H.text H.lacks H.faults shelf.old shelf.new }

@@ -1,7 +1,6 @@
 //! Judges the captures of a job one after the other, each by itself.
 
 ghost use Rattle.std.specs.Prelude.{◌≡◌, ◌≤◌, ◌<◌, ◌+◌, ℕ, List, Some, IfOk, IfErr, length};
-ghost use Rattle.timing_base.specs.Shifts.{FlowOptions as FlowOptionsValue};
 ghost use Rattle.timing_outside.specs.Causes.{Rose};
 ghost use Rattle.timing_outside.specs.Shelves.{StaysAs};
 ghost use Rattle.timing_report.specs.Outcomes.{AreOfSession};
@@ -14,7 +13,7 @@ use crate::alone::Alone;
 use fail_interval::Bank;
 use pcapng_reader::Classic;
 use std::alloc::Global;
-use timing_base::{FileNote, Media, Row};
+use timing_base::{FileNote, FlowOptions, Media, Row};
 use timing_outside::{Shelf, Source};
 use timing_report::Input;
 use timing_steps::{Failure, give_back, take_source};
@@ -75,7 +74,7 @@ impl Alone<'_> {
         shelf: &mut H,
         sources: Vec<Classic<H::Source>>,
     ) -> Result<Found, Failure>
-        requires ready { AreReady (faults_of H.Source.faults) sources.items self.now.media.now self.now.options }
+        requires ready { AreReady (faults_of H.Source.faults) sources.items self.now.media.now }
         ensures judged { Judges (rows_of_files self.now.options 0 self.now.media.now) self.now.media.now
             H.Shelf H.Source.Source shelf.old shelf.new sources.items result }
         ensures stays { StaysAs H.text H.lacks H.faults shelf.old shelf.new }
@@ -87,7 +86,14 @@ impl Alone<'_> {
         let mut outcome = Ok(());
         for source in sources {
             outcome = match outcome {
-                Ok(()) => judge_next(self.alloc, shelf, source, self.media, self.options, &mut found),
+                Ok(()) => judge_next(
+                    self.alloc,
+                    shelf,
+                    source,
+                    self.media,
+                    self.options,
+                    &mut found,
+                ),
                 Err(failure) => {
                     give_back(shelf, source);
                     Err(failure)

@@ -144,7 +144,9 @@ where
     let sources = fetch_captures(alloc, shelf, job.captures.as_slice())?;
     let media = session.media.as_slice();
     let (joined, options, workers) = (job.joined, job.options, job.workers);
-    let found = judge_many(rt, alloc, shelf, sources, media, joined, options, workers, gate)?;
+    let found = judge_many(
+        rt, alloc, shelf, sources, media, joined, options, workers, gate,
+    )?;
     report_on(alloc, job, session, &found)
 }
 

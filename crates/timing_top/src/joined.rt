@@ -74,7 +74,7 @@ impl Alone<'_> {
         shelf: &mut H,
         sources: Vec<Classic<H::Source>>,
     ) -> Result<Found, Failure>
-        requires ready { AreReady (faults_of H.Source.faults) sources.items self.now.media.now self.now.options }
+        requires ready { AreReady (faults_of H.Source.faults) sources.items self.now.media.now }
         ensures judged { Judges (λ files. rows_of self.now.options 0 self.now.media.now (joined files)) self.now.media.now
             H.Shelf H.Source.Source shelf.old shelf.new sources.items result }
         ensures stays { StaysAs H.text H.lacks H.faults shelf.old shelf.new }

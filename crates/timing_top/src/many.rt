@@ -1,7 +1,6 @@
 //! Judges the captures of a job with intake threads and workers.
 
 ghost use Rattle.std.specs.Prelude.{◌≡◌, ◌≤◌, ◌<◌, IfSome, Some, length, slice_index_or};
-ghost use Rattle.timing_base.specs.Shifts.{FlowOptions as FlowOptionsValue};
 ghost use Rattle.timing_base.specs.Targets.{HaveOwnTargets};
 ghost use Rattle.timing_base.specs.declared.capture.FileNote.TheVariants as file_note;
 ghost use Rattle.timing_base.specs.declared.capture.PcapFault.TheVariants as fault;
@@ -16,7 +15,7 @@ use pcapng_reader::Classic;
 use std::alloc::Global;
 use std::sync::Wait;
 use std::thread::Threads;
-use timing_base::{FileNote, Media, PcapFault};
+use timing_base::{FileNote, FlowOptions, Media, PcapFault};
 use timing_outside::{Gate, Shelf};
 use timing_report::Input;
 use timing_steps::{Failure, give_back_all};
@@ -70,7 +69,7 @@ pub fn judge_many<R: Threads + Wait + Sync, H: Shelf, G: Gate>(
 ) -> Result<Found, Failure>
 where
     H::Source: Send,
-    requires ready { AreReady (faults_of H.Source.faults) sources.items media.now options }
+    requires ready { AreReady (faults_of H.Source.faults) sources.items media.now }
     requires some { 1 ≤ length sources.items }
     requires some_media { 1 ≤ length media.now }
     requires targets { HaveOwnTargets media.now }

@@ -1,6 +1,7 @@
 //! `selftest`: judges captures that the program generates, in the way of `check`.
 
 ghost use Rattle.std.specs.Prelude.{◌≡◌, ◌≤◌, ◌<◌, [], ◌∷◌, IfOk, IfErr, codes, false, length, string_bytes};
+ghost use Rattle.timing_base.specs.Shifts.{no_options};
 ghost use Rattle.timing_base.specs.Media.{Media as MediaValue};
 ghost use Rattle.timing_base.specs.declared.capture.FileNote.{FileNote as Note};
 ghost use Rattle.timing_base.specs.declared.row.Row.{Row as RowValue};
@@ -25,7 +26,7 @@ use pcapng_reader::Classic;
 use std::alloc::{AllocError as OutOfMemory, Global};
 use std::sync::Wait;
 use std::thread::Threads;
-use timing_base::{FileName, Media, SelfTestJob, Session};
+use timing_base::{FileName, FlowOptions, Media, SelfTestJob, Session};
 use timing_outside::{Gate, MemorySink, Shelf, Sink, SteadyShelf};
 use timing_report::{Status, status_of, verdict_of};
 use timing_steps::{Answer, Failure, conclude, fetch_captures, fetch_session};
@@ -79,12 +80,12 @@ fn judge_made<R: Threads + Wait + Sync, H: Shelf, G: Gate>(
 ) -> Result<Found, Failure>
 where
     H::Source: Send,
-    requires ready { AreReady (faults_of H.Source.faults) sources.items media.now 0 }
+    requires ready { AreReady (faults_of H.Source.faults) sources.items media.now }
     requires some { 1 ≤ length sources.items }
     requires some_media { 1 ≤ length media.now }
     requires targets { HaveOwnTargets media.now }
     requires few_workers { workers ≤ 16 }
-    ensures judged { Judges (rows_over false 0 media.now) media.now
+    ensures judged { Judges (rows_over false no_options media.now) media.now
         H.Shelf H.Source.Source shelf.old shelf.new sources.items result }
     ensures stays { StaysAs H.text H.lacks H.faults shelf.old shelf.new }
 {
@@ -93,11 +94,21 @@ where
             alloc,
             media,
             joined: false,
-            options: 0,
+            options: FlowOptions::NONE,
         };
         alone.judge(shelf, sources)
     } else {
-        judge_many(rt, alloc, shelf, sources, media, false, 0, workers, gate)
+        judge_many(
+            rt,
+            alloc,
+            shelf,
+            sources,
+            media,
+            false,
+            FlowOptions::NONE,
+            workers,
+            gate,
+        )
     }
 }
 

@@ -4,6 +4,7 @@ use Rattle.std.specs.Prelude.{codes, if◌then◌else◌, nat_le, option_map}
 use Rattle.std.specs.List.{list_all}
 use Rattle.std.specs.Str.{bytes_eq}
 use Rattle.std.proofs.lemmas.Bool.{leb-true}
+use Rattle.timing_base.specs.Shifts.{FlowOptions, AreFlowOptions}
 use Rattle.timing_base.specs.Jobs.{CaptureJob, CheckJob, FlowJob, IsCaptureJob, IsCheckJob, IsFlowJob, IsReportJob, IsSelfTestJob}
 use Rattle.timing_base.specs.Jobs.{IsSkewJob, IsVerifyJob, ReportJob, SelfTestJob, SeriesJob, ShapeJob}
 use Rattle.timing_base.specs.Jobs.{SkewJob, VerifyJob}
@@ -17,7 +18,7 @@ use Rattle.timing_words.specs.Line.{Stands, Text, line, stands}
 use Rattle.timing_words.specs.Request.{asked, asked_by, capture_asked, check_asked, check_workers, command_named, file_name, file_names}
 use Rattle.timing_words.specs.Request.{flow_asked, given, help_asked, kind_named, media, need, number, passing}
 use Rattle.timing_words.specs.Request.{proof_asked, report_asked, request, scan_asked, sdp_asked, self_test_asked, series_asked, shape_asked, skew_asked}
-use Rattle.timing_words.specs.Request.{sole, sorts, tai, test_workers, verify_asked, written}
+use Rattle.timing_words.specs.Request.{delay, options_asked, sole, sorts, tai, test_workers, verify_asked, written}
 use Rattle.timing_words.proofs.Checks.{both_true}
 
 -- a step that was needed gave something
@@ -60,6 +61,19 @@ tai-most : (o : Option Text) (n : ℕ) → tai o ≡ Some n → n ≤ 1000
 tai-most None n e = subst (λ m. m ≤ 1000) (same 0 n e) (omega arith)
 tai-most (Some t) n e = (within 0 1000 t n e).1
 
+delay-most : (o : Option Text) (n : ℕ) → delay o ≡ Some n → n ≤ 999999999
+delay-most None n e = subst (λ m. m ≤ 999999999) (same 0 n e) (omega arith)
+delay-most (Some t) n e = (within 0 999999999 t n e).1
+
+options-within : (l : Stands) (options : FlowOptions) → options_asked l ≡ Some options → AreFlowOptions options
+options-within l options e =
+    let a = needed (tai (l.value (codes "tai"))) _ options e in
+    let b = needed (delay (l.value (codes "delay"))) _ options a.rest in
+    subst AreFlowOptions (same _ options b.rest) record {
+      tai_most = tai-most (l.value (codes "tai")) a.a a.gave;
+      delay_most = delay-most (l.value (codes "delay")) b.a b.gave;
+    }
+
 workers-few : (o : Option Text) (b : Bool) (n : ℕ) → check_workers o b ≡ Some n → n ≤ 16
 workers-few None false n e = subst (λ m. m ≤ 16) (same 4 n e) (omega arith)
 workers-few None true n e = subst (λ m. m ≤ 16) (same 0 n e) (omega arith)
@@ -88,13 +102,13 @@ check-within : (l : Stands) (job : CheckJob) → check_asked l ≡ Some job → 
 check-within l job e =
     let a = needed (given (codes "sdp") l file_name) _ job e in
     let b = needed (check_workers (l.value (codes "workers")) (l.flag (codes "serial"))) _ job a.rest in
-    let c = needed (tai (l.value (codes "tai"))) _ job b.rest in
+    let c = needed (options_asked l) _ job b.rest in
     let d = needed (file_names 16 l.names) _ job c.rest in
     let few = names-few 16 l.names d.a d.gave in
     subst IsCheckJob (same _ job d.rest) record {
       captures_are = record { some = few.0; few = few.1 };
       workers_few = workers-few (l.value (codes "workers")) (l.flag (codes "serial")) b.a b.gave;
-      tai_most = tai-most (l.value (codes "tai")) c.a c.gave;
+      options_are = options-within l c.a c.gave;
     }
 
 verify-within : (l : Stands) (job : VerifyJob) → verify_asked l ≡ Some job → IsVerifyJob job
@@ -103,14 +117,14 @@ verify-within l job e =
     let b = needed (given (codes "media") l media) _ job a.rest in
     let c = needed (given (codes "type") l kind_named) _ job b.rest in
     let d = needed (proof_asked l) _ job c.rest in
-    let f = needed (tai (l.value (codes "tai"))) _ job d.rest in
+    let f = needed (options_asked l) _ job d.rest in
     let g = needed (file_names (if l.flag (codes "joined") then 16 else 1) l.names) _ job f.rest in
     let m = needed (l.value (codes "media")) media b.a b.gave in
     let few = names-few (if l.flag (codes "joined") then 16 else 1) l.names g.a g.gave in
     let most = captures-most (l.flag (codes "joined")) (length g.a) few.1 in
     subst IsVerifyJob (same _ job g.rest) record {
       media_few = media-few m.a b.a m.rest;
-      tai_most = tai-most (l.value (codes "tai")) f.a f.gave;
+      options_are = options-within l f.a f.gave;
       captures_are = record { some = few.0; few = most.0 };
       alone = λ joined. let one = most.1 joined in omega (arith, one, few.0);
     }
@@ -119,10 +133,10 @@ report-within : (l : Stands) (job : ReportJob) → report_asked l ≡ Some job �
 report-within l job e =
     let a = needed (given (codes "sdp") l file_name) _ job e in
     let b = needed (given (codes "report") l file_name) _ job a.rest in
-    let c = needed (tai (l.value (codes "tai"))) _ job b.rest in
+    let c = needed (options_asked l) _ job b.rest in
     let d = needed (file_names 16 l.names) _ job c.rest in
     let few = names-few 16 l.names d.a d.gave in
-    subst IsReportJob (same _ job d.rest) record { tai_most = tai-most (l.value (codes "tai")) c.a c.gave; captures_are = record { some = few.0; few = few.1 } }
+    subst IsReportJob (same _ job d.rest) record { options_are = options-within l c.a c.gave; captures_are = record { some = few.0; few = few.1 } }
 
 self_test-within : (l : Stands) (job : SelfTestJob) → self_test_asked l ≡ Some job → IsSelfTestJob job
 self_test-within l job e =
@@ -140,10 +154,10 @@ flow-within : (l : Stands) (job : FlowJob) → flow_asked l ≡ Some job → IsF
 flow-within l job e =
     let a = needed (given (codes "sdp") l file_name) _ job e in
     let b = needed (given (codes "media") l media) _ job a.rest in
-    let c = needed (tai (l.value (codes "tai"))) _ job b.rest in
+    let c = needed (options_asked l) _ job b.rest in
     let d = needed (need (sole l.names) file_name) _ job c.rest in
     let m = needed (l.value (codes "media")) media b.a b.gave in
-    subst IsFlowJob (same _ job d.rest) record { media_few = media-few m.a b.a m.rest; tai_most = tai-most (l.value (codes "tai")) c.a c.gave }
+    subst IsFlowJob (same _ job d.rest) record { media_few = media-few m.a b.a m.rest; options_are = options-within l c.a c.gave }
 
 shape-within : (l : Stands) (job : ShapeJob) → shape_asked l ≡ Some job → IsFlowJob job.flow
 shape-within l job e =
@@ -171,9 +185,9 @@ series-within l job e =
 capture-within : (l : Stands) (job : CaptureJob) → capture_asked l ≡ Some job → IsCaptureJob job
 capture-within l job e =
     let a = needed (given (codes "sdp") l file_name) _ job e in
-    let b = needed (tai (l.value (codes "tai"))) _ job a.rest in
+    let b = needed (options_asked l) _ job a.rest in
     let c = needed (need (sole l.names) file_name) _ job b.rest in
-    subst IsCaptureJob (same _ job c.rest) record { tai_most = tai-most (l.value (codes "tai")) b.a b.gave }
+    subst IsCaptureJob (same _ job c.rest) record { options_are = options-within l b.a b.gave }
 
 -- ---- the whole line
 

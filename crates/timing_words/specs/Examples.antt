@@ -1,6 +1,8 @@
 -- Command lines for examples worked by hand.
 use Rattle.std.specs.Prelude.{ℕ, ◌≡◌, ◌==◌, if◌then◌else◌, List, [], ◌∷◌, Some, None, codes, false}
+use Rattle.timing_base.specs.Examples.{seconds_added}
 use Rattle.timing_base.specs.Jobs.{CheckJob, FlowJob}
+use Rattle.timing_base.specs.Shifts.{no_options}
 use Rattle.timing_words.specs.declared.request.Request.{Request}
 use Rattle.timing_words.specs.Line.{Part, Text, cut}
 use Rattle.timing_words.specs.Request.{check_sorts, request}
@@ -45,11 +47,11 @@ plain_check = record {
   sdp = codes "p";
   captures = codes "c" ∷ [];
   workers = 4;
-  tai = 0;
+  options = no_options;
   json = false;
   joined = false;
 }
 
 -- the flow of media 2 of the capture c, which p describes, with these seconds added
 abbrev pub second_flow : ℕ → FlowJob
-second_flow seconds = record { sdp = codes "p"; media = 1; tai = seconds; capture = codes "c" }
+second_flow seconds = record { sdp = codes "p"; media = 1; options = seconds_added seconds; capture = codes "c" }

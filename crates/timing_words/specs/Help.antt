@@ -17,6 +17,7 @@ value_shape n =
     if bytes_eq n (codes "sdp") then codes "FILE"
     else if bytes_eq n (codes "report") then codes "FILE"
     else if bytes_eq n (codes "tai") then codes "SECONDS"
+    else if bytes_eq n (codes "delay") then codes "NANOSECONDS"
     else if bytes_eq n (codes "type") then codes "TYPE"
     else if bytes_eq n (codes "model") then codes "MODEL"
     else codes "N"
@@ -28,6 +29,7 @@ meaning n =
     else if bytes_eq n (codes "report") then codes "a report of check --json"
     else if bytes_eq n (codes "workers") then codes "so many threads judge, 1 to 16"
     else if bytes_eq n (codes "tai") then codes "are added to the capture timestamps, 0 to 1000"
+    else if bytes_eq n (codes "delay") then codes "are then subtracted from them, 0 to 999999999"
     else if bytes_eq n (codes "media") then codes "a video of the description, 1 to 64"
     else if bytes_eq n (codes "pair") then codes "the video of the other flow, 1 to 64"
     else if bytes_eq n (codes "type") then codes "of the sender: N, NL or W"
@@ -42,14 +44,16 @@ meaning n =
     else if bytes_eq n (codes "joined") then codes "the captures are one, in order"
     else if bytes_eq n (codes "list") then codes "the delays are printed, and no capture"
     else if bytes_eq n (codes "frames") then codes "a row stands for a frame, and not for a packet"
+    else if bytes_eq n (codes "seq16") then codes "the extended RTP sequence number isn't looked at"
     else codes "docs/FORMATS.md says what"
 
 -- the option or flag of this name is optional
 abbrev pub may_be_missing : Text → Bool
 may_be_missing n =
-    bytes_eq n (codes "workers") || bytes_eq n (codes "tai") || bytes_eq n (codes "serial")
-    || bytes_eq n (codes "json") || bytes_eq n (codes "joined") || bytes_eq n (codes "list")
-    || bytes_eq n (codes "draft") || bytes_eq n (codes "frames")
+    bytes_eq n (codes "workers") || bytes_eq n (codes "tai") || bytes_eq n (codes "delay")
+    || bytes_eq n (codes "serial") || bytes_eq n (codes "json") || bytes_eq n (codes "joined")
+    || bytes_eq n (codes "list") || bytes_eq n (codes "draft") || bytes_eq n (codes "frames")
+    || bytes_eq n (codes "seq16")
 
 -- `--name VALUE`, or `--name`
 abbrev pub shown : Sort → Text

@@ -1,12 +1,13 @@
 -- The request of a command line: each command's options, flags and positional arguments, their ranges, and which of
 -- them are optional or exclude each other. This project's profile.
--- Media count from 1 in the arguments and from 0 in the jobs; `--tai` is in seconds.
+-- Media count from 1 in the arguments and from 0 in the jobs; `--tai` is in seconds, and `--delay` in nanoseconds.
 use Rattle.std.specs.Prelude.{ℕ, ◌&&◌, ◌-◌, ◌^◌, Bool, true, false, List, [], ◌∷◌, length, codes}
 use Rattle.std.specs.Prelude.{◌++◌, map, Option, Some, None, option_map, if◌then◌else◌, nat_le, nat_lt}
 use Rattle.std.specs.List.{list_all}
 use Rattle.std.specs.Char.{is_ascii_digit}
 use Rattle.std.specs.Str.{bytes_eq}
 use Rattle.std.specs.Str.Parse.{digits_value}
+use Rattle.timing_base.specs.Shifts.{FlowOptions}
 use Rattle.timing_base.specs.Jobs.{CaptureJob, CheckJob, FlowJob, ReportJob, ScanJob, SelfTestJob, ShapeJob, SkewJob}
 use Rattle.timing_base.specs.Jobs.{SdpJob, SeriesJob, VerifyJob}
 use Rattle.timing_base.specs.Name.{is_file_name}
@@ -84,6 +85,11 @@ abbrev pub tai : Option Text → Option ℕ
 tai None = Some 0
 tai (Some text) = number 0 1000 text
 
+-- the nanoseconds that are then subtracted from them; 0 without the option
+abbrev pub delay : Option Text → Option ℕ
+delay None = Some 0
+delay (Some text) = number 0 999999999 text
+
 -- the number of workers of `check`: 4 without an option, and 0, for one thread, with `--serial`; `--workers` and
 -- `--serial` exclude each other
 abbrev pub check_workers : Option Text → Bool → Option ℕ
@@ -114,6 +120,13 @@ sole (w ∷ v ∷ rest) = None
 abbrev pub given : {A : Type 0} → Text → Stands → (Text → Option A) → Option A
 given n l f = need (l.value n) f
 
+-- how the packets of a flow are timed and numbered
+abbrev pub options_asked : Stands → Option FlowOptions
+options_asked l =
+    need (tai (l.value (codes "tai"))) (λ seconds.
+    need (delay (l.value (codes "delay"))) (λ nanoseconds.
+    Some (record { shift = record { tai = seconds; delay = nanoseconds }; seq16 = l.flag (codes "seq16") })))
+
 -- ---- commands
 
 -- the options with the first names, and the flags with the others
@@ -124,21 +137,21 @@ takes options flags = map (λ n. record { name = n; valued = true }) options
 -- the options and flags of `check`
 abbrev pub check_sorts : List Sort
 check_sorts = takes
-    (codes "sdp" ∷ codes "workers" ∷ codes "tai" ∷ [])
-    (codes "serial" ∷ codes "json" ∷ codes "joined" ∷ [])
+    (codes "sdp" ∷ codes "workers" ∷ codes "tai" ∷ codes "delay" ∷ [])
+    (codes "serial" ∷ codes "json" ∷ codes "joined" ∷ codes "seq16" ∷ [])
 
 -- the job of `check`
 abbrev pub check_asked : Stands → Option CheckJob
 check_asked l =
     need (given (codes "sdp") l file_name) (λ sdp.
     need (check_workers (l.value (codes "workers")) (l.flag (codes "serial"))) (λ workers.
-    need (tai (l.value (codes "tai"))) (λ seconds.
+    need (options_asked l) (λ options.
     need (file_names 16 l.names) (λ captures.
     Some (record {
       sdp = sdp;
       captures = captures;
       workers = workers;
-      tai = seconds;
+      options = options;
       json = l.flag (codes "json");
       joined = l.flag (codes "joined");
     })))))
@@ -147,8 +160,8 @@ check_asked l =
 abbrev pub verify_sorts : List Sort
 verify_sorts = takes
     (codes "sdp" ∷ codes "media" ∷ codes "type" ∷ codes "model"
-    ∷ codes "from" ∷ codes "to" ∷ codes "count" ∷ codes "limit" ∷ codes "tai" ∷ [])
-    (codes "joined" ∷ [])
+    ∷ codes "from" ∷ codes "to" ∷ codes "count" ∷ codes "limit" ∷ codes "tai" ∷ codes "delay" ∷ [])
+    (codes "joined" ∷ codes "seq16" ∷ [])
 
 -- the violation that `verify` is to check
 abbrev pub proof_asked : Stands → Option FailProof
@@ -167,30 +180,38 @@ verify_asked l =
     need (given (codes "media") l media) (λ m.
     need (given (codes "type") l kind_named) (λ k.
     need (proof_asked l) (λ proof.
-    need (tai (l.value (codes "tai"))) (λ seconds.
+    need (options_asked l) (λ options.
     need (file_names (if l.flag (codes "joined") then 16 else 1) l.names) (λ captures.
     Some (record {
       sdp = sdp;
       media = m;
       kind = k;
       proof = proof;
-      tai = seconds;
+      options = options;
       captures = captures;
       joined = l.flag (codes "joined");
     })))))))
 
 -- the options and flags of `verify-report`
 abbrev pub report_sorts : List Sort
-report_sorts = takes (codes "sdp" ∷ codes "report" ∷ codes "tai" ∷ []) (codes "joined" ∷ [])
+report_sorts = takes
+    (codes "sdp" ∷ codes "report" ∷ codes "tai" ∷ codes "delay" ∷ [])
+    (codes "joined" ∷ codes "seq16" ∷ [])
 
 -- the job of `verify-report`
 abbrev pub report_asked : Stands → Option ReportJob
 report_asked l =
     need (given (codes "sdp") l file_name) (λ sdp.
     need (given (codes "report") l file_name) (λ rep.
-    need (tai (l.value (codes "tai"))) (λ seconds.
+    need (options_asked l) (λ options.
     need (file_names 16 l.names) (λ captures.
-    Some (record { sdp = sdp; report = rep; tai = seconds; captures = captures; joined = l.flag (codes "joined") })))))
+    Some (record {
+      sdp = sdp;
+      report = rep;
+      options = options;
+      captures = captures;
+      joined = l.flag (codes "joined");
+    })))))
 
 -- the options and flags of `selftest`
 abbrev pub self_test_sorts : List Sort
@@ -208,17 +229,19 @@ abbrev pub flow_asked : Stands → Option FlowJob
 flow_asked l =
     need (given (codes "sdp") l file_name) (λ sdp.
     need (given (codes "media") l media) (λ m.
-    need (tai (l.value (codes "tai"))) (λ seconds.
+    need (options_asked l) (λ options.
     need (need (sole l.names) file_name) (λ capture.
-    Some (record { sdp = sdp; media = m; tai = seconds; capture = capture })))))
+    Some (record { sdp = sdp; media = m; options = options; capture = capture })))))
 
 -- the options and flags of `window`
 abbrev pub window_sorts : List Sort
-window_sorts = takes (codes "sdp" ∷ codes "media" ∷ codes "tai" ∷ []) []
+window_sorts = takes (codes "sdp" ∷ codes "media" ∷ codes "tai" ∷ codes "delay" ∷ []) (codes "seq16" ∷ [])
 
 -- the options and flags of `shape`
 abbrev pub shape_sorts : List Sort
-shape_sorts = takes (codes "sdp" ∷ codes "media" ∷ codes "type" ∷ codes "tai" ∷ []) (codes "list" ∷ [])
+shape_sorts = takes
+    (codes "sdp" ∷ codes "media" ∷ codes "type" ∷ codes "tai" ∷ codes "delay" ∷ [])
+    (codes "list" ∷ codes "seq16" ∷ [])
 
 -- the job of `shape`
 abbrev pub shape_asked : Stands → Option ShapeJob
@@ -253,19 +276,21 @@ scan_asked l =
 
 -- the options and flags of `measure` and of `page`
 abbrev pub capture_sorts : List Sort
-capture_sorts = takes (codes "sdp" ∷ codes "tai" ∷ []) []
+capture_sorts = takes (codes "sdp" ∷ codes "tai" ∷ codes "delay" ∷ []) (codes "seq16" ∷ [])
 
 -- the job of `measure` or `page`
 abbrev pub capture_asked : Stands → Option CaptureJob
 capture_asked l =
     need (given (codes "sdp") l file_name) (λ sdp.
-    need (tai (l.value (codes "tai"))) (λ seconds.
+    need (options_asked l) (λ options.
     need (need (sole l.names) file_name) (λ capture.
-    Some (record { sdp = sdp; tai = seconds; capture = capture }))))
+    Some (record { sdp = sdp; options = options; capture = capture }))))
 
 -- the options and flags of `series`
 abbrev pub series_sorts : List Sort
-series_sorts = takes (codes "sdp" ∷ codes "media" ∷ codes "tai" ∷ []) (codes "frames" ∷ [])
+series_sorts = takes
+    (codes "sdp" ∷ codes "media" ∷ codes "tai" ∷ codes "delay" ∷ [])
+    (codes "frames" ∷ codes "seq16" ∷ [])
 
 -- the job of `series`
 abbrev pub series_asked : Stands → Option SeriesJob

@@ -73,26 +73,38 @@ impl Command {
         match self {
             Command::Check => parser_of(
                 alloc,
-                &["sdp", "workers", "tai"],
-                &["serial", "json", "joined"],
+                &["sdp", "workers", "tai", "delay"],
+                &["serial", "json", "joined", "seq16"],
             ),
             Command::Verify => parser_of(
                 alloc,
                 &[
-                    "sdp", "media", "type", "model", "from", "to", "count", "limit", "tai",
+                    "sdp", "media", "type", "model", "from", "to", "count", "limit", "tai", "delay",
                 ],
-                &["joined"],
+                &["joined", "seq16"],
             ),
-            Command::VerifyReport => parser_of(alloc, &["sdp", "report", "tai"], &["joined"]),
+            Command::VerifyReport => parser_of(
+                alloc,
+                &["sdp", "report", "tai", "delay"],
+                &["joined", "seq16"],
+            ),
             Command::SelfTest => parser_of(alloc, &["workers"], &[]),
-            Command::Window => parser_of(alloc, &["sdp", "media", "tai"], &[]),
-            Command::Shape => parser_of(alloc, &["sdp", "media", "type", "tai"], &["list"]),
+            Command::Window => { parser_of(alloc, &["sdp", "media", "tai", "delay"], &["seq16"]) }
+            Command::Shape => parser_of(
+                alloc,
+                &["sdp", "media", "type", "tai", "delay"],
+                &["list", "seq16"],
+            ),
             Command::Skew => parser_of(alloc, &["sdp", "media", "pair"], &[]),
             Command::Scan => parser_of(alloc, &[], &["json", "draft"]),
-            Command::Measure => parser_of(alloc, &["sdp", "tai"], &[]),
-            Command::Series => parser_of(alloc, &["sdp", "media", "tai"], &["frames"]),
+            Command::Measure => parser_of(alloc, &["sdp", "tai", "delay"], &["seq16"]),
+            Command::Series => parser_of(
+                alloc,
+                &["sdp", "media", "tai", "delay"],
+                &["frames", "seq16"],
+            ),
             Command::Sdp => parser_of(alloc, &[], &["json"]),
-            Command::Page => parser_of(alloc, &["sdp", "tai"], &[]),
+            Command::Page => parser_of(alloc, &["sdp", "tai", "delay"], &["seq16"]),
         }
     }
 }

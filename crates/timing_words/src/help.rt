@@ -19,6 +19,7 @@ fn value_shape(name: &str) -> &'static str
     match name {
         "sdp" | "report" => "FILE",
         "tai" => "SECONDS",
+        "delay" => "NANOSECONDS",
         "type" => "TYPE",
         "model" => "MODEL",
         _ => "N",
@@ -34,6 +35,7 @@ fn meaning(name: &str) -> &'static str
         "report" => "a report of check --json",
         "workers" => "so many threads judge, 1 to 16",
         "tai" => "are added to the capture timestamps, 0 to 1000",
+        "delay" => "are then subtracted from them, 0 to 999999999",
         "media" => "a video of the description, 1 to 64",
         "pair" => "the video of the other flow, 1 to 64",
         "type" => "of the sender: N, NL or W",
@@ -48,6 +50,7 @@ fn meaning(name: &str) -> &'static str
         "joined" => "the captures are one, in order",
         "list" => "the delays are printed, and no capture",
         "frames" => "a row stands for a frame, and not for a packet",
+        "seq16" => "the extended RTP sequence number isn't looked at",
         _ => "docs/FORMATS.md says what",
     }
 }
@@ -58,7 +61,16 @@ pub fn may_be_missing(name: &str) -> bool
 {
     matches!(
         name,
-        "workers" | "tai" | "serial" | "json" | "joined" | "list" | "draft" | "frames"
+        "workers"
+            | "tai"
+            | "delay"
+            | "serial"
+            | "json"
+            | "joined"
+            | "list"
+            | "draft"
+            | "frames"
+            | "seq16"
     )
 }
 

@@ -10,14 +10,14 @@ ghost use Rattle.timing_words.specs.Request as words;
 use crate::command::NAMES;
 use crate::line::WordFault;
 use crate::values::{
-    check_workers, count, file_name, file_names, kind_named, media, model_named, number, scan_form,
-    sole, tai, test_workers,
+    check_workers, count, delay, file_name, file_names, kind_named, media, model_named, number,
+    scan_form, sole, tai, test_workers,
 };
 use clap::ArgMatches;
 use std::alloc::Global;
 use timing_base::{
-    CaptureJob, CheckJob, FailProof, FileName, FlowJob, Items, ReportJob, ScanJob, SdpJob,
-    SelfTestJob, SeriesJob, ShapeJob, SkewJob, VerifyJob,
+    CaptureJob, CheckJob, FailProof, FileName, FlowJob, FlowOptions, Items, ReportJob, ScanJob,
+    SdpJob, SelfTestJob, SeriesJob, ShapeJob, Shift, SkewJob, VerifyJob,
 };
 
 /// Returns the value of a required option.
@@ -76,6 +76,18 @@ fn sole_name<'a>(matches: &ArgMatches<'a>) -> Result<&'a str, WordFault>
     }
 }
 
+/// Returns how the packets of a flow are timed and numbered.
+fn flow_options(matches: &ArgMatches<'_>) -> Result<FlowOptions, WordFault>
+    ensures { Gives (words.options_asked (found_stands (found_of matches.now))) result }
+{
+    let tai = tai(matches.get_str("tai"))?;
+    let delay = delay(matches.get_str("delay"))?;
+    Ok(FlowOptions {
+        shift: Shift { tai, delay },
+        seq16: matches.contains_id("seq16"),
+    })
+}
+
 /// Returns the job of `check`.
 pub(crate) fn check_job(alloc: Global, matches: &ArgMatches<'_>) -> Result<CheckJob, WordFault>
     ensures { Gives (words.check_asked (found_stands (found_of matches.now))) result }
@@ -83,13 +95,13 @@ pub(crate) fn check_job(alloc: Global, matches: &ArgMatches<'_>) -> Result<Check
     let sdp = given_file(alloc, matches, "sdp")?;
     let serial = matches.contains_id("serial");
     let workers = check_workers(matches.get_str("workers"), serial)?;
-    let tai = tai(matches.get_str("tai"))?;
+    let options = flow_options(matches)?;
     let captures = captures(alloc, matches, 16)?;
     Ok(CheckJob {
         sdp,
         captures,
         workers,
-        tai,
+        options,
         json: matches.contains_id("json"),
         joined: matches.contains_id("joined"),
     })
@@ -116,7 +128,7 @@ pub(crate) fn verify_job(alloc: Global, matches: &ArgMatches<'_>) -> Result<Veri
     let media = given_media(matches, "media")?;
     let kind = kind_named(given(matches, "type")?)?;
     let proof = fail_proof(matches)?;
-    let tai = tai(matches.get_str("tai"))?;
+    let options = flow_options(matches)?;
     let joined = matches.contains_id("joined");
     let most = if joined { 16 } else { 1 };
     let captures = captures(alloc, matches, most)?;
@@ -125,7 +137,7 @@ pub(crate) fn verify_job(alloc: Global, matches: &ArgMatches<'_>) -> Result<Veri
         media,
         kind,
         proof,
-        tai,
+        options,
         captures,
         joined,
     })
@@ -137,12 +149,12 @@ pub(crate) fn report_job(alloc: Global, matches: &ArgMatches<'_>) -> Result<Repo
 {
     let sdp = given_file(alloc, matches, "sdp")?;
     let report = given_file(alloc, matches, "report")?;
-    let tai = tai(matches.get_str("tai"))?;
+    let options = flow_options(matches)?;
     let captures = captures(alloc, matches, 16)?;
     Ok(ReportJob {
         sdp,
         report,
-        tai,
+        options,
         captures,
         joined: matches.contains_id("joined"),
     })
@@ -163,12 +175,12 @@ pub(crate) fn flow_job(alloc: Global, matches: &ArgMatches<'_>) -> Result<FlowJo
 {
     let sdp = given_file(alloc, matches, "sdp")?;
     let media = given_media(matches, "media")?;
-    let tai = tai(matches.get_str("tai"))?;
+    let options = flow_options(matches)?;
     let capture = file_name(alloc, sole_name(matches)?)?;
     Ok(FlowJob {
         sdp,
         media,
-        tai,
+        options,
         capture,
     })
 }
@@ -216,9 +228,13 @@ pub(crate) fn capture_job(alloc: Global, matches: &ArgMatches<'_>) -> Result<Cap
     ensures { Gives (words.capture_asked (found_stands (found_of matches.now))) result }
 {
     let sdp = given_file(alloc, matches, "sdp")?;
-    let tai = tai(matches.get_str("tai"))?;
+    let options = flow_options(matches)?;
     let capture = file_name(alloc, sole_name(matches)?)?;
-    Ok(CaptureJob { sdp, tai, capture })
+    Ok(CaptureJob {
+        sdp,
+        options,
+        capture,
+    })
 }
 
 /// Returns the job of `series`.

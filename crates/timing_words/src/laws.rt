@@ -10,12 +10,14 @@ ghost use Rattle.timing_base.specs.declared.media.Kind.TheVariants as kind;
 ghost use Rattle.timing_words.specs.declared.command.Command.{Command};
 ghost use Rattle.timing_words.specs.declared.command.Command.TheVariants as command;
 ghost use Rattle.timing_words.specs.Examples.{Asks, IsCut, IsRefused, IsUncut, plain_check, second_flow};
+ghost use Rattle.timing_base.specs.Examples.{by_sequence_numbers, seconds_added};
+ghost use Rattle.timing_base.specs.Shifts.{no_options};
 ghost use Rattle.timing_words.specs.Examples.{sixteen, sixteen_names, words};
 ghost use Rattle.timing_words.specs.Help.{commands, help_text, name_of, usage};
 ghost use Rattle.timing_words.specs.Limits.{IsWithinLimits};
 ghost use Rattle.timing_words.specs.Line.{Text, flag, line, name, option};
 ghost use Rattle.timing_words.specs.Request.{check_sorts, check_workers, command_named, count, file_name, file_names};
-ghost use Rattle.timing_words.specs.Request.{kind_named, media, model_named, number, request, tai, test_workers};
+ghost use Rattle.timing_words.specs.Request.{delay, kind_named, media, model_named, number, request, tai, test_workers};
 
 /// Worked by hand: arguments that can be separated.
 pub fn lines_by_hand()
@@ -71,6 +73,10 @@ pub fn numbers_by_hand()
     ensures tai_least { tai (Some (codes "0")) ≡ Some 0 }
     ensures tai_most { tai (Some (codes "1000")) ≡ Some 1000 }
     ensures tai_over { tai (Some (codes "1001")) ≡ None }
+    ensures delay_unsaid { delay None ≡ Some 0 }
+    ensures delay_zeros { delay (Some (codes "00000000000000000001")) ≡ Some 1 }
+    ensures delay_most { delay (Some (codes "999999999")) ≡ Some 999999999 }
+    ensures delay_over { delay (Some (codes "1000000000")) ≡ None }
 {}
 
 /// Worked by hand: the workers of `check` and `selftest`.
@@ -119,7 +125,7 @@ pub fn checks_by_hand()
         (asks.Check (record plain_check {
           captures = codes "d" ∷ codes "c" ∷ [];
           workers = 2;
-          tai = 37;
+          options = seconds_added 37;
           json = true;
           joined = true;
         })) }
@@ -136,6 +142,29 @@ pub fn checks_by_hand()
     ensures media { IsRefused (codes "check --sdp p --media 1 c") }
 {}
 
+/// Worked by hand: how the packets of a flow are timed and numbered, in lines of the commands that
+/// judge flows.
+pub fn flow_options_by_hand()
+    ensures check { Asks (codes "check --seq16 --delay 999999999 --sdp p --tai 1 c")
+        (asks.Check (record plain_check {
+          options = record { shift = record { tai = 1; delay = 999999999 }; seq16 = true };
+        })) }
+    ensures window { Asks (codes "window --seq16 --media=2 --sdp=p c")
+        (asks.Window (record (second_flow 0) { options = by_sequence_numbers })) }
+    ensures page { Asks (codes "page --delay=7 --sdp=p c")
+        (asks.Page (record {
+          sdp = codes "p";
+          options = record { shift = record { tai = 0; delay = 7 }; seq16 = false };
+          capture = codes "c";
+        })) }
+    ensures over { IsRefused (codes "check --sdp p --delay 1000000000 c") }
+    ensures twice { IsRefused (codes "check --sdp p --delay 1 --delay 1 c") }
+    ensures flag_twice { IsRefused (codes "check --sdp p --seq16 --seq16 c") }
+    ensures valued { IsRefused (codes "check --sdp p --seq16=1 c") }
+    ensures skew { IsRefused (codes "skew --sdp p --media 2 --pair 1 --seq16 c") }
+    ensures scan { IsRefused (codes "scan --delay 1 c") }
+{}
+
 /// Worked by hand: command lines of `verify`.
 pub fn verifies_by_hand()
     ensures plain { Asks
@@ -145,7 +174,7 @@ pub fn verifies_by_hand()
           media = 63;
           kind = kind.NL;
           proof = record { model = broken.Over; from = 1; to = 2; count = 3; limit = 4 };
-          tai = 0;
+          options = no_options;
           captures = codes "c" ∷ [];
           joined = false;
         })) }
@@ -156,7 +185,7 @@ pub fn verifies_by_hand()
           media = 0;
           kind = kind.W;
           proof = record { model = broken.Empty; from = 1; to = 2; count = 3; limit = 4 };
-          tai = 9;
+          options = seconds_added 9;
           captures = sixteen;
           joined = true;
         })) }
@@ -190,7 +219,7 @@ pub fn reports_and_tests_by_hand()
         (asks.VerifyReport (record {
           sdp = codes "p";
           report = codes "r";
-          tai = 0;
+          options = no_options;
           captures = codes "c" ∷ codes "d" ∷ [];
           joined = false;
         })) }
@@ -198,7 +227,7 @@ pub fn reports_and_tests_by_hand()
         (asks.VerifyReport (record {
           sdp = codes "p";
           report = codes "r";
-          tai = 1;
+          options = seconds_added 1;
           captures = codes "c" ∷ [];
           joined = true;
         })) }
@@ -270,9 +299,9 @@ pub fn scans_by_hand()
 /// Worked by hand: command lines of `measure`.
 pub fn measures_by_hand()
     ensures plain { Asks (codes "measure --sdp p c")
-        (asks.Measure (record { sdp = codes "p"; tai = 0; capture = codes "c" })) }
+        (asks.Measure (record { sdp = codes "p"; options = no_options; capture = codes "c" })) }
     ensures later { Asks (codes "measure c --tai=1000 --sdp=p")
-        (asks.Measure (record { sdp = codes "p"; tai = 1000; capture = codes "c" })) }
+        (asks.Measure (record { sdp = codes "p"; options = seconds_added 1000; capture = codes "c" })) }
     ensures tai_over { IsRefused (codes "measure --sdp p --tai 1001 c") }
     ensures no_sdp { IsRefused (codes "measure c") }
     ensures no_capture { IsRefused (codes "measure --sdp p") }
@@ -297,9 +326,9 @@ pub fn series_by_hand()
 /// Worked by hand: command lines of `page`.
 pub fn pages_by_hand()
     ensures plain { Asks (codes "page --sdp p c")
-        (asks.Page (record { sdp = codes "p"; tai = 0; capture = codes "c" })) }
+        (asks.Page (record { sdp = codes "p"; options = no_options; capture = codes "c" })) }
     ensures later { Asks (codes "page c --tai=1000 --sdp=p")
-        (asks.Page (record { sdp = codes "p"; tai = 1000; capture = codes "c" })) }
+        (asks.Page (record { sdp = codes "p"; options = seconds_added 1000; capture = codes "c" })) }
     ensures tai_over { IsRefused (codes "page --sdp p --tai 1001 c") }
     ensures no_sdp { IsRefused (codes "page c") }
     ensures no_capture { IsRefused (codes "page --sdp p") }
@@ -334,7 +363,8 @@ pub fn helps_by_hand()
 /// `help selftest`.
 pub fn help_texts_by_hand()
     ensures check { usage command.Check
-        ≡ codes "check --sdp FILE [--workers N] [--tai SECONDS] [--serial] [--json] [--joined] CAPTURE.." }
+        ≡ codes "check --sdp FILE [--workers N] [--tai SECONDS] [--delay NANOSECONDS] "
+        ++ codes "[--serial] [--json] [--joined] [--seq16] CAPTURE.." }
     ensures skew { usage command.Skew ≡ codes "skew --sdp FILE --media N --pair N CAPTURE [CAPTURE]" }
     ensures whole { help_text (Some command.SelfTest)
         ≡ codes "selftest [--workers N] FRAMES\n"

@@ -21,4 +21,6 @@ pub use help::{help_text, may_be_missing, usage_of};
 pub use line::WordFault;
 pub use read::read_words;
 pub use request::Request;
-pub use values::{check_workers, count, file_name, kind_named, media, model_named, number, tai};
+pub use values::{
+    check_workers, count, delay, file_name, kind_named, media, model_named, number, tai,
+};

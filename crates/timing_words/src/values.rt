@@ -101,6 +101,18 @@ pub fn tai(text: Option<&str>) -> Result<u64, WordFault>
     }
 }
 
+/// Returns the nanoseconds that are then subtracted from them, 0 to 999,999,999; 0 without the
+/// option.
+pub fn delay(text: Option<&str>) -> Result<u64, WordFault>
+    ensures value { Gives (words.delay (option_map (λ s. s.now) text.entry)) result }
+    ensures most { IfOk result (λ n. n ≤ 999999999) }
+{
+    match text {
+        Some(text) => number(text, 0, 999_999_999),
+        None => Ok(0),
+    }
+}
+
 /// Returns the number of workers of `check`, 1 to 16, or 0 for one thread. It is 4 without an
 /// option. `--workers` and `--serial` exclude each other.
 pub fn check_workers(text: Option<&str>, serial: bool) -> Result<u32, WordFault>

@@ -2,7 +2,7 @@
 
 use std::alloc::{AllocError as OutOfMemory, Global};
 use timing_words::{
-    WordFault, check_workers, count, file_name, kind_named, media, model_named, tai,
+    WordFault, check_workers, count, delay, file_name, kind_named, media, model_named, tai,
 };
 
 /// Returns whether this can be a file name. Returns `Err` if memory runs out.
@@ -20,6 +20,7 @@ pub(crate) fn is_valid(alloc: Global, name: &str, value: &str) -> Result<bool, O
         "sdp" | "report" => is_name(alloc, value),
         "workers" => Ok(check_workers(Some(value), false).is_ok()),
         "tai" => Ok(tai(Some(value)).is_ok()),
+        "delay" => Ok(delay(Some(value)).is_ok()),
         "media" | "pair" => Ok(media(value).is_ok()),
         "type" => Ok(kind_named(value).is_ok()),
         "model" => Ok(model_named(value).is_ok()),
@@ -34,6 +35,7 @@ pub(crate) fn range(name: &str) -> &'static str {
         "report" => "the name of a report of check --json",
         "workers" => "1 to 16",
         "tai" => "0 to 1000",
+        "delay" => "0 to 999999999",
         "media" | "pair" => "1 to 64",
         "type" => "N, NL or W",
         "model" => "Bucket, Over or Empty",

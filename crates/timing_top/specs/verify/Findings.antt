@@ -12,10 +12,10 @@ use Rattle.udp_rtp.specs.Flow.{flow}
 use Rattle.interval_checker.specs.Checked.{Says}
 use Rattle.timing_report.specs.declared.json_report.reading.ReportProof.{ReportProof}
 
--- the packet records of captures, as one capture, have this finding on a violation that is claimed of a media; `tai` is
--- in seconds
-abbrev pub FindsIn : (media : Media) → (claim : ReportProof) → (options : FlowOptions) → List (List Record) → Result Bool Unjudged
-    → Type 0
+-- the packet records of captures, as one capture, have this finding on a violation that is claimed of a media, whose
+-- flow has these options
+abbrev pub FindsIn : (media : Media) → (claim : ReportProof) → (options : FlowOptions) → List (List Record)
+    → Result Bool Unjudged → Type 0
 FindsIn media claim options files finding =
     Says media claim.kind claim.proof claim.run (judged (flow (joined files) media) media.pt options) finding
 

@@ -1,14 +1,13 @@
 //! The readings of a file's flows, with what the claims of a report need.
 
 ghost use Rattle.std.specs.Prelude.{◌≡◌, ◌≤◌, ◌<◌, ◌^◌, [], List, All, IfOk, OnOk, length};
-ghost use Rattle.timing_base.specs.Shifts.{FlowOptions as FlowOptionsValue};
 ghost use Rattle.interval_checker.specs.Asking.{AsksNoLess};
 ghost use Rattle.interval_checker.specs.Readings.{HaveRead, HaveRoom};
 ghost use Rattle.timing_top.specs.verify.Found.{AreAsked, Asks};
 
 use interval_checker::{Asked, Reading};
 use std::alloc::{AllocError as OutOfMemory, Global};
-use timing_base::Media;
+use timing_base::{FlowOptions, Media};
 use timing_report::json_report::ReportProof;
 
 /// Asks for what a claim needs, if it is on this flow.

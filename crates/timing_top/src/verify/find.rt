@@ -1,7 +1,6 @@
 //! Checks one claim over captures that are read for it.
 
 ghost use Rattle.std.specs.Prelude.{◌≡◌, ◌≤◌, ℕ, List, IfOk, IfErr, length};
-ghost use Rattle.timing_base.specs.Shifts.{FlowOptions as FlowOptionsValue};
 ghost use Rattle.timing_outside.specs.Shelves.{StaysAs};
 ghost use Rattle.pcapng_reader.specs.Classic.{classic_texts};
 ghost use Rattle.timing_steps.specs.Answers.{AreThere, AreTold};
@@ -12,7 +11,7 @@ use crate::verify::checked::Finding;
 use crate::verify::read::{answer_of, read_captures};
 use interval_checker::{Asked, Reading};
 use std::alloc::Global;
-use timing_base::{FileName, Media};
+use timing_base::{FileName, FlowOptions, Media};
 use timing_outside::Shelf;
 use timing_report::json_report::ReportProof;
 use timing_steps::Failure;

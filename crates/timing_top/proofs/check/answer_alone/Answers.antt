@@ -23,7 +23,6 @@ judge-requires g c =
             fetched-fresh (name_of g.H.Source.Source.name) (left_of g.H.Source.Source.left) (faults_of g.H.Source.Source.faults) texts
             c.as_slice.result.now c.in_ok-sources.sources.items c.in_ok-sources.ensures.fetched;
         few_media = search rules;
-        few_seconds = search rules;
       };
     }
 

@@ -22,7 +22,6 @@ judge_many-requires-clause-ready g c κs within =
           fetched-fresh (name_of g.H.Source.Source.name) (left_of g.H.Source.Source.left) (faults_of g.H.Source.Source.faults) texts
           c.as_slice.result.now c.in_ok-sources.sources.items c.in_ok-sources.ensures.fetched;
       few_media = search rules;
-      few_seconds = search rules;
     }
 
 pub judge_many-requires-clause-some : goal.judge_many-requires-clause-some

@@ -7,4 +7,4 @@ use Rattle.timing_top.proofs.laws.rows_have_words.Goals as goal
 pub returns : goal.returns
 returns c = λ job media text files notes is records.
     let few : length (map text job.captures) ≤ 16 = omega (arith, length-map job.captures text, is.job_is.captures_are.few) in
-    rows-fit job.joined job.options media (map text job.captures) files notes is.job_is.tai_most few is.media_are is.bytes records
+    rows-fit job.joined job.options media (map text job.captures) files notes is.job_is.options_are few is.media_are is.bytes records

@@ -3,5 +3,5 @@ use Rattle.timing_top.proofs.Exact.{rows-exact}
 use Rattle.timing_top.proofs.laws.types_are_exact.Goals as goal
 
 pub returns : goal.returns
-returns c = λ job media texts answer is are bytes many h. rows-exact job.joined job.options media texts h.files h.notes is.tai_most
+returns c = λ job media texts answer is are bytes many h. rows-exact job.joined job.options media texts h.files h.notes is.options_are
     (omega (arith, many, is.captures_are.few)) are bytes h.records
