@@ -14,7 +14,7 @@ use std::slice;
 use std::sync::Wait;
 use std::test::Fail;
 use timing_base::worked::undeclared_to;
-use timing_base::{FileNote, Media, PcapFault};
+use timing_base::{FileNote, FlowOptions, Media, PcapFault};
 use timing_outside::{MemorySink, NoGate, Source};
 
 // The generated capture of 13 frames of 20 packets: 261 packet records with the packet before them.
@@ -54,7 +54,7 @@ fn taken_in<R: Wait + Abort + AllocGlobal, S: Source>(
         lanes,
         files: 1,
         joined: false,
-        tai: 0,
+        options: FlowOptions::NONE,
         turns: &[],
     };
     let (done, raised) = intake(rt, rt.alloc(), &run, 0, source, passes, &halt, &NoGate);

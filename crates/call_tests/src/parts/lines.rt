@@ -5,8 +5,8 @@ use std::alloc::{AllocError, Global};
 use std::process::Abort;
 use std::test::Fail;
 use timing_base::{
-    CaptureJob, CheckJob, FailProof, FileName, FlowJob, Items, ReportJob, ScanJob, SdpJob,
-    SelfTestJob, SeriesJob, ShapeJob, SkewJob, VerifyJob,
+    CaptureJob, CheckJob, FailProof, FileName, FlowJob, FlowOptions, Items, ReportJob, ScanJob,
+    SdpJob, SelfTestJob, SeriesJob, ShapeJob, SkewJob, VerifyJob,
 };
 use timing_words::{Command, Request, WordFault, read_words};
 
@@ -29,13 +29,25 @@ fn files(alloc: Global, items: &Items<FileName>) -> Result<String, AllocError> {
     Ok(text)
 }
 
+/// How packets are timed and numbered: the seconds, the nanoseconds if there are any, and whether numbers are counted.
+fn shown_options(alloc: Global, options: FlowOptions) -> Result<String, AllocError> {
+    let (tai, delay) = (options.shift.tai, options.shift.delay);
+    match (delay, options.seq16) {
+        (0, false) => format!(in alloc; "{tai}"),
+        (_, false) => format!(in alloc; "{tai} less {delay}"),
+        (0, true) => format!(in alloc; "{tai} counted"),
+        (_, true) => format!(in alloc; "{tai} less {delay} counted"),
+    }
+}
+
 /// The fields of a `check`.
 fn shown_check(alloc: Global, job: &CheckJob) -> Result<String, AllocError> {
     let captures = files(alloc, &job.captures)?;
     let sdp = job.sdp.as_str();
-    let (workers, tai) = (job.workers, job.tai);
+    let workers = job.workers;
+    let options = shown_options(alloc, job.options)?;
     let (json, joined) = (job.json, job.joined);
-    format!(in alloc; "check {sdp} {workers} {tai} {json} {joined}:{captures}")
+    format!(in alloc; "check {sdp} {workers} {options} {json} {joined}:{captures}")
 }
 
 /// The numbers of a violation.
@@ -50,16 +62,18 @@ fn shown_verify(alloc: Global, job: &VerifyJob) -> Result<String, AllocError> {
     let captures = files(alloc, &job.captures)?;
     let proof = shown_proof(alloc, &job.proof)?;
     let sdp = job.sdp.as_str();
-    let (media, kind, tai, joined) = (job.media, job.kind, job.tai, job.joined);
-    format!(in alloc; "verify {sdp} {media} {kind:?} {proof} {tai} {joined}:{captures}")
+    let (media, kind, joined) = (job.media, job.kind, job.joined);
+    let options = shown_options(alloc, job.options)?;
+    format!(in alloc; "verify {sdp} {media} {kind:?} {proof} {options} {joined}:{captures}")
 }
 
 /// The fields of a `verify-report`.
 fn shown_report(alloc: Global, job: &ReportJob) -> Result<String, AllocError> {
     let captures = files(alloc, &job.captures)?;
     let (sdp, report) = (job.sdp.as_str(), job.report.as_str());
-    let (tai, joined) = (job.tai, job.joined);
-    format!(in alloc; "report {sdp} {report} {tai} {joined}:{captures}")
+    let joined = job.joined;
+    let options = shown_options(alloc, job.options)?;
+    format!(in alloc; "report {sdp} {report} {options} {joined}:{captures}")
 }
 
 /// The fields of a `selftest`.
@@ -71,16 +85,18 @@ fn shown_self_test(alloc: Global, job: &SelfTestJob) -> Result<String, AllocErro
 /// The fields of a `window`.
 fn shown_window(alloc: Global, job: &FlowJob) -> Result<String, AllocError> {
     let (sdp, capture) = (job.sdp.as_str(), job.capture.as_str());
-    let (media, tai) = (job.media, job.tai);
-    format!(in alloc; "window {sdp} {media} {tai}: {capture}")
+    let media = job.media;
+    let options = shown_options(alloc, job.options)?;
+    format!(in alloc; "window {sdp} {media} {options}: {capture}")
 }
 
 /// The fields of a `shape`.
 fn shown_shape(alloc: Global, job: &ShapeJob) -> Result<String, AllocError> {
     let (sdp, capture) = (job.flow.sdp.as_str(), job.flow.capture.as_str());
-    let (media, tai) = (job.flow.media, job.flow.tai);
+    let media = job.flow.media;
+    let options = shown_options(alloc, job.flow.options)?;
     let (kind, list) = (job.kind, job.list);
-    format!(in alloc; "shape {sdp} {media} {kind:?} {tai} {list}: {capture}")
+    format!(in alloc; "shape {sdp} {media} {kind:?} {options} {list}: {capture}")
 }
 
 /// The fields of a `skew`.
@@ -100,14 +116,16 @@ fn shown_scan(alloc: Global, job: &ScanJob) -> Result<String, AllocError> {
 /// The fields of a `series`.
 fn shown_series(alloc: Global, job: &SeriesJob) -> Result<String, AllocError> {
     let (sdp, capture) = (job.flow.sdp.as_str(), job.flow.capture.as_str());
-    let (media, tai, frames) = (job.flow.media, job.flow.tai, job.frames);
-    format!(in alloc; "series {sdp} {media} {tai} {frames}: {capture}")
+    let (media, frames) = (job.flow.media, job.frames);
+    let options = shown_options(alloc, job.flow.options)?;
+    format!(in alloc; "series {sdp} {media} {options} {frames}: {capture}")
 }
 
 /// The fields of a `measure` or a `page`.
 fn shown_capture(alloc: Global, command: &str, job: &CaptureJob) -> Result<String, AllocError> {
-    let (sdp, tai, capture) = (job.sdp.as_str(), job.tai, job.capture.as_str());
-    format!(in alloc; "{command} {sdp} {tai}: {capture}")
+    let (sdp, capture) = (job.sdp.as_str(), job.capture.as_str());
+    let options = shown_options(alloc, job.options)?;
+    format!(in alloc; "{command} {sdp} {options}: {capture}")
 }
 
 /// The fields of an `sdp`.
@@ -262,6 +280,16 @@ static ROWS: &str = concat!(
     "check|--sdp|p|--tai|1000|c => check p 4 1000 false false: c\n",
     "check|--sdp|p|--tai|1001|c => Usage\n",
     "check|--sdp|p|--tai|18446744073709551616|c => Usage\n",
+    "check|--sdp|p|--delay|0|c => check p 4 0 false false: c\n",
+    "check|--sdp|p|--delay|999999999|--tai|1|c => check p 4 1 less 999999999 false false: c\n",
+    "check|--sdp|p|--delay=00000000000000000001|c => check p 4 0 less 1 false false: c\n",
+    "check|--sdp|p|--delay|1000000000|c => Usage\n",
+    "check|--sdp|p|--delay|1|--delay|1|c => Usage\n",
+    "check|--sdp|p|--delay=-1|c => Usage\n",
+    "check|--seq16|--sdp|p|c => check p 4 0 counted false false: c\n",
+    "check|--seq16|--delay=7|--tai=37|--sdp|p|c => check p 4 37 less 7 counted false false: c\n",
+    "check|--sdp|p|--seq16=1|c => Usage\n",
+    "check|--sdp|p|--seq16|--seq16|c => Usage\n",
     // options that exclude each other, and missing ones
     "check|--sdp|p|--workers|2|--serial|c => Usage\n",
     "check|--serial|--sdp|p|c|--workers=2 => Usage\n",
@@ -278,9 +306,11 @@ static ROWS: &str = concat!(
     "scan|--draft|--|-c => scan Draft: -c\n",
     "scan|--json|--draft|c => Usage\n",
     "scan|--draft=x|c => Usage\n",
+    "scan|--seq16|c => Usage\n",
     // measure
     "measure|--sdp|p|c => measure p 0: c\n",
     "measure|c|--tai=37|--sdp=p => measure p 37: c\n",
+    "measure|c|--delay=5|--seq16|--sdp=p => measure p 0 less 5 counted: c\n",
     "measure|--sdp|p|--media|1|c => Usage\n",
     "measure|--sdp|p|--tai|1001|c => Usage\n",
     "measure|--sdp|p|c|d => Usage\n",
@@ -288,6 +318,7 @@ static ROWS: &str = concat!(
     // series
     "series|--sdp|p|--media|1|c => series p 0 0 false: c\n",
     "series|--frames|c|--tai=37|--media=64|--sdp=p => series p 63 37 true: c\n",
+    "series|--seq16|c|--delay=5|--media=64|--sdp=p => series p 63 0 less 5 counted false: c\n",
     "series|--sdp|p|--media|65|c => Usage\n",
     "series|--sdp|p|c => Usage\n",
     "series|--sdp|p|--media|1|--frames=1|c => Usage\n",
@@ -295,6 +326,7 @@ static ROWS: &str = concat!(
     // page
     "page|--sdp|p|c => page p 0: c\n",
     "page|c|--tai=37|--sdp=p => page p 37: c\n",
+    "page|c|--tai=37|--delay=1|--sdp=p|--seq16 => page p 37 less 1 counted: c\n",
     "page|--sdp|p|--json|c => Usage\n",
     "page|--sdp|p|c|d => Usage\n",
 );
@@ -307,6 +339,7 @@ static OTHER_ROWS: &str = concat!(
     // verify
     "verify|--sdp|p|--media|1|--type|N|--model|Bucket|--from|20|--to|24|--count|5|--limit|4|c => verify p 0 N Bucket 20 24 5 4 0 false: c\n",
     "verify|c|--limit=18446744073709551615|--count=0|--to=1|--from=0|--model=Over|--type=NL|--media=64|--sdp=p|--tai=9 => verify p 63 NL Over 0 1 0 18446744073709551615 9 false: c\n",
+    "verify|--sdp|p|--media|1|--type|N|--model|Over|--from|1|--to|1|--count|1|--limit|2|--seq16|--delay|3|c => verify p 0 N Over 1 1 1 2 0 less 3 counted false: c\n",
     "verify|--joined|--sdp|p|--media|2|--type|W|--model|Empty|--from|1|--to|1|--count|1|--limit|2|c|d => verify p 1 W Empty 1 1 1 2 0 true: c d\n",
     "verify|--sdp|p|--media|2|--type|W|--model|Empty|--from|1|--to|1|--count|1|--limit|2|c|d => Usage\n",
     "verify|--sdp|p|--media|0|--type|N|--model|Over|--from|1|--to|1|--count|1|--limit|2|c => Usage\n",
@@ -339,6 +372,7 @@ static OTHER_ROWS: &str = concat!(
     // verify-report
     "verify-report|--sdp|p|--report|r|c => report p r 0 false: c\n",
     "verify-report|--joined|--tai=5|--report=r|--sdp=p|c|d => report p r 5 true: c d\n",
+    "verify-report|--delay=5|--report=r|--seq16|--sdp=p|c => report p r 0 less 5 counted false: c\n",
     "verify-report|--sdp|p|c => Usage\n",
     "verify-report|--sdp|p|--report|r|--json|c => Usage\n",
     "verify-report|--sdp|p|--report|r|c|c|c|c|c|c|c|c|c|c|c|c|c|c|c|c => report p r 0 false: c c c c c c c c c c c c c c c c\n",
@@ -364,6 +398,7 @@ static OTHER_ROWS: &str = concat!(
     "selftest|--|2 => selftest 2 0\n",
     // window, shape and skew
     "window|--sdp|p|--media|3|--tai|1|c => window p 2 1: c\n",
+    "window|--sdp|p|--media|3|--delay|2|--seq16|c => window p 2 0 less 2 counted: c\n",
     "window|--sdp|p|--media|3|c|d => Usage\n",
     "window|--sdp|p|--media|64|c => window p 63 0: c\n",
     "window|--sdp|p|--media|0|c => Usage\n",
@@ -377,6 +412,7 @@ static OTHER_ROWS: &str = concat!(
     "shape|--sdp|p|--media|1|--type|NL|--list|c => shape p 0 NL 0 true: c\n",
     "shape|--sdp|p|--media|1|c => Usage\n",
     "shape|--tai=1000|c|--type=W|--media=2|--sdp=p => shape p 1 W 1000 false: c\n",
+    "shape|--seq16|--delay=9|c|--type=W|--media=2|--sdp=p => shape p 1 W 0 less 9 counted false: c\n",
     "shape|--sdp|p|--media|1|--type|w|c => Usage\n",
     "shape|--sdp|p|--type|N|c => Usage\n",
     "shape|--media|1|--type|N|c => Usage\n",
@@ -394,6 +430,8 @@ static OTHER_ROWS: &str = concat!(
     "skew|--media|1|--pair|2|c => Usage\n",
     "skew|--sdp|p|--media|1|--pair|2 => Usage\n",
     "skew|--sdp|p|--media|1|--pair|2|--tai|3|c => Usage\n",
+    "skew|--sdp|p|--media|1|--pair|2|--delay|3|c => Usage\n",
+    "skew|--sdp|p|--media|1|--pair|2|--seq16|c => Usage\n",
     // help
     "help => help None\n",
     "help|skew => help Some(Skew)\n",

@@ -12,7 +12,9 @@ use std::process::Abort;
 use std::sync::Wait;
 use std::test::Fail;
 use timing_base::worked::{reading, undeclared_to};
-use timing_base::{FileNote, FlowKey, FlowPacket, Items, PacketFault, Row, Unjudged, Verdict};
+use timing_base::{
+    FileNote, FlowKey, FlowOptions, FlowPacket, Items, PacketFault, Row, Shift, Unjudged, Verdict,
+};
 use timing_outside::NoGate;
 use verdict_book::{Book, Receipt};
 
@@ -115,7 +117,10 @@ fn worked_on<R: Wait + Abort>(
         lanes,
         files: 2,
         joined: asked.joined,
-        tai: 37,
+        options: FlowOptions {
+            shift: Shift { tai: 37, delay: 0 },
+            seq16: false,
+        },
         turns: &[],
     };
     work(rt, alloc, &run, worker, taker, book, &halt, &NoGate).receipts

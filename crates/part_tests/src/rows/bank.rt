@@ -9,7 +9,9 @@ use std::alloc::{AllocError, Global};
 use std::process::Abort;
 use std::test::Fail;
 use timing_base::worked::undeclared_to;
-use timing_base::{FileNote, FlowKey, PacketFault, PcapFault, Row, Unjudged, Verdict};
+use timing_base::{
+    FileNote, FlowKey, FlowOptions, PacketFault, PcapFault, Row, Shift, Unjudged, Verdict,
+};
 use timing_outside::{MemorySource, OpenFault};
 
 // A frame to port 50000 + `more`, with this packet number, with or without the marker. Each `group` has an RTP
@@ -75,7 +77,11 @@ fn taken(alloc: Global, text: &[u8], fails: &[u32]) -> Result<(Taken, Vec<Row>),
         undeclared_to(50_001),
         undeclared_to(50_002),
     ];
-    let mut bank = Bank::new(alloc, &all, 2, 37)?;
+    let options = FlowOptions {
+        shift: Shift { tai: 37, delay: 0 },
+        seq16: false,
+    };
+    let mut bank = Bank::new(alloc, &all, 2, options)?;
     let mut reader = open(alloc, text, fails)?;
     let taken = take_records(&mut reader, 100, &mut bank)?;
     let mut rows = Vec::new(alloc);

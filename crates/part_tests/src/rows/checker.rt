@@ -10,7 +10,7 @@ use std::alloc::{AllocError, Global};
 use std::process::Abort;
 use std::test::Fail;
 use timing_base::worked::{LATE, PLAIN};
-use timing_base::{Broken, FailProof, Kind, PacketFault, Unjudged};
+use timing_base::{Broken, FailProof, FlowOptions, Kind, PacketFault, Unjudged};
 use timing_outside::{MemorySource, OpenFault};
 
 // Five of 20 packets at once: the bucket holds five, where C_MAX is four.
@@ -95,7 +95,7 @@ fn reading(alloc: Global, run: u32, proof: &FailProof) -> Result<Vec<Reading>, A
     let mut asked = Asked::new(alloc);
     asked.ask(u64::from(run), proof)?;
     let mut readings = Vec::new(alloc);
-    readings.push(Reading::new(&PLAIN, 0, asked))?;
+    readings.push(Reading::new(&PLAIN, FlowOptions::NONE, asked))?;
     Ok(readings)
 }
 

@@ -10,8 +10,8 @@ use std::alloc::Global;
 use std::process::Abort;
 use timing_base::worked::{NARROW, reading};
 use timing_base::{
-    Broken, FailProof, FlowKey, Judged, Kind, KindVerdict, Media, PacketFault, Row, Rtp, Run,
-    RunVerdict, Unjudged, Verdict,
+    Broken, FailProof, FlowKey, FlowOptions, Judged, Kind, KindVerdict, Media, PacketFault, Row,
+    Rtp, Run, RunVerdict, Shift, Unjudged, Verdict,
 };
 
 const KEY: FlowKey = FlowKey { file: 0, media: 0 };
@@ -26,15 +26,17 @@ struct Flow {
 
 impl Flow {
     fn new(alloc: Global, media: &Media) -> Flow {
-        Flow::later(alloc, media, 0)
+        Flow::later(alloc, media, Shift::NONE)
     }
 
-    // A judge for capture timestamps that are `tai` seconds too low.
-    fn later(alloc: Global, media: &Media, tai: u64) -> Flow
-        requires { tai ≤ 1000 }
-    {
+    // A judge for capture timestamps with this shift.
+    fn later(alloc: Global, media: &Media, shift: Shift) -> Flow {
+        let options = FlowOptions {
+            shift,
+            seq16: false,
+        };
         Flow {
-            judge: FlowJudge::new(alloc, media, KEY, tai),
+            judge: FlowJudge::new(alloc, media, KEY, options),
             count: 0,
         }
     }
@@ -82,8 +84,8 @@ fn comes_to_none(rt: &impl Abort, flow: Flow, want: Unjudged) {
 struct Made {
     // The start of the first frame, in seconds.
     start: u32,
-    // The seconds by which the capture timestamps are too low.
-    tai: u64,
+    // The shift of the capture timestamps.
+    shift: Shift,
     // The number of the packet with the marker.
     number: u32,
     // The packets in a frame.
@@ -99,7 +101,7 @@ struct Made {
 
 const PLAIN: Made = Made {
     start: 1_600_000_000,
-    tai: 0,
+    shift: Shift::NONE,
     number: 0,
     size: 20,
     first: 764_000,
@@ -142,8 +144,7 @@ impl Made {
 
     // The head and this many packets to this media have this result.
     fn comes_to(&self, rt: &impl Abort, alloc: Global, media: &Media, count: u32, want: Judged) {
-        assert!(rt; self.tai <= 1000);
-        let mut flow = Flow::later(alloc, media, self.tai);
+        let mut flow = Flow::later(alloc, media, self.shift);
         self.feed_head(rt, &mut flow);
         self.feed(rt, &mut flow, 0, count);
         same(rt, &judged(&flow.finish(rt)), &Some(want));
@@ -335,7 +336,10 @@ fn number_wraps(rt: HostRuntime) {
 fn last_second(rt: HostRuntime) {
     let made = Made {
         start: 4_294_967_295,
-        tai: 1000,
+        shift: Shift {
+            tai: 1000,
+            delay: 0,
+        },
         ..PLAIN
     };
     made.comes_to(&rt, rt.alloc(), &plain(), 40, passes(2))
@@ -440,10 +444,14 @@ fn second_source(rt: HostRuntime) {
     comes_to_none(&rt, flow, refused(2, PacketFault::SecondSource))
 }
 
-// The timestamps in a fault are those of the capture, without `--tai`.
+// The timestamps in a fault are those of the capture, whatever the shift.
 #[test]
 fn stamp_back(rt: HostRuntime) {
-    let mut flow = Flow::later(rt.alloc(), &plain(), 1000);
+    let shift = Shift {
+        tai: 1000,
+        delay: 7,
+    };
+    let mut flow = Flow::later(rt.alloc(), &plain(), shift);
     PLAIN.feed_head(&rt, &mut flow);
     flow.feed(&rt, 1_599_999_999_998_999_999, reading(1, 1800, false));
     let want = PacketFault::StampBack {
@@ -455,7 +463,7 @@ fn stamp_back(rt: HostRuntime) {
 
 #[test]
 fn captured_at_40(rt: HostRuntime) {
-    let mut judge = FlowJudge::new(rt.alloc(), &plain(), KEY, 0);
+    let mut judge = FlowJudge::new(rt.alloc(), &plain(), KEY, FlowOptions::NONE);
     let answer = judge.feed(1, 7, Err(PacketFault::Short), &mut ());
     assert!(rt; answer.is_ok());
     let want = refused(1, PacketFault::Short);
