@@ -44,7 +44,7 @@ meaning n =
     else if bytes_eq n (codes "joined") then codes "the captures are one, in order"
     else if bytes_eq n (codes "list") then codes "the delays are printed, and no capture"
     else if bytes_eq n (codes "frames") then codes "a row stands for a frame, and not for a packet"
-    else if bytes_eq n (codes "seq16") then codes "the extended RTP sequence number isn't looked at"
+    else if bytes_eq n (codes "seq16") then codes "the extended RTP sequence number is ignored"
     else codes "docs/FORMATS.md says what"
 
 -- the option or flag of this name is optional

@@ -50,7 +50,7 @@ fn meaning(name: &str) -> &'static str
         "joined" => "the captures are one, in order",
         "list" => "the delays are printed, and no capture",
         "frames" => "a row stands for a frame, and not for a packet",
-        "seq16" => "the extended RTP sequence number isn't looked at",
+        "seq16" => "the extended RTP sequence number is ignored",
         _ => "docs/FORMATS.md says what",
     }
 }
