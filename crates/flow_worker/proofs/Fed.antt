@@ -123,7 +123,8 @@ feeds-some before p old new i d judge next at within some written feeds s worker
     let is = place-at s worker file fed old p.media d (Some judge) below was h in
     let e : new.places.items ≡ set old.places.items p.media (Some next) = written ∙ ap (λ (n : ℕ). set old.places.items n (Some next)) at in
     feeds-place before p old new (Some next) below e s worker file fed h
-    (is.0, subst (StandsFor (media_of s.media key) key s.options next) (with-one before p fed key refl) (feeds (media_of s.media key) key s.options (fed key) is.1))
+    let stands = feeds (media_of s.media key) key s.options (fed key) is.1 in
+    (is.0, subst (StandsFor (media_of s.media key) key s.options next) (with-one before p fed key refl) stands)
 
 -- where its judge takes it
 pub feeds-some_if : {X E : Type 0} (r : Result X E) (before : ℕ) (p : Packet) (old new : Judges) (i : ℕ) (d : Option PlainJudge) (judge next : PlainJudge)

@@ -37,8 +37,8 @@ own_rows-other s worker fed key keys e =
     ap (λ (b : Bool). map (λ key. row_over s key (fed key)) (cond b (key ∷ filter (is_own s worker) keys) (filter (is_own s worker) keys))) e
 
 -- no row is posted yet
-pub rows-first : (s : Setting) (worker file : ℕ) (fed : FlowKey → List FlowPacket) (judges : Judges) (before : List Row) (left : List (Option PlainJudge)) → left
-    ≡ judges.places.items
+pub rows-first : (s : Setting) (worker file : ℕ) (fed : FlowKey → List FlowPacket) (judges : Judges) (before : List Row) (left : List (Option PlainJudge))
+    → left ≡ judges.places.items
     → AreFed s worker file fed judges → HasRows s worker file fed before before left
 rows-first s worker file fed judges before left e h = record {
   number = 0;

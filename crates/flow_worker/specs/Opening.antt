@@ -5,6 +5,7 @@ use Rattle.std.specs.Prelude.{drop, map, filter, filter_map, slice_get, Option, 
 use Rattle.timing_base.specs.Captures.{Record}
 use Rattle.timing_base.specs.Media.{Media}
 use Rattle.timing_base.specs.Routes.{route}
+use Rattle.timing_base.specs.Shifts.{FlowOptions}
 use Rattle.timing_base.specs.Targets.{HaveOwnTargets}
 use Rattle.timing_base.specs.declared.capture.FileNote.{FileNote}
 use Rattle.timing_base.specs.declared.key.FlowKey.{FlowKey}
@@ -28,8 +29,8 @@ pub record Setting : Type 0 where
   pub workers : ℕ
   -- whether the files are judged as one
   pub joined : Bool
-  -- seconds added to the capture timestamps
-  pub options : ℕ
+  -- how the packets of its flows are timed and numbered
+  pub options : FlowOptions
 
 -- there is a worker, and no two media of the session have the same target
 pub record IsSetting (s : Setting) : Type 0 where

@@ -20,7 +20,7 @@ pub record IsIntake (run : RunSetting) (file : ℕ) : Type 0 where
   pub some_lanes : 1 ≤ length run.lanes.now
   pub few_lanes : length run.lanes.now ≤ 16
 
--- the worker is one of at most 16, and the media, files and seconds of its run are within their limits
+-- the worker is one of at most 16, and the media and files of its run are within their limits
 pub record IsWorker (run : RunSetting) (worker : ℕ) : Type 0 where
   pub worker_is : worker < length run.lanes.now
   pub few_workers : length run.lanes.now ≤ 16
@@ -28,4 +28,3 @@ pub record IsWorker (run : RunSetting) (worker : ℕ) : Type 0 where
   pub few_media : length run.media.now ≤ 64
   pub some_files : 1 ≤ run.files
   pub few_files : run.files ≤ 16
-  pub few_seconds : run.options ≤ 1000

@@ -2,6 +2,7 @@
 -- lanes and media count from 0, packet records from 1.
 use Rattle.std.specs.Prelude.{ℕ, Bool, false, List, [], ◌∷◌}
 use Rattle.timing_base.specs.Media.{Media}
+use Rattle.timing_base.specs.Shifts.{no_options}
 use Rattle.timing_base.specs.declared.capture.FileNote.TheVariants.{End}
 use Rattle.timing_base.specs.declared.target.Target.{Target}
 use Rattle.udp_rtp.specs.Examples.{group}
@@ -43,7 +44,12 @@ media_at target = record {
 
 -- two media and two workers, and the files joined or not
 abbrev pub two_workers : Bool → Setting
-two_workers joined = record { media = media_at group ∷ media_at next_port ∷ []; workers = 2; joined = joined; options = 0 }
+two_workers joined = record {
+  media = media_at group ∷ media_at next_port ∷ [];
+  workers = 2;
+  joined = joined;
+  options = no_options;
+}
 
 -- five records, the first for the second media and the last two for the first media; and one record for the second
 -- media

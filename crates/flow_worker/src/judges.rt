@@ -1,7 +1,6 @@
 //! The judges of a worker for one file, or for joined files.
 
 ghost use Rattle.std.specs.Prelude.{◌≡◌, ◌≤◌, ◌<◌, ◌+◌, ◌^◌, ◌++◌, ◌∷◌, [], ℕ, Bool, List, All, IfOk, IfNone, IfSome, IsTrue, filter, length, map, true};
-ghost use Rattle.timing_base.specs.Shifts.{FlowOptions as FlowOptionsValue};
 ghost use Rattle.timing_base.specs.declared.key.FlowKey.{FlowKey as KeyValue};
 ghost use Rattle.timing_base.specs.declared.packet.FlowPacket.{FlowPacket as PacketValue};
 ghost use Rattle.timing_base.specs.Keys.{keys_of_file};
@@ -20,7 +19,7 @@ use fail_interval::FlowJudge;
 use ruled_intake::{Batch, Packet};
 use std::alloc::{AllocError as OutOfMemory, Global};
 use std::sync::Wait;
-use timing_base::{FlowKey, FlowPacket, Media, PacketFault, Row, Rtp, route};
+use timing_base::{FlowKey, FlowOptions, FlowPacket, Media, PacketFault, Row, Rtp, route};
 use verdict_book::{Book, Receipt};
 
 /// Judges by media of the session, in order. A media has a judge if its flow is the worker's own.

@@ -1,8 +1,7 @@
 //! The data that the intakes and the workers of a run share.
 
-ghost use Rattle.timing_base.specs.Shifts.{FlowOptions as FlowOptionsValue};
 use ruled_intake::{Lane, Reading, Turn};
-use timing_base::Media;
+use timing_base::{FlowOptions, Media};
 
 /// Setting of a run: what is asked of it, and its lanes. In `specs/` it is a `Setting`, in which the number of workers
 /// is the number of lanes.
@@ -16,7 +15,7 @@ pub struct RunSetting<'a> {
     pub files: u32,
     /// Whether the files are judged as one.
     pub joined: bool,
-    /// Seconds added to the capture timestamps.
+    /// How the packets of the flows are timed and numbered.
     pub options: FlowOptions,
     /// Turn of each file. If a file has none, no intake waits for the end of the file before.
     pub turns: &'a [Turn],

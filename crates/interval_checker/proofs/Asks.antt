@@ -1,7 +1,7 @@
 -- What is asked of the runs of a flow, and what is kept for it, one packet on and one run on.
-use Rattle.std.proofs.Common.{◌≡◌, ◌≢◌, ◌≤◌, ◌<◌, ◌+◌, ◌-◌, ◌*◌, ◌^◌, ℕ, zero, suc, Bool, true, false, List, [], ◌∷◌, ◌++◌, length, refl, ap, sym, ◌∙◌, subst}
+use Rattle.std.proofs.Common.{◌≡◌, ◌≢◌, ◌<◌, ◌+◌, ◌-◌, ℕ, zero, suc, Bool, true, false, List, [], ◌∷◌, ◌++◌, length, refl, ap, sym, ◌∙◌, subst}
 use Rattle.std.proofs.Common.{arith, inl, inr}
-use Rattle.std.specs.Prelude.{Option, Some, None, Result, Ok, Err, OnOk, OnErr, IsSome, cond, option_map, nat_eq, slice_index, ◌==◌, ◌&&◌}
+use Rattle.std.specs.Prelude.{Option, Some, None, Result, Ok, Err, OnOk, OnErr, IsSome, cond, option_map, nat_eq, ◌==◌, ◌&&◌}
 use Rattle.std.specs.HashMap as hash
 use Rattle.std.specs.HashMap.{HashMap}
 use Rattle.std.proofs.lemmas.Bool.{cases_lt}
@@ -9,7 +9,7 @@ use Rattle.std.proofs.lemmas.Bool.Decides.{nat_tests}
 use Rattle.timing_base.specs.Shifts.{Shift}
 use Rattle.timing_base.specs.Judged.{RunOutcome, no_whole_frame, whole_frames}
 use Rattle.timing_base.specs.declared.fail.FailProof.{FailProof}
-use Rattle.interval_checker.specs.Asking.{AreEnded, AreKept, AsksNoLess, EndsAs, EndsAt, IsAsked, IsRunKept, ending_of, if_asked, stamp_of}
+use Rattle.interval_checker.specs.Asking.{AreEnded, AreKept, AsksNoLess, EndsAs, EndsAt, IsAsked, ending_of, if_asked, stamp_of}
 use Rattle.interval_checker.specs.declared.asked.Asked.{Asked}
 use Rattle.interval_checker.specs.declared.ending.Ending.{Ending}
 
@@ -170,21 +170,23 @@ kept-same : (old new : Asked) (run count : ℕ) (stamps : ℕ → ℕ) → ((p :
     → AreKept new run stamps count
 kept-same old new run count stamps same kept place low there = same place ∙ kept place low (subst IsSome (same place) there)
 
-ends-same : (old new : Asked) (run : ℕ) (shift : Shift) (o : RunOutcome) (e : Ending) → ((p : ℕ) → stamp_of new run p ≡ stamp_of old run p) → EndsAs old run shift o e
+ends-same : (old new : Asked) (run : ℕ) (shift : Shift) (o : RunOutcome) (e : Ending) → ((p : ℕ) → stamp_of new run p ≡ stamp_of old run p)
+    → EndsAs old run shift o e
     → EndsAs new run shift o e
 ends-same old new run shift (no_whole_frame head) e same h = h
 ends-same old new run shift (whole_frames j) e same h = (
   h.0,
   record {
     raw = h.1.raw;
-    added = h.1.added;
+    after = h.1.after;
     rising = h.1.rising;
     kept = kept-same old new run (length j.stamps) h.1.raw same h.1.kept;
   },
 )
 
 -- the runs that are over are kept as they were
-pub ended-same : (old new : Asked) (shift : Shift) (run : ℕ) (os : List RunOutcome) → ((k : ℕ) → k < length os → IsSameAt old new (run + k)) → AreEnded old shift run os
+pub ended-same : (old new : Asked) (shift : Shift) (run : ℕ) (os : List RunOutcome) → ((k : ℕ) → k < length os → IsSameAt old new (run + k))
+    → AreEnded old shift run os
     → AreEnded new shift run os
 ended-same old new shift run [] same h = tt
 ended-same old new shift run (o ∷ os) same h =
@@ -200,7 +202,8 @@ came-same old new run place at other c ne = record {
 }
 
 -- a packet of a later run
-pub came-ended : (old new : Asked) (shift : Shift) (run place at : ℕ) (os : List RunOutcome) → Came old new run place at → length os ≡ run → AreEnded old shift 0 os
+pub came-ended : (old new : Asked) (shift : Shift) (run place at : ℕ) (os : List RunOutcome) → Came old new run place at → length os ≡ run
+    → AreEnded old shift 0 os
     → AreEnded new shift 0 os
 came-ended old new shift run place at os c long h =
     ended-same old new shift 0 os (λ k low. came-same old new run place at (0 + k) c (λ e. omega (arith, e, low, long))) h
@@ -240,7 +243,8 @@ over-ended old new shift run e os o c long ends h =
     (ends-same old new run shift o e (c.stamps run) ends)))
 
 -- how a run ended that is over
-pub ended-at : (a : Asked) (shift : Shift) (from run behind : ℕ) (os : List RunOutcome) (e : Ending) → run ≡ from + behind → behind < length os → ending_of a run ≡ Some e
+pub ended-at : (a : Asked) (shift : Shift) (from run behind : ℕ) (os : List RunOutcome) (e : Ending) → run ≡ from + behind → behind < length os
+    → ending_of a run ≡ Some e
     → AreEnded a shift from os
     → EndsAt a run shift os behind e
 ended-at a shift from run behind [] e at low is h = absurd (omega (arith, low))

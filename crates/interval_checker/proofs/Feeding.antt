@@ -4,9 +4,9 @@ use Rattle.std.proofs.Common.{append_assoc}
 use Rattle.std.specs.Prelude.{Some, Ok, Err, ◌==◌}
 use Rattle.std.proofs.Math.Seq.{get_or-append_seam}
 use Rattle.std.proofs.lemmas.Bool.Decides.{nat_tests}
-use Rattle.timing_base.specs.Shifts.{FlowOptions}
+use Rattle.timing_base.specs.Shifts.{Shift}
 use Rattle.timing_base.specs.Flows.{FirstFault, cuts, fault, first_fault, no_packet, packet}
-use Rattle.timing_base.specs.Judged.{judged, refusal}
+use Rattle.timing_base.specs.Judged.{judged_as_numbered, refusal}
 use Rattle.timing_base.specs.declared.packet.FlowPacket.{FlowPacket}
 use Rattle.timing_base.specs.declared.packet.PacketFault.{PacketFault}
 use Rattle.timing_base.specs.declared.row.Unjudged.{Unjudged}
@@ -31,31 +31,31 @@ pub unread-fault : (packets : List FlowPacket) (pt i : ℕ) (f : PacketFault) �
 unread-fault packets pt i f e = rw e refl
 
 -- a packet has a fault, and none before it: the flow is refused
-pub fault-ends : (pt : ℕ) (options : FlowOptions) (all : List FlowPacket) (w : Walk) (p : FlowPacket) (i : ℕ) (f : PacketFault) (why : Unjudged)
-    → Keeps pt options all i (cuts all i) w → i < length all → packet all i ≡ p
+pub fault-ends : (pt : ℕ) (shift : Shift) (all : List FlowPacket) (w : Walk) (p : FlowPacket) (i : ℕ) (f : PacketFault) (why : Unjudged)
+    → Keeps pt shift all i (cuts all i) w → i < length all → packet all i ≡ p
     → fault all pt i ≡ Some f
     → IsRefused (refusal p.rec f) why
-    → IsRefused (judged all pt options) why
-fault-ends pt options all w p i f why k within is has says =
+    → IsRefused (judged_as_numbered all pt shift) why
+fault-ends pt shift all w p i f why k within is has says =
     let x : FirstFault = record { index = i; fault = f } in
     let first : first_fault all pt ≡ Some x = fault-kept all pt (i + 1) (length all) x (omega (arith, within)) (fault-here all pt i f k.sound has) in
     let test : (length all == 0) ≡ false = grind (arith, nat_tests) in
-    let verdict : refusal p.rec f ≡ judged all pt options =
-    judged-refused all pt options x no_packet (refusal p.rec f) test first (ap (λ (q : FlowPacket). refusal q.rec f) (sym is)) in
+    let verdict : refusal p.rec f ≡ judged_as_numbered all pt shift =
+    judged-refused all pt shift x no_packet (refusal p.rec f) test first (ap (λ (q : FlowPacket). refusal q.rec f) (sym is)) in
     subst (λ v. IsRefused v why) verdict says
 
 -- one packet more, whatever comes after it
-pub stands-next : (pt : ℕ) (options : FlowOptions) (old new : Walk) (packets : List FlowPacket) (p : FlowPacket) → StandsFor pt options old packets
-    → ((all : List FlowPacket) (i : ℕ) → Keeps pt options all i (cuts all i) old → packet all i ≡ p → i < length all
-    → Keeps pt options all (i + 1) (cuts all (i + 1)) new)
-    → StandsFor pt options new (packets ++ p ∷ [])
-stands-next pt options old new packets p s next = record {
+pub stands-next : (pt : ℕ) (shift : Shift) (old new : Walk) (packets : List FlowPacket) (p : FlowPacket) → StandsFor pt shift old packets
+    → ((all : List FlowPacket) (i : ℕ) → Keeps pt shift all i (cuts all i) old → packet all i ≡ p → i < length all
+    → Keeps pt shift all (i + 1) (cuts all (i + 1)) new)
+    → StandsFor pt shift new (packets ++ p ∷ [])
+stands-next pt shift old new packets p s next = record {
   ahead = λ rest.
       let long : length (packets ++ p ∷ []) ≡ length packets + 1 = length-append packets (p ∷ []) in
       let joined : (packets ++ p ∷ []) ++ rest ≡ packets ++ p ∷ rest = append_assoc packets (p ∷ []) rest in
       let there = next (packets ++ p ∷ rest) (length packets) (s.ahead (p ∷ rest)) (seam packets rest p) (seam-within packets rest p) in
-      subst (λ all. Keeps pt options all (length (packets ++ p ∷ [])) (cuts all (length (packets ++ p ∷ []))) new) (sym joined)
-      (subst (λ n. Keeps pt options (packets ++ p ∷ rest) n (cuts (packets ++ p ∷ rest) n) new) (sym long) there);
+      subst (λ all. Keeps pt shift all (length (packets ++ p ∷ [])) (cuts all (length (packets ++ p ∷ []))) new) (sym joined)
+      (subst (λ n. Keeps pt shift (packets ++ p ∷ rest) n (cuts (packets ++ p ∷ rest) n) new) (sym long) there);
 }
 
 -- how a packet comes

@@ -1,5 +1,5 @@
 -- Sources that are read one after the other, and handed back.
-use Rattle.std.proofs.Common.{◌≡◌, ◌≤◌, ◌<◌, ◌+◌, ◌-◌, ◌*◌, ◌^◌, ℕ, suc, Bool, true, false, List, [], ◌∷◌, ◌++◌, length, map, refl, sym, ap, ◌∙◌, subst}
+use Rattle.std.proofs.Common.{◌≡◌, ◌≤◌, ◌<◌, ◌+◌, ◌-◌, ◌*◌, ◌^◌, ℕ, suc, true, false, List, [], ◌∷◌, ◌++◌, length, map, refl, sym, ap, ◌∙◌, subst}
 use Rattle.std.proofs.Common.{append_assoc, append-nil, length-append, arith}
 use Rattle.std.specs.Prelude.{if◌then◌else◌, ⊤, Option, Some, Result, Ok, Err, IfOk, IfErr, IsOk, is_ok}
 use Rattle.timing_base.specs.Captures.{Record, joined, joined_after, raised}
@@ -7,7 +7,7 @@ use Rattle.timing_base.specs.declared.capture.FileNote.{FileNote}
 use Rattle.timing_outside.specs.Causes.{Rose}
 use Rattle.pcap_reader.specs.Records.{AreRecords, Records}
 use Rattle.interval_checker.specs.Checked.{IfReadFault}
-use Rattle.interval_checker.specs.Readings.{AreSame, HaveRead, HaveRoom, ReadOn, asked_by, count_taken}
+use Rattle.interval_checker.specs.Readings.{AreSame, HaveRead, HaveRoom, ReadOn, asked_by}
 use Rattle.interval_checker.specs.Sources.{AreBack, RoseAt, TellTexts}
 use Rattle.interval_checker.specs.Taking.{Goes, Hands}
 use Rattle.interval_checker.specs.declared.fault.CheckFault.{CheckFault}

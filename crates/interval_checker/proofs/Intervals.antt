@@ -1,8 +1,8 @@
 -- What a claimed interval confirms, and the stamps of its packets.
-use Rattle.std.proofs.Common.{◌≡◌, ◌≤◌, ◌<◌, ◌+◌, ◌-◌, ◌*◌, ◌^◌, ◌↔◌, ℕ, Bool, true, List, length, sym, ◌∙◌, subst, arith}
+use Rattle.std.proofs.Common.{◌≡◌, ◌≤◌, ◌<◌, ◌-◌, ◌↔◌, ℕ, Bool, true, List, length, ap, sym, ◌∙◌, subst, arith}
 use Rattle.std.specs.Prelude.{IsTrue, slice_index, ◌==◌}
 use Rattle.std.proofs.lemmas.Bool.Decides.{nat_tests}
-use Rattle.timing_base.specs.Shifts.{FlowOptions}
+use Rattle.timing_base.specs.Shifts.{Shift, shifted}
 use Rattle.timing_base.specs.Media.{Media}
 use Rattle.timing_base.specs.declared.fail.FailProof.{FailProof}
 use Rattle.timing_base.specs.declared.fail.Broken.{Broken}
@@ -32,14 +32,15 @@ pub eq-says : (a b x y : ℕ) → a ≡ x → b ≡ y → IsTrue (a == b) ↔ (x
 eq-says a b x y ea eb = (λ t. sym ea ∙ (same_of a b t ∙ eb), λ e. of_same a b (ea ∙ (e ∙ sym eb)))
 
 -- the stamps of the packets that a claim speaks of
-pub sampled-to : (f : FailProof) (options : FlowOptions) (stamps : List ℕ) (s : Sample) → AreSampled f options stamps s → f.to < length stamps
-    → s.to + options * 10 ^ 9 ≡ slice_index stamps f.to
-sampled-to f options stamps s h l = omega (arith, h.sample.to l, h.added f.to l)
+pub sampled-to : (f : FailProof) (shift : Shift) (stamps : List ℕ) (s : Sample) → AreSampled f shift stamps s → f.to < length stamps
+    → shifted shift s.to ≡ slice_index stamps f.to
+sampled-to f shift stamps s h l = ap (shifted shift) (h.sample.to l) ∙ sym (h.after f.to l)
 
-pub sampled-counted : (f : FailProof) (options : FlowOptions) (stamps : List ℕ) (s : Sample) → AreSampled f options stamps s → 0 < f.count → f.count ≤ length stamps
-    → s.last_counted + options * 10 ^ 9 ≡ slice_index stamps (f.count - 1)
-sampled-counted f options stamps s h some l = omega (arith, h.sample.last_counted some l, h.added (f.count - 1) (omega (arith, some, l)))
+pub sampled-counted : (f : FailProof) (shift : Shift) (stamps : List ℕ) (s : Sample) → AreSampled f shift stamps s → 0 < f.count → f.count ≤ length stamps
+    → shifted shift s.last_counted ≡ slice_index stamps (f.count - 1)
+sampled-counted f shift stamps s h some l =
+    ap (shifted shift) (h.sample.last_counted some l) ∙ sym (h.after (f.count - 1) (omega (arith, some, l)))
 
-pub sampled-behind : (f : FailProof) (options : FlowOptions) (stamps : List ℕ) (s : Sample) → AreSampled f options stamps s → f.count < length stamps
-    → s.behind + options * 10 ^ 9 ≡ slice_index stamps f.count
-sampled-behind f options stamps s h l = omega (arith, h.sample.behind l, h.added f.count l)
+pub sampled-behind : (f : FailProof) (shift : Shift) (stamps : List ℕ) (s : Sample) → AreSampled f shift stamps s → f.count < length stamps
+    → shifted shift s.behind ≡ slice_index stamps f.count
+sampled-behind f shift stamps s h l = ap (shifted shift) (h.sample.behind l) ∙ sym (h.after f.count l)

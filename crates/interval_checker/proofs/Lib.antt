@@ -6,6 +6,7 @@ pub mod Asks
 pub mod Walking
 pub mod Outcomes
 pub mod Feeding
+pub mod Numberings
 pub mod Goings
 pub mod Takings
 pub mod Answering

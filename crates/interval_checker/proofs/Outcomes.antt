@@ -1,14 +1,15 @@
 -- The answer on a run, and on the runs of a flow.
-use Rattle.std.proofs.Common.{◌≡◌, ◌≢◌, ◌≤◌, ◌<◌, ◌+◌, ◌-◌, ◌*◌, ◌^◌, ◌↔◌, ℕ, zero, suc, Bool, true, false, List, [], ◌∷◌, ◌++◌, length, map, min, drop}
+use Rattle.std.proofs.Common.{◌≡◌, ◌≢◌, ◌≤◌, ◌<◌, ◌+◌, ◌-◌, ◌↔◌, ℕ, zero, suc, Bool, true, false, List, [], ◌∷◌, length, map, min, drop}
 use Rattle.std.proofs.Common.{take, refl, ap, sym, ◌∙◌, subst, arith, inl, inr, append-nil, length-append}
 use Rattle.std.specs.Prelude.{IsSome, IsTrue, MatchOption, Option, Some, None, Result, Ok, Err, slice_index, slice_range, nat_lt, ◌==◌, if◌then◌else◌}
 use Rattle.std.proofs.lemmas.Bool.{cases_lt}
 use Rattle.std.proofs.lemmas.Bool.Decides.{nat_tests}
-use Rattle.std.proofs.lemmas.List.{get_or-drop, get_or-map, get_or-take, length-take, length-drop, length-map, map-append}
-use Rattle.timing_base.specs.Shifts.{Shift}
+use Rattle.std.proofs.lemmas.List.{get_or-drop, get_or-map, get_or-take, length-take, length-drop, length-map}
+use Rattle.timing_base.specs.Shifts.{Shift, shifted}
 use Rattle.timing_base.specs.Flows.{cuts, first_fault, last_place, markers, group_len, no_packet, packet}
-use Rattle.timing_base.specs.Judged.{FlowRun, JudgedRun, RunOutcome, absent, head_len, in_one_run, in_runs, judged, judged_run, judged_runs, no_whole_frame}
-use Rattle.timing_base.specs.Judged.{refused_or, run_at, run_outcome, runs, runs_between, stamp_of as stamp_of_packet, whole_frames}
+use Rattle.timing_base.specs.Judged.{FlowRun, JudgedRun, RunOutcome, absent, head_len, in_one_run, in_runs, judged_as_numbered, judged_run, judged_runs}
+use Rattle.timing_base.specs.Judged.{no_whole_frame}
+use Rattle.timing_base.specs.Judged.{refused_or, run_outcome, runs, runs_between, stamp_of as stamp_of_packet, whole_frames}
 use Rattle.timing_base.specs.Media.{Media}
 use Rattle.timing_base.specs.declared.fail.FailProof.{FailProof}
 use Rattle.timing_base.specs.declared.media.Kind.{Kind}
@@ -68,7 +69,8 @@ many-of xs m size are e = elim (cases_lt 1 (length xs)) as (λ _. 2 ≤ length x
 ]
 
 -- a run without a marker
-pub ends-none : (pt : ℕ) (shift : Shift) (packets : List FlowPacket) (i : ℕ) (places : List ℕ) (w : Walk) (head : ℕ) → Keeps pt shift packets i places w → w.marks ≡ None
+pub ends-none : (pt : ℕ) (shift : Shift) (packets : List FlowPacket) (i : ℕ) (places : List ℕ) (w : Walk) (head : ℕ) → Keeps pt shift packets i places w
+    → w.marks ≡ None
     → head ≡ w.fed - w.start
     → EndsAs w.asked w.cuts shift (run_outcome packets shift (last_place (0 ∷ places)) i) (ending.NoWholeFrame head)
 ends-none pt shift packets i places w head k e is =
@@ -84,7 +86,8 @@ ends-none pt shift packets i places w head k e is =
     (ap (λ (h : ℕ). ending.NoWholeFrame h) same)
 
 -- a run of one marker
-pub ends-one : (pt : ℕ) (shift : Shift) (packets : List FlowPacket) (i : ℕ) (places : List ℕ) (w : Walk) (m : Marks) (head : ℕ) → Keeps pt shift packets i places w
+pub ends-one : (pt : ℕ) (shift : Shift) (packets : List FlowPacket) (i : ℕ) (places : List ℕ) (w : Walk) (m : Marks) (head : ℕ)
+    → Keeps pt shift packets i places w
     → w.marks ≡ Some m → m.size ≡ None
     → head ≡ m.first + 1 - w.start
     → EndsAs w.asked w.cuts shift (run_outcome packets shift (last_place (0 ∷ places)) i) (ending.NoWholeFrame head)
@@ -99,7 +102,7 @@ ends-one pt shift packets i places w m head k e size is =
 
 -- the stamps of judged packets, one by one
 stamps-at : (packets : List FlowPacket) (shift : Shift) (first last k : ℕ) → first ≤ last → last < length packets → k < last - first
-    → slice_index (map (stamp_of_packet shift) (slice_range packets (first + 1) (last + 1))) k ≡ (packet packets (first + 1 + k)).at + shift * 10 ^ 9
+    → slice_index (map (stamp_of_packet shift) (slice_range packets (first + 1) (last + 1))) k ≡ shifted shift (packet packets (first + 1 + k)).at
 stamps-at packets shift first last k order within low =
     let rest = drop (first + 1) packets in
     let size : length rest ≡ length packets - (first + 1) = length-drop (first + 1) packets in
@@ -145,19 +148,10 @@ ends-some pt shift packets i places w m size frames k e is sized counted =
     let later : m.last < i = omega (arith, k.sized.later two, are.last) in
     let within : m.last < length packets = omega (arith, later, k.within) in
     let long : length stamps ≡ m.last - m.first = length-stamps packets shift m.first m.last m.order within in
-    let added : (x : ℕ) → x < length stamps → slice_index stamps x ≡ stamp_behind packets m.first x + shift * 10 ^ 9 = λ x l.
-    stamps-at packets shift m.first m.last x m.order within (omega (arith, l, long)) in
     let kept : IsRunKept w.asked w.cuts shift stamps = record {
       raw = stamp_behind packets m.first;
-      added = added;
-      rising = λ j l order low.
-          omega (
-            arith,
-            added j (omega (arith, order, low)),
-            added l low,
-            k.rising (m.first + 1 + j) (m.first + 1 + l) (omega (arith, order))
-                (omega (arith, low, long, later)),
-          );
+      after = λ x l. stamps-at packets shift m.first m.last x m.order within (omega (arith, l, long));
+      rising = λ j l order low. k.rising (m.first + 1 + j) (m.first + 1 + l) (omega (arith, order)) (omega (arith, low, long, later));
       kept = kept-fewer w.asked w.cuts (length stamps) (i - (m.first + 1)) (stamp_behind packets m.first) (omega (arith, long, later)) (k.kept m e);
     } in
     let same_size : frames.size ≡ group_len xs = sized ∙ size-is m.size size (group_len xs) is (are.more two) in
@@ -175,14 +169,14 @@ pub sampled-of : (a : Asked) (run : ℕ) (shift : Shift) (f : FailProof) (stamps
     → AreSampled f shift stamps s
 sampled-of a run shift f stamps s kept is = record {
   raw = kept.raw;
-  added = kept.added;
-  rising = kept.rising;
-  sample = is kept.raw (length stamps) kept.kept (λ k low.
-      omega (arith, kept.added 0 (omega (arith, low)), kept.added k low, kept.rising 0 k (omega arith) low));
+  after = kept.after;
+  rising = λ j k order low. omega (arith, kept.after j (omega (arith, order, low)), kept.after k low, kept.rising j k order low);
+  sample = is kept.raw (length stamps) kept.kept (λ k low. kept.rising 0 k (omega arith) low);
 }
 
 -- a run without a whole frame
-pub says-head : (m : Media) (kind : Kind) (f : FailProof) (a : Asked) (run : ℕ) (shift : Shift) (head : ℕ) (o : RunOutcome) → EndsAs a run shift o (ending.NoWholeFrame head)
+pub says-head : (m : Media) (kind : Kind) (f : FailProof) (a : Asked) (run : ℕ) (shift : Shift) (head : ℕ) (o : RunOutcome)
+    → EndsAs a run shift o (ending.NoWholeFrame head)
     → SaysOutcome m kind f o (Err (NoWholeFrame head))
 says-head m kind f a run shift head (no_whole_frame other) h = ap (λ (n : ℕ). let r : Result Bool Unjudged = Err (NoWholeFrame n) in r) (head-of head other h)
   where
@@ -202,7 +196,8 @@ says-frames m kind f a run shift frames s b (whole_frames j) h sample confirms =
     (confirms j.stamps (sym h.0.1) (sampled-of a run shift f j.stamps s h.1 sample)))
 
 -- the answer on a run, by how it ends
-pub says-at : (m : Media) (kind : Kind) (f : FailProof) (a : Asked) (run : ℕ) (shift : Shift) (behind : ℕ) (os : List RunOutcome) (e : Ending) (answer : Result Bool Unjudged)
+pub says-at : (m : Media) (kind : Kind) (f : FailProof) (a : Asked) (run : ℕ) (shift : Shift) (behind : ℕ) (os : List RunOutcome) (e : Ending) (answer :
+    Result Bool Unjudged)
     → EndsAt a run shift os behind e
     → ((o : RunOutcome) → EndsAs a run shift o e → SaysOutcome m kind f o answer) → SaysAt m kind f os behind answer
 says-at m kind f a run shift behind [] e answer h says = absurd h
@@ -223,7 +218,8 @@ long-open pt shift packets i places w k =
     ap length (with-open pt shift packets i places w k) ∙ (length-append outs (o ∷ []) ∙ ap (λ n. n + 1) (done-long pt shift packets i places w k))
 
 -- the open run
-pub at-open : (pt : ℕ) (shift : Shift) (packets : List FlowPacket) (i : ℕ) (places : List ℕ) (w : Walk) (run : ℕ) (e : Ending) → Keeps pt shift packets i places w
+pub at-open : (pt : ℕ) (shift : Shift) (packets : List FlowPacket) (i : ℕ) (places : List ℕ) (w : Walk) (run : ℕ) (e : Ending)
+    → Keeps pt shift packets i places w
     → run ≡ w.cuts
     → EndsAs w.asked w.cuts shift (run_outcome packets shift (last_place (0 ∷ places)) i) e
     → EndsAt w.asked run shift (map (λ (r : FlowRun). r.outcome) (runs_between packets shift i 0 places)) run e
@@ -249,7 +245,8 @@ at-done pt shift packets i places w run (Some x) k low e some =
     (at-before w.asked shift run run outs o x (ended-at w.asked shift 0 run run outs x (omega arith) (omega (arith, long, low)) (sym e) k.ended))
 
 -- a run that is not there
-pub at-beyond : (pt : ℕ) (shift : Shift) (packets : List FlowPacket) (i : ℕ) (places : List ℕ) (w : Walk) (run : ℕ) → Keeps pt shift packets i places w → w.cuts < run
+pub at-beyond : (pt : ℕ) (shift : Shift) (packets : List FlowPacket) (i : ℕ) (places : List ℕ) (w : Walk) (run : ℕ) → Keeps pt shift packets i places w
+    → w.cuts < run
     → length (map (λ (r : FlowRun). r.outcome) (runs_between packets shift i 0 places)) ≤ run
 at-beyond pt shift packets i places w run k high = omega (arith, long-open pt shift packets i places w k, high)
 
@@ -260,7 +257,7 @@ whole-keeps pt shift packets w s =
 
 -- no packet came
 pub finish-absent : (claim : Claim) (packets : List FlowPacket) (w : Walk) → StandsFor claim.media.pt claim.shift w packets → w.fed ≡ 0
-    → Says claim.media claim.kind claim.proof claim.run (judged packets claim.media.pt claim.shift) (Err Absent)
+    → Says claim.media claim.kind claim.proof claim.run (judged_as_numbered packets claim.media.pt claim.shift) (Err Absent)
 finish-absent claim packets w s e =
     let k = whole-keeps claim.media.pt claim.shift packets w s in
     let none : length packets ≡ 0 = sym k.fed ∙ e in
@@ -288,13 +285,13 @@ by_cuts claim packets a false e h = h
 pub finish-says : (claim : Claim) (packets : List FlowPacket) (w : Walk) (a : Result Bool Unjudged) → StandsFor claim.media.pt claim.shift w packets → w.fed ≢ 0
     → ((all : List FlowPacket) (i : ℕ) (places : List ℕ) → Keeps claim.media.pt claim.shift all i places w
     → SaysAt claim.media claim.kind claim.proof (map (λ (r : FlowRun). r.outcome) (runs_between all claim.shift i 0 places)) claim.run a)
-    → Says claim.media claim.kind claim.proof claim.run (judged packets claim.media.pt claim.shift) a
+    → Says claim.media claim.kind claim.proof claim.run (judged_as_numbered packets claim.media.pt claim.shift) a
 finish-says claim packets w a s ne here =
     let k = whole-keeps claim.media.pt claim.shift packets w s in
     let some : length packets ≢ 0 = λ e. ne (k.fed ∙ e) in
     let test : (length packets == 0) ≡ false = grind (arith, nat_tests) in
     let sound : first_fault packets claim.media.pt ≡ None = k.sound in
-    let verdict : judged packets claim.media.pt claim.shift ≡ judged_runs packets claim.shift =
+    let verdict : judged_as_numbered packets claim.media.pt claim.shift ≡ judged_runs packets claim.shift =
     ap (λ b. if b then absent else refused_or packets (first_fault packets claim.media.pt) (judged_runs packets claim.shift)) test
     ∙ ap (λ f. refused_or packets f (judged_runs packets claim.shift)) sound in
     subst (λ v. Says claim.media claim.kind claim.proof claim.run v a) (sym verdict)

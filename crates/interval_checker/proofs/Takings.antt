@@ -1,14 +1,14 @@
 -- Records that are given to readings, one after the other.
-use Rattle.std.proofs.Common.{◌≡◌, ◌≢◌, ◌≤◌, ◌<◌, ◌+◌, ◌^◌, ℕ, zero, suc, Bool, true, false, List, [], ◌∷◌, ◌++◌, length, map, take, get_or, set, refl, sym, ap}
+use Rattle.std.proofs.Common.{◌≡◌, ◌≢◌, ◌≤◌, ◌<◌, ◌+◌, ◌^◌, ℕ, zero, suc, Bool, List, [], ◌∷◌, ◌++◌, length, take, get_or, set, refl, sym, ap}
 use Rattle.std.proofs.Common.{◌∙◌, subst, append_assoc, append-nil, arith}
 use Rattle.std.specs.Prelude.{if◌then◌else◌, IfErr, OnOk, Option, Some, None, Result, Ok, Err}
 use Rattle.std.specs.List.{cons_option}
 use Rattle.std.specs.Result.{result_err}
 use Rattle.std.proofs.Math.Seq.{take-append_seam}
 use Rattle.std.proofs.lemmas.List.Elements.{filter_map-append}
-use Rattle.timing_base.specs.Shifts.{FlowOptions}
-use Rattle.timing_base.specs.Captures.{Record, raised}
-use Rattle.timing_base.specs.Judged.{judged}
+use Rattle.timing_base.specs.Shifts.{FlowOptions, Shift}
+use Rattle.timing_base.specs.Captures.{Record}
+use Rattle.timing_base.specs.Judged.{judged, judged_as_numbered}
 use Rattle.timing_base.specs.Media.{Media}
 use Rattle.timing_base.specs.Targets.{target_of}
 use Rattle.timing_base.specs.declared.capture.FileNote.{FileNote}
@@ -27,14 +27,17 @@ use Rattle.udp_rtp.specs.Reading.{reading}
 use Rattle.udp_rtp.proofs.Flows.{flow-append_none, flow-append_some}
 use Rattle.interval_checker.specs.Asking.{AsksNoLess}
 use Rattle.interval_checker.specs.Checked.{IsRefused, Says}
-use Rattle.interval_checker.specs.Readings.{HasRead, HasReadBy, HaveRoom, ReadOn, ReadsOn, asked_by, count_taken}
+use Rattle.interval_checker.specs.Readings.{HasRead, HasReadBy, HasWalked, HaveRoom, ReadOn, ReadsOn, asked_by, count_taken, options_of}
+use Rattle.interval_checker.specs.Numbers.{next_last, next_packet}
 use Rattle.interval_checker.specs.Taking.{FeedsOn, TakesRecord, TakesUpTo}
 use Rattle.interval_checker.specs.Walks.{StandsFor, asked_of}
+use Rattle.interval_checker.specs.declared.numbers.Numbers.{Numbers}
 use Rattle.interval_checker.specs.declared.reading.Reading.{Reading}
 use Rattle.interval_checker.specs.declared.records.Checking.{Checking}
 use Rattle.interval_checker.specs.declared.walk.Walk.{Walk}
 use Rattle.interval_checker.proofs.Asks.{no_less-same}
 use Rattle.interval_checker.proofs.Goings.{TakesAll}
+use Rattle.interval_checker.proofs.Numberings.{taken-ends, taken-next}
 
 -- the packet of a record
 abbrev pub packet_with : Record → Datagram → FlowPacket
@@ -49,11 +52,11 @@ packet_by m r d b is same =
 -- what follows changes nothing where the flow isn't judged
 refused-more : (x : Reading) (items more : List Record) (why : Unjudged) → HasReadBy (Some why) x items → HasReadBy (Some why) x (items ++ more)
 refused-more x items more why h rest =
-    subst (λ l. IsRefused (judged (flow l x.media) x.media.pt x.options) why) (sym (append_assoc items more rest)) (h (more ++ rest))
+    subst (λ l. IsRefused (judged (flow l x.media) x.media.pt (options_of x)) why) (sym (append_assoc items more rest)) (h (more ++ rest))
 
 has-none : (o : Option Unjudged) (x : Reading) (items : List Record) (r : Record) → flow_packet x.media r ≡ None → HasReadBy o x items
     → HasReadBy o x (items ++ r ∷ [])
-has-none None x items r e h = subst (StandsFor x.media.pt x.options x.walk) (sym (flow-append_none x.media items r e)) h
+has-none None x items r e h = subst (HasWalked x.media.pt x.shift x.numbers x.walk) (sym (flow-append_none x.media items r e)) h
 has-none (Some why) x items r e h = refused-more x items (r ∷ []) why h
 
 -- a record that is no packet of the flow
@@ -75,102 +78,122 @@ reads-refused x r why e = record {
       subst (λ o. HasReadBy o x (items ++ r ∷ [])) (sym e) (refused-more x items (r ∷ []) why (subst (λ o. HasReadBy o x items) e h));
 }
 
+-- a reading of the same flow, with the same options, that asks for no less
+pub record Stays (old new : Reading) : Type 0 where
+  pub media : new.media ≡ old.media
+  pub shift : new.shift ≡ old.shift
+  pub seq16 : new.numbers.seq16 ≡ old.numbers.seq16
+  pub asked : AsksNoLess (asked_by old) (asked_by new)
+
+same-options : (a b : Shift) (s t : Bool) → a ≡ b → s ≡ t
+    → (let x : FlowOptions = record { shift = a; seq16 = s } in x) ≡ record { shift = b; seq16 = t }
+same-options a b s t e f =
+    ap (λ (x : Shift). let o : FlowOptions = record { shift = x; seq16 = s } in o) e
+    ∙ ap (λ (x : Bool). let o : FlowOptions = record { shift = b; seq16 = x } in o) f
+
+options-stay : (old new : Reading) → Stays old new → options_of new ≡ options_of old
+options-stay old new h = same-options new.shift old.shift new.numbers.seq16 old.numbers.seq16 h.shift h.seq16
+
 -- a record that is a packet of the flow
-pub reads-packet : (old new : Reading) (r : Record) (p : FlowPacket) → flow_packet old.media r ≡ Some p → old.refused ≡ None → new.refused ≡ None
-    → new.media ≡ old.media → new.options ≡ old.options
-    → AsksNoLess (asked_by old) (asked_by new)
-    → ((packets : List FlowPacket) → StandsFor old.media.pt old.options old.walk packets → StandsFor old.media.pt old.options new.walk (packets ++ p ∷ []))
+reads-packet : (old new : Reading) (r : Record) (p : FlowPacket) → flow_packet old.media r ≡ Some p → old.refused ≡ None → new.refused ≡ None
+    → Stays old new
+    → ((packets : List FlowPacket) → HasWalked old.media.pt old.shift old.numbers old.walk packets
+    → HasWalked old.media.pt old.shift new.numbers new.walk (packets ++ p ∷ []))
     → ReadsOn old new (r ∷ [])
-reads-packet old new r p e was now media options asked goes = record {
-  media = media;
-  options = options;
-  asked = asked;
+reads-packet old new r p e was now stays goes = record {
+  media = stays.media;
+  options = options-stay old new stays;
+  asked = stays.asked;
   reads = λ items h.
-      let stands : StandsFor old.media.pt old.options old.walk (flow items old.media) = subst (λ o. HasReadBy o old items) was h in
-      let more : StandsFor old.media.pt old.options new.walk (flow (items ++ r ∷ []) old.media) =
-      subst (StandsFor old.media.pt old.options new.walk) (sym (flow-append_some old.media items r p e)) (goes (flow items old.media) stands) in
-      let at_media = subst (λ (m : Media). StandsFor m.pt old.options new.walk (flow (items ++ r ∷ []) m)) (sym media) more in
+      let taken : HasWalked old.media.pt old.shift old.numbers old.walk (flow items old.media) = subst (λ o. HasReadBy o old items) was h in
+      let more : HasWalked old.media.pt old.shift new.numbers new.walk (flow (items ++ r ∷ []) old.media) =
+      subst (HasWalked old.media.pt old.shift new.numbers new.walk) (sym (flow-append_some old.media items r p e)) (goes (flow items old.media) taken) in
+      let at_media = subst (λ (m : Media). HasWalked m.pt old.shift new.numbers new.walk (flow (items ++ r ∷ []) m)) (sym stays.media) more in
       let there : HasReadBy None new (items ++ r ∷ []) =
-      subst (λ t. StandsFor new.media.pt t new.walk (flow (items ++ r ∷ []) new.media)) (sym options) at_media in
+      subst (λ s. HasWalked new.media.pt s new.numbers new.walk (flow (items ++ r ∷ []) new.media)) (sym stays.shift) at_media in
       subst (λ o. HasReadBy o new (items ++ r ∷ [])) (sym now) there;
 }
 
 -- a record with which the flow isn't judged
-pub reads-fault : (old new : Reading) (r : Record) (p : FlowPacket) (why : Unjudged) → flow_packet old.media r ≡ Some p → old.refused ≡ None
+reads-fault : (old new : Reading) (r : Record) (p : FlowPacket) (why : Unjudged) → flow_packet old.media r ≡ Some p → old.refused ≡ None
     → new.refused ≡ Some why
-    → new.media ≡ old.media → new.options ≡ old.options
-    → AsksNoLess (asked_by old) (asked_by new)
-    → ((packets rest : List FlowPacket) → StandsFor old.media.pt old.options old.walk packets
-    → IsRefused (judged (packets ++ p ∷ rest) old.media.pt old.options) why)
+    → Stays old new
+    → ((packets rest : List FlowPacket) → HasWalked old.media.pt old.shift old.numbers old.walk packets
+    → IsRefused (judged (packets ++ p ∷ rest) old.media.pt (options_of old)) why)
     → ReadsOn old new (r ∷ [])
-reads-fault old new r p why e was now media options asked ends = record {
-  media = media;
-  options = options;
-  asked = asked;
+reads-fault old new r p why e was now stays ends = record {
+  media = stays.media;
+  options = options-stay old new stays;
+  asked = stays.asked;
   reads = λ items h.
-      let stands : StandsFor old.media.pt old.options old.walk (flow items old.media) = subst (λ o. HasReadBy o old items) was h in
-      let refused : (rest : List Record) → IsRefused (judged (flow ((items ++ r ∷ []) ++ rest) old.media) old.media.pt old.options) why = λ rest.
+      let taken : HasWalked old.media.pt old.shift old.numbers old.walk (flow items old.media) = subst (λ o. HasReadBy o old items) was h in
+      let refused : (rest : List Record) → IsRefused (judged (flow ((items ++ r ∷ []) ++ rest) old.media) old.media.pt (options_of old)) why = λ rest.
       let whole : flow (items ++ (r ∷ rest)) old.media ≡ flow items old.media ++ p ∷ flow rest old.media =
       filter_map-append (flow_packet old.media) items (r ∷ rest)
       ∙ ap (λ o. flow items old.media ++ cons_option o (flow rest old.media)) e in
-      subst (λ l. IsRefused (judged (flow l old.media) old.media.pt old.options) why) (sym (append_assoc items (r ∷ []) rest))
-      (subst (λ f. IsRefused (judged f old.media.pt old.options) why) (sym whole) (ends (flow items old.media) (flow rest old.media) stands)) in
-      let at_media = subst (λ (m : Media). (rest : List Record) → IsRefused (judged (flow ((items ++ r ∷ []) ++ rest) m) m.pt old.options) why) (sym media)
+      subst (λ l. IsRefused (judged (flow l old.media) old.media.pt (options_of old)) why) (sym (append_assoc items (r ∷ []) rest))
+      (subst (λ f. IsRefused (judged f old.media.pt (options_of old)) why) (sym whole) (ends (flow items old.media) (flow rest old.media) taken)) in
+      let at_media =
+      subst (λ (m : Media). (rest : List Record) → IsRefused (judged (flow ((items ++ r ∷ []) ++ rest) m) m.pt (options_of old)) why) (sym stays.media)
       refused in
       let there : HasReadBy (Some why) new (items ++ r ∷ []) =
-      subst (λ t. (rest : List Record) → IsRefused (judged (flow ((items ++ r ∷ []) ++ rest) new.media) new.media.pt t) why) (sym options) at_media in
+      subst (λ o. (rest : List Record) → IsRefused (judged (flow ((items ++ r ∷ []) ++ rest) new.media) new.media.pt o) why)
+      (sym (options-stay old new stays)) at_media in
       subst (λ o. HasReadBy o new (items ++ r ∷ [])) (sym now) there;
 }
 
--- a record that is a packet of the flow, by what the walk says of it
+-- what the walk says of a packet that is fed to it
+pub record Feeds {T : Type 0} (result : Result T Unjudged) (pt : ℕ) (old new : Walk) (q : FlowPacket) : Type 0 where
+  pub goes_on : (shift : Shift) (packets : List FlowPacket) → StandsFor pt shift old packets → OnOk result (StandsFor pt shift new (packets ++ q ∷ []))
+  pub ends : (shift : Shift) (packets rest : List FlowPacket) → StandsFor pt shift old packets
+      → IfErr result (IsRefused (judged_as_numbered (packets ++ q ∷ rest) pt shift))
+
+-- a record that is a packet of the flow, by what the walk says of the packet with its number
 reads-fed : {T : Type 0} (result : Result T Unjudged) (old new : Reading) (r : Record) (p : FlowPacket) → flow_packet old.media r ≡ Some p
     → old.refused ≡ None → new.refused ≡ result_err result
-    → new.media ≡ old.media → new.options ≡ old.options
-    → AsksNoLess (asked_by old) (asked_by new)
-    → ((options : FlowOptions) (packets : List FlowPacket) → StandsFor old.media.pt options old.walk packets
-    → OnOk result (StandsFor old.media.pt options new.walk (packets ++ p ∷ [])))
-    → ((options : FlowOptions) (packets rest : List FlowPacket) → StandsFor old.media.pt options old.walk packets
-    → IfErr result (IsRefused (judged (packets ++ p ∷ rest) old.media.pt options)))
+    → Stays old new
+    → new.numbers.last ≡ next_last old.numbers.seq16 old.numbers.last p
+    → Feeds result old.media.pt old.walk new.walk (next_packet old.numbers.seq16 old.numbers.last p)
     → ReadsOn old new (r ∷ [])
-reads-fed (Ok x) old new r p e was now media options asked goes ends =
-    reads-packet old new r p e was now media options asked (goes old.options)
-reads-fed (Err why) old new r p e was now media options asked goes ends =
-    reads-fault old new r p why e was now media options asked (ends old.options)
+reads-fed (Ok x) old new r p e was now stays last feeds =
+    reads-packet old new r p e was now stays
+    (λ packets. taken-next old.media.pt old.shift old.numbers new.numbers old.walk new.walk packets p stays.seq16 last (feeds.goes_on old.shift))
+reads-fed (Err why) old new r p e was now stays last feeds =
+    reads-fault old new r p why e was now stays
+    (λ packets rest. taken-ends old.media.pt old.shift old.numbers old.walk packets p rest why (feeds.ends old.shift))
 
--- the same of a walk and a payload type that are the reading's
-pub reads-inside : {T : Type 0} (result : Result T Unjudged) (old new : Reading) (r : Record) (p : FlowPacket) (walk : Walk) (pt : ℕ)
-    → walk ≡ old.walk → pt ≡ old.media.pt
+-- the same of a walk, numbers and a payload type that are the reading's
+pub reads-inside : {T : Type 0} (result : Result T Unjudged) (old new : Reading) (r : Record) (p q : FlowPacket) (walk : Walk) (pt : ℕ) (numbers : Numbers)
+    → walk ≡ old.walk → pt ≡ old.media.pt → numbers ≡ old.numbers
     → flow_packet old.media r ≡ Some p
     → old.refused ≡ None → new.refused ≡ result_err result
-    → new.media ≡ old.media → new.options ≡ old.options
+    → new.media ≡ old.media → new.shift ≡ old.shift → new.numbers.seq16 ≡ numbers.seq16
+    → new.numbers.last ≡ next_last numbers.seq16 numbers.last p
+    → q ≡ next_packet numbers.seq16 numbers.last p
     → AsksNoLess (asked_of walk) (asked_by new)
-    → ((options : FlowOptions) (packets : List FlowPacket) → StandsFor pt options walk packets → OnOk result (StandsFor pt options new.walk (packets ++ p ∷ [])))
-    → ((options : FlowOptions) (packets rest : List FlowPacket) → StandsFor pt options walk packets → IfErr result (IsRefused (judged (packets ++ p ∷ rest) pt options)))
+    → Feeds result pt walk new.walk q
     → ReadsOn old new (r ∷ [])
-reads-inside result old new r p walk pt same_walk same_pt e was now media options asked goes ends =
-    reads-fed result old new r p e was now media options
-    (subst (λ (w : Walk). AsksNoLess (asked_of w) (asked_by new)) same_walk asked)
-    (subst (λ (w : Walk). (options : FlowOptions) (packets : List FlowPacket) → StandsFor old.media.pt options w packets
-    → OnOk result (StandsFor old.media.pt options new.walk (packets ++ p ∷ []))) same_walk
-    (subst (λ (q : ℕ). (options : FlowOptions) (packets : List FlowPacket) → StandsFor q options walk packets
-    → OnOk result (StandsFor q options new.walk (packets ++ p ∷ []))) same_pt goes))
-    (subst (λ (w : Walk). (options : FlowOptions) (packets rest : List FlowPacket) → StandsFor old.media.pt options w packets
-    → IfErr result (IsRefused (judged (packets ++ p ∷ rest) old.media.pt options))) same_walk
-    (subst (λ (q : ℕ). (options : FlowOptions) (packets rest : List FlowPacket) → StandsFor q options walk packets
-    → IfErr result (IsRefused (judged (packets ++ p ∷ rest) q options))) same_pt ends))
+reads-inside result old new r p q walk pt numbers same_walk same_pt same_numbers e was now media shift seq16 last is asked feeds =
+    let stays : Stays old new = record {
+      media = media;
+      shift = shift;
+      seq16 = seq16 ∙ ap (λ (n : Numbers). n.seq16) same_numbers;
+      asked = subst (λ (w : Walk). AsksNoLess (asked_of w) (asked_by new)) same_walk asked;
+    } in
+    let numbered : q ≡ next_packet old.numbers.seq16 old.numbers.last p = is ∙ ap (λ (n : Numbers). next_packet n.seq16 n.last p) same_numbers in
+    reads-fed result old new r p e was now stays (last ∙ ap (λ (n : Numbers). next_last n.seq16 n.last p) same_numbers)
+    (subst (λ (w : Walk). Feeds result old.media.pt w new.walk (next_packet old.numbers.seq16 old.numbers.last p)) same_walk
+    (subst (λ (x : ℕ). Feeds result x walk new.walk (next_packet old.numbers.seq16 old.numbers.last p)) same_pt
+    (subst (Feeds result pt walk new.walk) numbered feeds)))
 
 -- the answer where the flow isn't judged
 pub says-refused : (x : Reading) (items : List Record) (why : Unjudged) (kind : Kind) (f : FailProof) (run : ℕ) → x.refused ≡ Some why → HasRead x items
-    → Says x.media kind f run (judged (flow items x.media) x.media.pt x.options) (Err why)
+    → Says x.media kind f run (judged (flow items x.media) x.media.pt (options_of x)) (Err why)
 says-refused x items why kind f run e h =
     let refused : HasReadBy (Some why) x items = subst (λ o. HasReadBy o x items) e h in
-    let here : IsRefused (judged (flow items x.media) x.media.pt x.options) why =
-    subst (λ l. IsRefused (judged (flow l x.media) x.media.pt x.options) why) (append-nil items) (refused []) in
+    let here : IsRefused (judged (flow items x.media) x.media.pt (options_of x)) why =
+    subst (λ l. IsRefused (judged (flow l x.media) x.media.pt (options_of x)) why) (append-nil items) (refused []) in
     here x.media kind f run
-
--- and where it may be
-pub stands-here : (x : Reading) (items : List Record) → x.refused ≡ None → HasRead x items → StandsFor x.media.pt x.options x.walk (flow items x.media)
-stands-here x items e h = subst (λ o. HasReadBy o x items) e h
 
 -- a reading that hasn't come yet is as it was
 untouched : (r : Record) (i : ℕ) (olds news : List Reading) (d : Reading) → i < length olds → TakesUpTo r i olds news → get_or news i d ≡ get_or olds i d

@@ -1,7 +1,7 @@
 -- A walk, one packet on.
 use Rattle.std.proofs.Common.{◌≡◌, ◌≤◌, ◌<◌, ◌+◌, ◌-◌, ℕ, Bool, true, false, List, [], ◌∷◌, ◌++◌, length, map, refl, ap, sym, ◌∙◌}
 use Rattle.std.proofs.Common.{subst, arith, inl, inr, length-append}
-use Rattle.std.specs.Prelude.{Option, Some, None, nat_lt, ◌&&◌, ◌==◌}
+use Rattle.std.specs.Prelude.{Option, Some, None, nat_lt, ◌&&◌}
 use Rattle.std.specs.Option.{ForSome}
 use Rattle.std.proofs.lemmas.Bool.{cases_lt}
 use Rattle.std.proofs.lemmas.Bool.Decides.{nat_tests}
@@ -16,12 +16,11 @@ use Rattle.timing_base.proofs.FirstFaults.{no_fault-next}
 use Rattle.timing_base.proofs.Grouped.{none-order}
 use Rattle.timing_base.proofs.Places.{cuts-here, cuts-other, markers-here, markers-other, places-none}
 use Rattle.timing_base.proofs.Sizes.{sized-enter, sized-next, sized-nil}
-use Rattle.interval_checker.specs.Asking.{AreEnded, AreKept, EndsAs, ending_of, if_asked, stamp_of}
+use Rattle.interval_checker.specs.Asking.{AreEnded, AreKept, EndsAs, ending_of, stamp_of}
 use Rattle.interval_checker.specs.Markers.{AreMarked}
 use Rattle.interval_checker.specs.Packets.{ComesAfter, IsAfter, IsRead}
 use Rattle.interval_checker.specs.Walks.{Keeps, stamp_behind}
 use Rattle.interval_checker.specs.declared.before.Before.{Before}
-use Rattle.interval_checker.specs.declared.asked.Asked.{Asked}
 use Rattle.interval_checker.specs.declared.ending.Ending.{Ending}
 use Rattle.interval_checker.specs.declared.marks.Marks.{Marks}
 use Rattle.interval_checker.specs.declared.walk.Walk.{Walk}
@@ -113,7 +112,8 @@ cut-keeps pt shift packets i old new ending k e is ends =
     }
 
 -- no cut stands there
-pub other-keeps : (pt : ℕ) (shift : Shift) (packets : List FlowPacket) (i : ℕ) (w : Walk) → Keeps pt shift packets i (cuts packets i) w → is_cut packets i ≡ false
+pub other-keeps : (pt : ℕ) (shift : Shift) (packets : List FlowPacket) (i : ℕ) (w : Walk) → Keeps pt shift packets i (cuts packets i) w
+    → is_cut packets i ≡ false
     → Keeps pt shift packets i (cuts packets (i + 1)) w
 other-keeps pt shift packets i w k e = subst (λ places. Keeps pt shift packets i places w) (sym (cuts-other packets i e)) k
 
@@ -193,7 +193,8 @@ ended-next pt shift packets i old new (Some o) e k is =
     (done-long pt shift packets i (cuts packets (i + 1)) old k) k.ended
 
 -- packet i has no fault
-pub pass-keeps : (pt : ℕ) (shift : Shift) (packets : List FlowPacket) (i : ℕ) (old new : Walk) → Keeps pt shift packets i (cuts packets (i + 1)) old → i < length packets
+pub pass-keeps : (pt : ℕ) (shift : Shift) (packets : List FlowPacket) (i : ℕ) (old new : Walk) → Keeps pt shift packets i (cuts packets (i + 1)) old
+    → i < length packets
     → fault packets pt i ≡ None
     → IsPassed packets i old new → Keeps pt shift packets (i + 1) (cuts packets (i + 1)) new
 pass-keeps pt shift packets i old new k within none is = record {

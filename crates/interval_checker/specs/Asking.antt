@@ -1,15 +1,14 @@
 -- The data that is asked for of the runs of a flow, and what is kept of it. Runs count from 0, packets from 0 after the
 -- first marker of their run. Capture timestamps are in nanoseconds, as the capture has them.
 use Rattle.std.specs.Prelude.{◌≡◌, ◌<◌, ◌-◌, ℕ, nat_eq, ◌&&◌, Bool, if◌then◌else◌, List, [], ◌∷◌, length, zero, suc, ⊤}
-use Rattle.std.specs.Prelude.{slice_index, ◌+◌, ◌*◌, ◌^◌, Option, Some, None, IsSome, option_map}
+use Rattle.std.specs.Prelude.{slice_index, ◌≤◌, Option, Some, None, IsSome, option_map}
 use Rattle.std.specs.HashMap as hash
-use Rattle.timing_base.specs.Shifts.{Shift}
+use Rattle.timing_base.specs.Shifts.{Shift, shifted}
 use Rattle.timing_base.specs.declared.fail.FailProof.{FailProof}
 use Rattle.interval_checker.specs.declared.asked.Asked.{Asked}
 use Rattle.interval_checker.specs.declared.ending.Ending.{Ending}
 use Rattle.interval_checker.specs.declared.ending.Ending.TheVariants as ending
 use Rattle.timing_base.specs.Judged.{RunOutcome, no_whole_frame, whole_frames}
-use Rattle.sender_params.specs.Ticks.{NeverFall}
 
 -- complete frames or fields of `size` packets each, and of `count` packets in all
 abbrev pub IsWhole : Ending → (size count : ℕ) → Type 0
@@ -48,12 +47,12 @@ abbrev pub AreKept : Asked → (run : ℕ) → (stamps : ℕ → ℕ) → (count
 AreKept a run stamps count = (place : ℕ) → place < count → IsSome (stamp_of a run place)
     → stamp_of a run place ≡ Some (stamps place)
 
--- of judged packets with these capture timestamps, in nanoseconds of TAI, which never go back and include `tai`
--- seconds, those that are asked for are kept
+-- of judged packets with these timestamps after the shift, those that are asked for are kept; in the capture the
+-- timestamps of these packets never go back
 pub record IsRunKept (a : Asked) (run : ℕ) (shift : Shift) (stamps : List ℕ) : Type 0 where
   pub raw : ℕ → ℕ
-  pub added : (k : ℕ) → k < length stamps → slice_index stamps k ≡ raw k + shift * 10 ^ 9
-  pub rising : NeverFall stamps
+  pub after : (k : ℕ) → k < length stamps → slice_index stamps k ≡ shifted shift (raw k)
+  pub rising : (j k : ℕ) → j ≤ k → k < length stamps → raw j ≤ raw k
   pub kept : AreKept a run raw (length stamps)
 
 -- the end of a run, by its outcome

@@ -8,6 +8,7 @@ pub mod Examples
 -- definitions for proofs only
 pub mod Faulty
 pub mod Markers
+pub mod Numbers
 pub mod Packets
 pub mod Samples
 pub mod Schedule

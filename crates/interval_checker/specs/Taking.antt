@@ -1,12 +1,11 @@
 -- The state of readings after the packet records that they were given, and after the sources that were read.
-use Rattle.std.specs.Prelude.{◌≡◌, ◌≤◌, ◌+◌, ◌^◌, ℕ, zero, suc, List, [], ◌∷◌, ◌++◌, length, map, Option, Result, Ok}
+use Rattle.std.specs.Prelude.{◌≡◌, ◌≤◌, ◌+◌, ℕ, zero, suc, List, [], ◌∷◌, ◌++◌, length, Option, Result, Ok}
 use Rattle.std.specs.Prelude.{Err, ⊤}
 use Rattle.std.proofs.Common.{append_assoc, append-nil, arith, refl, subst, sym, ◌∙◌}
-use Rattle.timing_base.specs.Captures.{Record, joined_after, raised}
+use Rattle.timing_base.specs.Captures.{Record, joined_after}
 use Rattle.timing_base.specs.declared.capture.FileNote.{FileNote}
 use Rattle.pcap_reader.specs.Records.{AreRecords}
-use Rattle.interval_checker.specs.Asking.{AsksNoLess}
-use Rattle.interval_checker.specs.Readings.{HasRead, HaveRead, HaveRoom, ReadOn, ReadsOn, asked_by, count_taken}
+use Rattle.interval_checker.specs.Readings.{HasRead, HaveRead, HaveRoom, ReadOn, ReadsOn, count_taken}
 use Rattle.interval_checker.specs.Sources.{AreBack, RoseAt, TellTexts}
 use Rattle.interval_checker.specs.declared.fault.CheckFault.{CheckFault}
 use Rattle.interval_checker.specs.declared.reading.Reading.{Reading}

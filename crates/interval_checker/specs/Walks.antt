@@ -26,24 +26,25 @@ stamp_behind packets first k = (packet packets (first + 1 + k)).at
 
 -- the state before packet i, with gaps at these places, which are those before packet i or those up to it; the packets
 -- before i have no fault, whatever packets follow
-pub record Keeps (pt : ℕ) (shift : Shift) (packets : List FlowPacket) (i : ℕ) (places : List ℕ) (w : Walk) : Type 0 where
-  pub within : i ≤ length packets
-  pub fed : w.fed ≡ i
-  pub sound : first_fault_below packets pt i ≡ None
-  pub before : ComesAfter packets i w.before
-  pub cut_count : w.cuts ≡ length places
-  pub start : w.start ≡ last_place (0 ∷ places)
-  pub marks : AreMarked (markers packets (last_place (0 ∷ places)) i) w.marks
-  pub sized : IsSized i (markers packets (last_place (0 ∷ places)) i)
-  pub rising : (j k : ℕ) → j ≤ k → k < i → (packet packets j).at ≤ (packet packets k).at
-  -- the capture timestamps of the open run
-  pub kept : (m : Marks) → w.marks ≡ Some m → AreKept w.asked w.cuts (stamp_behind packets m.first) (i - (m.first + 1))
-  -- the runs that have ended
-  pub done : List FlowRun
-  pub runs : (to : ℕ) → runs_between packets shift to 0 places
-      ≡ done ++ run_at packets shift (last_place (0 ∷ places)) to ∷ []
-  pub count : length done ≡ length places
-  pub ended : AreEnded w.asked shift 0 (map (λ r. r.outcome) done)
+pub record Keeps (pt : ℕ) (shift : Shift) (packets : List FlowPacket) (i : ℕ) (places : List ℕ) (w : Walk) : Type 0
+  where
+    pub within : i ≤ length packets
+    pub fed : w.fed ≡ i
+    pub sound : first_fault_below packets pt i ≡ None
+    pub before : ComesAfter packets i w.before
+    pub cut_count : w.cuts ≡ length places
+    pub start : w.start ≡ last_place (0 ∷ places)
+    pub marks : AreMarked (markers packets (last_place (0 ∷ places)) i) w.marks
+    pub sized : IsSized i (markers packets (last_place (0 ∷ places)) i)
+    pub rising : (j k : ℕ) → j ≤ k → k < i → (packet packets j).at ≤ (packet packets k).at
+    -- the capture timestamps of the open run
+    pub kept : (m : Marks) → w.marks ≡ Some m → AreKept w.asked w.cuts (stamp_behind packets m.first) (i - (m.first + 1))
+    -- the runs that have ended
+    pub done : List FlowRun
+    pub runs : (to : ℕ) → runs_between packets shift to 0 places
+        ≡ done ++ run_at packets shift (last_place (0 ∷ places)) to ∷ []
+    pub count : length done ≡ length places
+    pub ended : AreEnded w.asked shift 0 (map (λ r. r.outcome) done)
 
 -- the walk was fed exactly these packets, as far as later calls depend on it, whatever packets follow
 pub record StandsFor (pt : ℕ) (shift : Shift) (w : Walk) (packets : List FlowPacket) : Type 0 where

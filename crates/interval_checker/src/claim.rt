@@ -1,9 +1,6 @@
 //! The claim of a violation.
 
-ghost use Rattle.timing_base.specs.Shifts.{FlowOptions as FlowOptionsValue};
-ghost use Rattle.std.specs.Prelude.{◌≡◌, ◌≤◌, ◌<◌, ◌*◌, ◌^◌};
-
-use timing_base::{FailProof, Kind, Media};
+use timing_base::{FailProof, Kind, Media, Shift};
 
 /// Claim of a violation by a run of a flow, for a sender type.
 #[derive(Drop)]
@@ -16,17 +13,6 @@ pub struct Claim {
     pub run: u32,
     /// Claimed violation.
     pub proof: FailProof,
-    /// Seconds added to the capture timestamps.
-    pub options: FlowOptions,
-    ghost seconds: { options ≤ 1000 },
-}
-
-impl Claim {
-    /// Returns the nanoseconds added to the capture timestamps.
-    pub fn added(&self) -> u64
-        ensures value { result ≡ self.now.options * 10 ^ 9 }
-        ensures small { result < 2 ^ 40 }
-    {
-        self.options * 1_000_000_000
-    }
+    /// Shift of the flow's capture timestamps.
+    pub shift: Shift,
 }

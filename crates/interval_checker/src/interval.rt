@@ -20,7 +20,7 @@ pub fn is_confirmed(claim: &Claim, size: u32, count: u64, sample: &Sample) -> bo
     requires some { 1 ≤ size }
     requires most { size ≤ 262144 }
     ensures { (stamps : List ℕ) → length stamps ≡ count
-        → AreSampled claim.now.proof claim.now.options stamps sample.now
+        → AreSampled claim.now.proof claim.now.shift stamps sample.now
         → IsTrue result ↔ Confirms claim.now.media size stamps claim.now.kind claim.now.proof }
 {
     if claim.proof.to < claim.proof.from || claim.proof.to >= count {
@@ -39,7 +39,7 @@ fn breaks_bucket(claim: &Claim, params: &Params, sample: &Sample) -> bool
     requires order { claim.now.proof.from ≤ claim.now.proof.to }
     requires few { claim.now.proof.to < 2 ^ 64 - 1 }
     ensures { (stamps : List ℕ) → claim.now.proof.to < length stamps
-        → AreSampled claim.now.proof claim.now.options stamps sample.now
+        → AreSampled claim.now.proof claim.now.shift stamps sample.now
         → IsTrue result
         ↔ BreaksLimit params.now.media params.now.n stamps claim.now.kind claim.now.proof Bucket }
 {
@@ -57,13 +57,12 @@ fn load(claim: &Claim, params: &Params, sample: &Sample) -> u128
     requires order { claim.now.proof.from ≤ claim.now.proof.to }
     requires few { claim.now.proof.to < 2 ^ 64 - 1 }
     ensures { (stamps : List ℕ) → claim.now.proof.to < length stamps
-        → AreSampled claim.now.proof claim.now.options stamps sample.now
+        → AreSampled claim.now.proof claim.now.shift stamps sample.now
         → result ≡ load_of params.now.media params.now.n stamps claim.now.proof.from claim.now.proof.to }
 {
-    let added = claim.added();
-    let first = sample.first + added;
-    let before = params.ticks(first, sample.from + added);
-    let now = params.ticks(first, sample.to + added);
+    let first = claim.shift.stamp(sample.first);
+    let before = params.ticks(first, claim.shift.stamp(sample.from));
+    let now = params.ticks(first, claim.shift.stamp(sample.to));
     let packets = u128::from(claim.proof.to - claim.proof.from + 1);
     packets.saturating_sub(now.saturating_sub(before))
 }
@@ -71,7 +70,7 @@ fn load(claim: &Claim, params: &Params, sample: &Sample) -> u128
 /// Returns the reads of the type's schedule.
 fn reads(claim: &Claim, params: &Params, sample: &Sample) -> Reads
     ensures { (stamps : List ℕ) → 0 < length stamps
-        → AreSampled claim.now.proof claim.now.options stamps sample.now
+        → AreSampled claim.now.proof claim.now.shift stamps sample.now
         → AreReads params.now.media params.now.n
         (anchor_of params.now.media (slice_index stamps 0)) (gapped_of claim.now.kind) result }
 {
@@ -79,7 +78,7 @@ fn reads(claim: &Claim, params: &Params, sample: &Sample) -> Reads
         Kind::N => true,
         Kind::NL | Kind::W => false,
     };
-    Reads::of(params, gapped, sample.first + claim.added())
+    Reads::of(params, gapped, claim.shift.stamp(sample.first))
 }
 
 /// Returns whether the buffer holds the claimed count just after the last packet of the interval, and this is above the
@@ -87,7 +86,7 @@ fn reads(claim: &Claim, params: &Params, sample: &Sample) -> Reads
 fn breaks_over(claim: &Claim, params: &Params, sample: &Sample) -> bool
     requires few { claim.now.proof.to < 2 ^ 64 - 1 }
     ensures { (stamps : List ℕ) → claim.now.proof.to < length stamps
-        → AreSampled claim.now.proof claim.now.options stamps sample.now
+        → AreSampled claim.now.proof claim.now.shift stamps sample.now
         → IsTrue result
         ↔ BreaksLimit params.now.media params.now.n stamps claim.now.kind claim.now.proof Over }
 {
@@ -109,7 +108,7 @@ fn is_held(claim: &Claim, params: &Params, sample: &Sample) -> bool
     requires few { claim.now.proof.to < 2 ^ 64 - 1 }
     requires some { 1 ≤ claim.now.proof.count }
     ensures { (stamps : List ℕ) → claim.now.proof.to < length stamps
-        → AreSampled claim.now.proof claim.now.options stamps sample.now
+        → AreSampled claim.now.proof claim.now.shift stamps sample.now
         → IsTrue result ↔ (claim.now.proof.count
         ≡ held_at params.now.media params.now.n stamps (gapped_of claim.now.kind) claim.now.proof.to) }
 {
@@ -117,7 +116,7 @@ fn is_held(claim: &Claim, params: &Params, sample: &Sample) -> bool
         return false;
     }
     let reads = reads(claim, params, sample);
-    let at = sample.to + claim.added();
+    let at = claim.shift.stamp(sample.to);
     let due = claim.proof.to + 1 - claim.proof.count;
     if due > 0 && !reads.is_due(due - 1, at) {
         return false;
@@ -129,7 +128,7 @@ fn is_held(claim: &Claim, params: &Params, sample: &Sample) -> bool
 fn breaks_empty(claim: &Claim, params: &Params, sample: &Sample) -> bool
     requires few { claim.now.proof.to < 2 ^ 64 - 1 }
     ensures { (stamps : List ℕ) → claim.now.proof.to < length stamps
-        → AreSampled claim.now.proof claim.now.options stamps sample.now
+        → AreSampled claim.now.proof claim.now.shift stamps sample.now
         → IsTrue result
         ↔ BreaksLimit params.now.media params.now.n stamps claim.now.kind claim.now.proof Empty }
 {
@@ -150,14 +149,14 @@ fn breaks_empty(claim: &Claim, params: &Params, sample: &Sample) -> bool
 fn has_arrived(claim: &Claim, params: &Params, sample: &Sample) -> bool
     requires few { claim.now.proof.count ≤ claim.now.proof.to }
     ensures { (stamps : List ℕ) → claim.now.proof.to < length stamps
-        → AreSampled claim.now.proof claim.now.options stamps sample.now
+        → AreSampled claim.now.proof claim.now.shift stamps sample.now
         → IsTrue result ↔ (claim.now.proof.count
         ≡ arrived_by_read params.now.media params.now.n stamps claim.now.kind claim.now.proof.to) }
 {
     let reads = reads(claim, params, sample);
-    let added = claim.added();
-    if claim.proof.count > 0 && reads.is_before(claim.proof.to, sample.last_counted + added) {
+    let last_counted = claim.shift.stamp(sample.last_counted);
+    if claim.proof.count > 0 && reads.is_before(claim.proof.to, last_counted) {
         return false;
     }
-    reads.is_before(claim.proof.to, sample.behind + added)
+    reads.is_before(claim.proof.to, claim.shift.stamp(sample.behind))
 }

@@ -3,9 +3,9 @@
 //!
 //! A [`Reading`] belongs to one flow, and is made with what the claims on the flow ask for ([`Asked`]).
 //! [`read_sources`] reads the captures once for all readings, and each reading then returns the answers on its claims.
-//! It finds the frames or fields of the flow by itself, and keeps five capture timestamps for each claim. It shares
-//! with the judge the readers and the limits and times of a sender, and nothing else: it has no bucket, no buffer, no
-//! search and no list of timestamps.
+//! It counts packet numbers and finds the frames or fields of the flow by itself, and keeps five capture timestamps for
+//! each claim. It shares with the judge the readers and the limits and times of a sender, and nothing else: it has no
+//! bucket, no buffer, no search and no list of timestamps.
 #![tactic(auto)]
 
 mod asked;
@@ -17,6 +17,7 @@ mod fault;
 mod interval;
 pub mod laws;
 mod marks;
+mod numbers;
 mod reading;
 mod reads;
 mod records;

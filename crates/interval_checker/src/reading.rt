@@ -1,7 +1,6 @@
 //! A flow that is read for the claims on it.
 
 ghost use Rattle.std.specs.Prelude.{◌≡◌, ◌≤◌, ◌<◌, ◌+◌, ◌∷◌, [], ◌^◌, Some, ℕ, List};
-ghost use Rattle.timing_base.specs.Shifts.{FlowOptions as FlowOptionsValue};
 ghost use Rattle.timing_base.specs.Captures.{IsStamp, Record};
 ghost use Rattle.timing_base.specs.Judged.{judged};
 ghost use Rattle.udp_rtp.specs.Flow.{flow, flow_packet};
@@ -11,37 +10,39 @@ ghost use Rattle.interval_checker.specs.Checked.{Says};
 
 use crate::asked::Asked;
 use crate::claim::Claim;
+use crate::numbers::Numbers;
 use crate::walk::Walk;
-use timing_base::{FailProof, FlowPacket, Kind, Media, Unjudged};
+use timing_base::{FailProof, FlowOptions, FlowPacket, Kind, Media, Shift, Unjudged};
 use udp_rtp::{Datagram, read_rtp};
 
 /// Flow of a media, as far as it has been read, with what is kept of it for the claims.
 #[derive(Drop)]
 pub struct Reading {
     media: Media,
-    /// Seconds added to the capture timestamps.
-    options: FlowOptions,
+    /// Shift of the flow's capture timestamps.
+    shift: Shift,
+    numbers: Numbers,
     walk: Walk,
     /// Reason why the flow isn't judged, once that is known.
     refused: Option<Unjudged>,
-    ghost seconds: { options ≤ 1000 },
 }
 
 impl Reading {
-    ghost use Rattle.interval_checker.specs.Readings.{HasRead, ReadsOn, asked_by, count_taken, media_of, tai_of};
+    ghost use Rattle.interval_checker.specs.Readings.{HasRead, ReadsOn, asked_by, count_taken, media_of, options_of};
 
-    /// Returns the reading of this media's flow, before the first packet record. `tai` seconds are added to the capture
-    /// timestamps.
+    /// Returns the reading of this media's flow, before the first packet record. The packets are numbered and timed as
+    /// the options say.
     pub fn new(media: &Media, options: FlowOptions, asked: Asked) -> Reading
         ensures media { media_of result ≡ media.now }
-        ensures options { tai_of result ≡ options }
+        ensures options { options_of result ≡ options }
         ensures asked { asked_by result ≡ asked }
         ensures none { count_taken result ≡ 0 }
         ensures read { HasRead result [] }
     {
         Reading {
             media: *media,
-            options,
+            shift: options.shift,
+            numbers: Numbers::new(options.seq16),
             walk: Walk::new(asked),
             refused: None,
         }
@@ -58,7 +59,10 @@ impl Reading {
     {
         match self.refused {
             Some(_) => {}
-            None => self.refused = self.walk.feed(self.media.pt, packet).err(),
+            None => {
+                let packet = self.numbers.number(packet);
+                self.refused = self.walk.feed(self.media.pt, packet).err();
+            }
         }
     }
 
@@ -92,7 +96,7 @@ impl Reading {
         ensures { (items : List Record) → HasRead self.now items
             → IsAsked (asked_by self.now) run proof.now
             → Says (media_of self.now) kind proof.now run
-            (judged (flow items (media_of self.now)) (media_of self.now).pt (tai_of self.now)) result }
+            (judged (flow items (media_of self.now)) (media_of self.now).pt (options_of self.now)) result }
     {
         if let Some(why) = self.refused {
             return Err(why);
@@ -102,7 +106,7 @@ impl Reading {
             kind,
             run,
             proof: *proof,
-            options: self.options,
+            shift: self.shift,
         };
         self.walk.finish(&claim)
     }

@@ -1,6 +1,7 @@
 //! The capture timestamps that a claim needs.
 
-ghost use Rattle.std.specs.Prelude.{◌≤◌, ◌<◌, ◌-◌, ◌^◌, ℕ};
+ghost use Rattle.std.specs.Prelude.{◌≤◌, ◌<◌, ℕ};
+ghost use Rattle.timing_base.specs.Captures.{IsStamp};
 
 use crate::asked::Asked;
 use timing_base::FailProof;
@@ -21,10 +22,10 @@ pub struct Sample {
     pub behind: u64,
     ghost from_later: { first ≤ from },
     ghost to_later: { first ≤ to },
-    ghost from_early: { from < 2 ^ 62 - 2 ^ 40 },
-    ghost to_early: { to < 2 ^ 62 - 2 ^ 40 },
-    ghost counted_early: { last_counted < 2 ^ 62 - 2 ^ 40 },
-    ghost behind_early: { behind < 2 ^ 62 - 2 ^ 40 },
+    ghost from_stamp: { IsStamp from },
+    ghost to_stamp: { IsStamp to },
+    ghost counted_stamp: { IsStamp last_counted },
+    ghost behind_stamp: { IsStamp behind },
 }
 
 impl Sample {

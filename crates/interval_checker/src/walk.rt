@@ -5,7 +5,7 @@ ghost use Rattle.std.specs.Option.{ForSome};
 ghost use Rattle.timing_base.specs.Shifts.{Shift};
 ghost use Rattle.timing_base.specs.Captures.{IsStamp};
 ghost use Rattle.timing_base.specs.Flows.{cuts, fault, first_of, has_marker, is_cut, is_second_source, last_place, order_fault, size_fault};
-ghost use Rattle.timing_base.specs.Judged.{RunOutcome as OutcomeValue, judged, run_outcome, runs_between};
+ghost use Rattle.timing_base.specs.Judged.{RunOutcome as OutcomeValue, judged_as_numbered, run_outcome, runs_between};
 ghost use Rattle.timing_base.specs.declared.fail.FailProof.{FailProof as ProofValue};
 ghost use Rattle.timing_base.specs.declared.packet.FlowPacket.{FlowPacket as PacketValue};
 ghost use Rattle.interval_checker.specs.Checked.{IsRefused, Says, SaysAt, SaysOutcome};
@@ -71,7 +71,7 @@ impl Walk {
         ensures goes_on { (shift : Shift) (packets : List PacketValue) → StandsFor pt shift self.old packets
             → OnOk result (StandsFor pt shift self.new (packets ++ packet ∷ [])) }
         ensures ends { (shift : Shift) (packets rest : List PacketValue) → StandsFor pt shift self.old packets
-            → IfErr result (IsRefused (judged (packets ++ packet ∷ rest) pt shift)) }
+            → IfErr result (IsRefused (judged_as_numbered (packets ++ packet ∷ rest) pt shift)) }
     {
         let fault = match packet.rtp {
             Ok(rtp) => self.step(pt, packet.at, rtp),
@@ -359,7 +359,7 @@ impl Walk {
         ensures { (packets : List PacketValue) → StandsFor claim.now.media.pt claim.now.shift self.now packets
             → IsAsked (asked_of self.now) claim.now.run claim.now.proof
             → Says claim.now.media claim.now.kind claim.now.proof claim.now.run
-            (judged packets claim.now.media.pt claim.now.shift) result }
+            (judged_as_numbered packets claim.now.media.pt claim.now.shift) result }
     {
         if self.fed == 0 {
             return Err(Unjudged::Absent);

@@ -14,7 +14,7 @@ use Rattle.flow_worker.specs.declared.intakes.IntakeDone.{IntakeDone}
 use Rattle.flow_worker.specs.declared.setting.RunSetting.{RunSetting}
 use Rattle.flow_worker.specs.declared.crew.jobs.IntakeJob.{IntakeJob}
 
--- there are 1 to 64 media, 1 to 16 files and workers, and at most 1,000 seconds
+-- there are 1 to 64 media, and 1 to 16 files and workers
 pub record IsRun (run : RunSetting) : Type 0 where
   pub some_media : 1 ≤ length run.media.now
   pub few_media : length run.media.now ≤ 64
@@ -22,7 +22,6 @@ pub record IsRun (run : RunSetting) : Type 0 where
   pub few_files : run.files ≤ 16
   pub some_workers : 1 ≤ length run.lanes.now
   pub few_workers : length run.lanes.now ≤ 16
-  pub options : run.options ≤ 1000
 
 -- the intake has the file's passes of these lanes, and has sent nothing
 pub record IsIntakeJob {S : Type 0} (lanes : List LaneId) (job : IntakeJob S) : Type 0 where

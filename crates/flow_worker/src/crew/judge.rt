@@ -1,7 +1,6 @@
 //! All files of a run, read by intakes and judged by workers.
 
 ghost use Rattle.std.specs.Prelude.{◌≡◌, ◌≤◌, if◌then◌else◌, ℕ, List, Some, IfOk, IfSome, All, length, map};
-ghost use Rattle.timing_base.specs.Shifts.{FlowOptions as FlowOptionsValue};
 ghost use Rattle.timing_base.specs.Keys.{keys_of};
 ghost use Rattle.timing_base.specs.Targets.{HaveOwnTargets};
 ghost use Rattle.flow_worker.specs.crew.Gathering.{AreGathered, CanGather};
@@ -25,7 +24,7 @@ use ruled_intake::Halt;
 use std::alloc::{AllocError as OutOfMemory, Global};
 use std::sync::Wait;
 use std::thread::{self, Threads};
-use timing_base::{FileNote, Media, PcapFault, Row};
+use timing_base::{FileNote, FlowOptions, Media, PcapFault, Row};
 use timing_outside::{Gate, Source};
 use verdict_book::{Book, Receipt};
 
@@ -213,8 +212,8 @@ fn found_whole(
 }
 
 /// Judges the media in files, each file by itself, or all as one if they are `joined`. Each file is read by an intake,
-/// and the flows are dealt out to `workers` workers, all in parallel. `tai` seconds are added to the capture
-/// timestamps.
+/// and the flows are dealt out to `workers` workers, all in parallel. Their packets are timed and numbered as the
+/// options say.
 ///
 /// After a failed read the other files are read to their ends. If memory runs out in an intake, or after the intakes,
 /// the sources come back without results. Returns `Err` if memory runs out before; the sources are then gone. The call

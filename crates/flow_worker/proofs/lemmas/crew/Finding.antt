@@ -239,7 +239,8 @@ all_sent {S} name left faults s lanes columns sources jobs dones texts notes row
     (subst (HasSentAll s f lanes (capture_of text) (slice_index_or notes f n)) (sym (row_at dones rows f d b there)) sent)
 
 rows-over_by : (s : Setting) (captures : List Capture) (b : Bool) → s.joined ≡ b
-    → rows_of_files s.options 0 s.media (if b then joined_records (map (λ (c : Capture). c.records) captures) ∷ [] else map (λ (c : Capture). c.records) captures)
+    → rows_of_files s.options 0 s.media
+    (if b then joined_records (map (λ (c : Capture). c.records) captures) ∷ [] else map (λ (c : Capture). c.records) captures)
     ≡ rows_over b s.options s.media (map (λ (c : Capture). c.records) captures)
 rows-over_by s captures true e = append-nil (rows_of s.options 0 s.media (joined_records (map (λ (c : Capture). c.records) captures)))
 rows-over_by s captures false e = refl

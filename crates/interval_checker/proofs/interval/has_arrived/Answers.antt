@@ -1,4 +1,4 @@
-use Rattle.std.proofs.Common.{◌≡◌, ◌<◌, ◌+◌, ◌-◌, true, false, sym, ◌∙◌, arith, rules}
+use Rattle.std.proofs.Common.{◌≡◌, ◌<◌, ◌-◌, true, false, sym, ◌∙◌, arith, rules}
 use Rattle.std.specs.Prelude.{slice_index}
 use Rattle.fraction128.specs.Fractions.{below, whole}
 use Rattle.sender_params.specs.Limits.{gapped_of}
@@ -16,8 +16,8 @@ returns-then-is_before c = λ stamps within sampled.
     let kind = c.args.claim.now.kind in
     let are = c.reads-reads.ensures stamps (omega (arith, within)) sampled in
     let some : 0 < f.count = omega (arith, c.if-claim-gt0.true) in
-    let at : c.args.sample.now.last_counted + c.added-added.result ≡ slice_index stamps (f.count - 1) =
-    omega (arith, c.added-added.ensures.value, sampled-counted f c.args.claim.now.options stamps c.args.sample.now sampled some (omega (arith, within))) in
+    let at : c.stamp-last_counted.result ≡ slice_index stamps (f.count - 1) =
+    c.stamp-last_counted.ensures.is ∙ sampled-counted f c.args.claim.now.shift stamps c.args.sample.now sampled some (omega (arith, within)) in
     let holds : c.is_before.result ≡ true = search rules in (
       λ never. cc,
       λ came. absurd (arrived-fewer m n stamps kind c.reads-reads.result f.to f.count _ c.is_before.result are sampled.rising some at
@@ -30,13 +30,13 @@ returns c = λ stamps within sampled.
     let n = c.args.params.now.n in
     let f = c.args.claim.now.proof in
     let kind = c.args.claim.now.kind in
-    let t = c.args.sample.now.last_counted + c.added-added.result in
-    let u = c.args.sample.now.behind + c.added-added.result in
+    let t = c.stamp-last_counted.result in
+    let u = c.stamp.result in
     let are = c.reads-reads.ensures stamps (omega (arith, within)) sampled in
     let at : 0 < f.count → t ≡ slice_index stamps (f.count - 1) = λ some.
-    omega (arith, c.added-added.ensures.value, sampled-counted f c.args.claim.now.options stamps c.args.sample.now sampled some (omega (arith, within))) in
+    c.stamp-last_counted.ensures.is ∙ sampled-counted f c.args.claim.now.shift stamps c.args.sample.now sampled some (omega (arith, within)) in
     let behind : u ≡ slice_index stamps f.count =
-    omega (arith, c.added-added.ensures.value, sampled-behind f c.args.claim.now.options stamps c.args.sample.now sampled (omega (arith, within))) in
+    c.stamp.ensures.is ∙ sampled-behind f c.args.claim.now.shift stamps c.args.sample.now sampled (omega (arith, within)) in
     let last : 0 < f.count → below (read_of m n (anchor_of m (slice_index stamps 0)) (gapped_of kind) f.to) (whole t) ≡ false =
     elim c.else-claim-gt0.branch as (λ _. 0 < f.count → below (read_of m n (anchor_of m (slice_index stamps 0)) (gapped_of kind) f.to) (whole t) ≡ false) [
       | else-claim-gt0-via-then-claim-gt0+else-is_before w ↦ λ some.

@@ -15,8 +15,8 @@ returns-then-not-is_due c = λ stamps within sampled.
     let f = c.args.claim.now.proof in
     let gapped = gapped_of c.args.claim.now.kind in
     let are = c.reads-reads.ensures stamps (omega (arith, within)) sampled in
-    let at : c.args.sample.now.to + c.added.result ≡ slice_index stamps f.to =
-    omega (arith, c.added.ensures.value, sampled-to f c.args.claim.now.options stamps c.args.sample.now sampled within) in
+    let at : c.stamp-at.result ≡ slice_index stamps f.to =
+    c.stamp-at.ensures.is ∙ sampled-to f c.args.claim.now.shift stamps c.args.sample.now sampled within in
     let isnt : c.is_due.result ≡ false = search rules in (
       λ never. cc,
       λ held. absurd (held-more m n stamps gapped c.reads-reads.result f.to f.count (f.to + 1 - f.count) _ c.is_due.result are c.requires.some (omega arith)
@@ -31,9 +31,9 @@ returns c = λ stamps within sampled.
     let f = c.args.claim.now.proof in
     let gapped = gapped_of c.args.claim.now.kind in
     let due = f.to + 1 - f.count in
-    let t = c.args.sample.now.to + c.added.result in
+    let t = c.stamp-at.result in
     let are = c.reads-reads.ensures stamps (omega (arith, within)) sampled in
-    let at : t ≡ slice_index stamps f.to = omega (arith, c.added.ensures.value, sampled-to f c.args.claim.now.options stamps c.args.sample.now sampled within) in
+    let at : t ≡ slice_index stamps f.to = c.stamp-at.ensures.is ∙ sampled-to f c.args.claim.now.shift stamps c.args.sample.now sampled within in
     let last : 0 < due → at_most (read_of m n (anchor_of m (slice_index stamps 0)) gapped (due - 1)) (whole t) ≡ true =
     elim c.else-due-gt0.branch as (λ _. 0 < due → at_most (read_of m n (anchor_of m (slice_index stamps 0)) gapped (due - 1)) (whole t) ≡ true) [
       | else-due-gt0-via-then-due-gt0+else-not-is_due w ↦ λ some.

@@ -8,7 +8,12 @@ use Rattle.flow_worker.proofs.apart_files.Apart.new.Goals as goal
 
 pub loop-file-preserved : goal.loop-file-preserved
 loop-file-preserved c =
-    let s : Setting = record { media = c.args.run.now.media.now; workers = length c.args.run.now.lanes.now; joined = false; options = c.args.run.now.options } in
+    let s : Setting = record {
+      media = c.args.run.now.media.now;
+      workers = length c.args.run.now.lanes.now;
+      joined = false;
+      options = c.args.run.now.options;
+    } in
     let one : OneFile = record { judges = c.in_ok-judges.judges; ended = false } in
     record {
       count = search rules;

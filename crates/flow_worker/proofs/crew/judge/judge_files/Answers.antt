@@ -20,7 +20,6 @@ run_threads-requires-clause-run g c κs within =
       few_files = omega (arith, c.requires.few_files, count);
       some_workers = omega (arith, c.requires.some_workers, lanes);
       few_workers = omega (arith, c.requires.few_workers, lanes);
-      options = c.requires.options;
     }
 
 pub run_threads-requires-clause-workers : goal.run_threads-requires-clause-workers

@@ -10,7 +10,12 @@ pub loop-number-preserved : goal.loop-number-preserved
 loop-number-preserved c = record {
   count = search rules;
   each = λ joined dealt.
-      let s : Setting = record { media = c.args.run.now.media.now; workers = length c.args.run.now.lanes.now; joined = joined; options = c.args.run.now.options } in
+      let s : Setting = record {
+        media = c.args.run.now.media.now;
+        workers = length c.args.run.now.lanes.now;
+        joined = joined;
+        options = c.args.run.now.options;
+      } in
       each-push-at (λ number. IsPlace s c.args.worker (key_of c.args.file number) []) c.loop-number.number c.loop-number.places.items c.push.new.self.items
       c.own_judge.result c.loop-number.invariant.count
       c.in_ok-push.ensures.items (c.loop-number.invariant.each joined dealt)

@@ -1,4 +1,4 @@
-use Rattle.std.proofs.Common.{◌≡◌, ◌<◌, arith}
+use Rattle.std.proofs.Common.{arith}
 use Rattle.interval_checker.proofs.Outcomes.{at-beyond, at-done, at-open}
 use Rattle.interval_checker.proofs.walk.Walk.ending.Goals as goal
 
