@@ -12,7 +12,7 @@ use Rattle.pcap_reader.proofs.Captures.{some-records}
 use Rattle.udp_rtp.specs.Flow.{flow}
 use Rattle.interval_checker.specs.Asking.{IsAsked}
 use Rattle.interval_checker.specs.Checked.{IfReadFault, Says}
-use Rattle.interval_checker.specs.Readings.{AreSame, HasRead, asked_by, media_of, tai_of}
+use Rattle.interval_checker.specs.Readings.{AreSame, HasRead, asked_by, media_of, options_of}
 use Rattle.interval_checker.specs.Sources.{AreBack, RoseAt, TellTexts}
 use Rattle.interval_checker.specs.declared.fault.CheckFault.{CheckFault}
 use Rattle.interval_checker.specs.declared.fault.CheckFault.TheVariants as check_fault
@@ -40,7 +40,7 @@ tell-texts name left faults texts (n ∷ ns) (s ∷ ss) (r ∷ rs) f t = (f.1 �
 pub finds-answer : (m : Media) (claim : ReportProof) (options : FlowOptions) (texts : List (List ℕ)) (r : Reading) (finding : Result Bool Unjudged)
     → IsReadFor m options texts claim r
     → ((items : List Record) → HasRead r items → IsAsked (asked_by r) claim.run claim.proof
-    → Says (media_of r) claim.kind claim.proof claim.run (judged (flow items (media_of r)) (media_of r).pt (tai_of r)) finding)
+    → Says (media_of r) claim.kind claim.proof claim.run (judged (flow items (media_of r)) (media_of r).pt (options_of r)) finding)
     → Finds m claim options texts finding
 finds-answer m claim options texts r finding is answers =
     let all = some-records texts in
@@ -50,7 +50,7 @@ finds-answer m claim options texts r finding is answers =
       notes = all.1;
       records = all.2;
       says = subst (λ t. Says m claim.kind claim.proof claim.run (judged (flow (joined all.0) m) m.pt t) finding) is.late
-          (subst (λ (x : Media). Says x claim.kind claim.proof claim.run (judged (flow (joined all.0) x) x.pt (tai_of r)) finding) is.media says);
+          (subst (λ (x : Media). Says x claim.kind claim.proof claim.run (judged (flow (joined all.0) x) x.pt (options_of r)) finding) is.media says);
     }
 
 -- of two readings of one place
@@ -62,7 +62,7 @@ no-reading o r e f = cc
 
 -- a reading that was made with a claim's needs, and was read
 pub one-read : (m : Media) (claim : ReportProof) (options : FlowOptions) (texts : List (List ℕ)) (first : Reading) (rs : List Reading) (finding : Result Bool Unjudged)
-    → media_of first ≡ m → tai_of first ≡ options → IsAsked (asked_by first) claim.run claim.proof
+    → media_of first ≡ m → options_of first ≡ options → IsAsked (asked_by first) claim.run claim.proof
     → AreSame (first ∷ []) rs → ReadAs rs texts
     → ((x : Media) (t : ℕ) (l : List (List ℕ)) (r : Reading) → slice_get rs 0 ≡ Some r → IsReadFor x t l claim r → Finds x claim t l finding)
     → Finds m claim options texts finding
