@@ -65,7 +65,7 @@ ReadAs readings texts = (files : List (List Record)) (notes : List FileNote) →
 -- capture
 pub record IsReadFor (m : Media) (options : FlowOptions) (texts : List (List ℕ)) (claim : ReportProof) (r : Reading) : Type 0 where
   pub media : media_of r ≡ m
-  pub late : options_of r ≡ options
+  pub options_are : options_of r ≡ options
   pub asked : IsAsked (asked_by r) claim.run claim.proof
   pub read : (files : List (List Record)) (notes : List FileNote) → AreRecords texts files notes
       → HasRead r (joined files)
@@ -77,7 +77,7 @@ Asks asked file media claim = claim.key.file ≡ file → claim.key.media ≡ me
 -- the reading is of this media in this file, and everything that the claims on its flow need was asked for
 pub record IsAskedAll (options : FlowOptions) (claims : List ReportProof) (file number : ℕ) (m : Media) (r : Reading) : Type 0 where
   pub media : media_of r ≡ m
-  pub late : options_of r ≡ options
+  pub options_are : options_of r ≡ options
   pub asks : All (Asks (asked_by r) file number) claims
 
 -- the readings are of these media, the first of which has this number

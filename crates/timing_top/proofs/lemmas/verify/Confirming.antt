@@ -49,7 +49,7 @@ finds-answer m claim options texts r finding is answers =
       files = all.0;
       notes = all.1;
       records = all.2;
-      says = subst (λ t. Says m claim.kind claim.proof claim.run (judged (flow (joined all.0) m) m.pt t) finding) is.late
+      says = subst (λ t. Says m claim.kind claim.proof claim.run (judged (flow (joined all.0) m) m.pt t) finding) is.options_are
           (subst (λ (x : Media). Says x claim.kind claim.proof claim.run (judged (flow (joined all.0) x) x.pt (options_of r)) finding) is.media says);
     }
 
@@ -70,7 +70,7 @@ one-read m claim options texts first [] finding media late asked same read finds
 one-read m claim options texts first (r ∷ rs) finding media late asked same read finds =
     finds m options texts r refl record {
       media = same.0.media ∙ media;
-      late = same.0.options ∙ late;
+      options_are = same.0.options ∙ late;
       asked = asked-no_less (asked_by first) (asked_by r) claim.run claim.proof same.0.asked asked;
       read = λ files notes records. (read files notes records).0;
     }

@@ -88,7 +88,7 @@ asked-same options claims file number (m ∷ ms) (o ∷ os) [] h same = absurd s
 asked-same options claims file number (m ∷ ms) (o ∷ os) (n ∷ ns) h same = (
   record {
     media = same.0.media ∙ h.0.media;
-    late = same.0.options ∙ h.0.late;
+    options_are = same.0.options ∙ h.0.options_are;
     asks = All-weaker (Asks (asked_by o) file number) (Asks (asked_by n) file number) (asks-no_less (asked_by o) (asked_by n) file number same.0.asked) claims
         h.0.asks;
   },
@@ -125,7 +125,7 @@ serves-finds job media claims text read claim m finding s same reported there fi
     let names : captures_of job (key_at read.file) ≡ captures_of job claim.key = ap (λ f. captures_of job (key_at f)) (sym same) in
     finds m job.options (map text (captures_of job claim.key)) at.0 at.1 record {
       media = at.2.media;
-      late = at.2.late;
+      options_are = at.2.options_are;
       asked = All-contains (Asks (asked_by at.0) read.file (0 + claim.key.media)) claims claim at.2.asks reported same (omega arith);
       read = λ files notes records.
           read-at read.readings.items claim.key.media at.0 _

@@ -21,7 +21,7 @@ loop-number-preserved c = record {
       c.index-media-number.result c.new.result (search rules) (sym c.index-media-number.is) c.loop-number.invariant.asked
       record {
         media = c.new.ensures.media;
-        late = c.new.ensures.options;
+        options_are = c.new.ensures.options;
         asks = subst (λ (a : Asked). All (Asks a c.args.file c.loop-number.number) c.args.claims.now) (sym c.new.ensures.asked) c.in_ok-asked.ensures;
       } c.in_ok-push.ensures.items;
   none = none-more c.loop-number.readings.items c.push.new.self.items c.new.result c.in_ok-push.ensures.items c.loop-number.invariant.none
