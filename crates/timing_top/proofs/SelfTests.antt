@@ -3,6 +3,7 @@ use Rattle.std.proofs.Common.{◌≡◌, ◌^◌, ℕ, zero, suc, Bool, true, fa
 use Rattle.std.proofs.Common.{arith, ap, ◌∙◌, sym, subst}
 use Rattle.std.specs.Option.{option_map}
 use Rattle.std.specs.Prelude.{◌&&◌, ◌==◌, Result, Ok, Err}
+use Rattle.timing_base.specs.Shifts.{no_options}
 use Rattle.timing_base.specs.Captures.{Record}
 use Rattle.timing_base.specs.Examples.{plain_media}
 use Rattle.timing_base.specs.Media.{Media}
@@ -54,7 +55,7 @@ pub session-plain : session sdp_text ≡ Ok (plain_media ∷ [])
 session-plain = refl
 
 -- the row of the one flow of a capture
-pub one-row : (media : Media) (items : List Record) → (row : Row) × (rows_of 0 0 (media ∷ []) items ≡ row ∷ [])
+pub one-row : (media : Media) (items : List Record) → (row : Row) × (rows_of no_options 0 (media ∷ []) items ≡ row ∷ [])
 one-row media items = (_, refl)
 
 -- there is one line of each flaw
@@ -89,7 +90,7 @@ only-line : (frames flaw : ℕ) (a b : List ℕ) → HasLine frames flaw a → H
 only-line frames flaw a b h k =
     let media = same-media h.media k.media (session sdp_text) h.session_is k.session_is in
     let same = only_by (header (capture frames frames flaw)) (2 ^ 40) (capture frames frames flaw) h.items k.items h.note k.note h.records k.records in
-    let row = same-row h.row k.row _ (h.row_is) (ap (λ m. rows_of 0 0 (m ∷ []) h.items) media ∙ ap (λ l. rows_of 0 0 (k.media ∷ []) l) same.0 ∙ k.row_is) in
+    let row = same-row h.row k.row _ (h.row_is) (ap (λ m. rows_of no_options 0 (m ∷ []) h.items) media ∙ ap (λ l. rows_of no_options 0 (k.media ∷ []) l) same.0 ∙ k.row_is) in
     h.line_is ∙ ap (λ m. flaw_line flaw m h.note h.row) media
     ∙ ap (λ n. flaw_line flaw k.media n h.row) same.1
     ∙ ap (λ r. flaw_line flaw k.media k.note r) row
@@ -114,14 +115,14 @@ pub record OneFound (text : List ℕ) (media : Media) (notes : List FileNote) (f
   pub records : Records text (2 ^ 40) items note
   pub notes_are : notes ≡ note ∷ []
   pub found_is : found ≡ row ∷ []
-  pub row_is : rows_of 0 0 (media ∷ []) items ≡ row ∷ []
+  pub row_is : rows_of no_options 0 (media ∷ []) items ≡ row ∷ []
 
-pub one-found : (text : List ℕ) (media : Media) (notes : List FileNote) (found : List Row) → AreFound (text ∷ []) (rows_of_files 0 0 (media ∷ [])) notes found
+pub one-found : (text : List ℕ) (media : Media) (notes : List FileNote) (found : List Row) → AreFound (text ∷ []) (rows_of_files no_options 0 (media ∷ [])) notes found
     → OneFound text media notes found
 unfolding one-row
 one-found text media notes found h = by-files h.files notes h.records h.rows_are
   where
-    by-files : (files : List (List Record)) (notes : List FileNote) → AreRecords (text ∷ []) files notes → found ≡ rows_of_files 0 0 (media ∷ []) files
+    by-files : (files : List (List Record)) (notes : List FileNote) → AreRecords (text ∷ []) files notes → found ≡ rows_of_files no_options 0 (media ∷ []) files
         → OneFound text media notes found
     by-files [] notes r e = absurd r
     by-files (f ∷ fs) [] r e = absurd r
@@ -178,13 +179,13 @@ pub found-made : (frames flaw : ℕ) (bytes mid last : List ℕ → List ℕ)
     → listed ≡ media
     → ((names texts : List (List ℕ)) → AreFetched steady_name steady_left steady_faults (classic_texts (λ n. Some (last n))) names sources
     → AreTold (classic_texts (λ n. Some (last n))) names texts
-    → AreFound texts (rows_over false 0 listed) notes found)
-    → AreFound (capture frames frames flaw ∷ []) (rows_of_files 0 0 (plain_media ∷ [])) notes found
+    → AreFound texts (rows_over false no_options listed) notes found)
+    → AreFound (capture frames frames flaw ∷ []) (rows_of_files no_options 0 (plain_media ∷ [])) notes found
 found-made frames flaw bytes mid last asked sources media listed notes found made named early late fetched plain same told =
     let whole : Some (last asked) ≡ Some (capture frames frames flaw) = late asked ∙ early asked ∙ ap (λ n. Some (bytes n)) named ∙ ap Some made in
     let text : classic_texts (λ n. Some (last n)) asked ≡ Some (capture frames frames flaw) = ap (option_map classic) whole ∙ ap Some
     (classic-capture frames frames flaw) in
-    subst (λ (m : List Media). AreFound (capture frames frames flaw ∷ []) (rows_over false 0 m) notes found) (same ∙ session-is media plain)
+    subst (λ (m : List Media). AreFound (capture frames frames flaw ∷ []) (rows_over false no_options m) notes found) (same ∙ session-is media plain)
     (told (asked ∷ []) (capture frames frames flaw ∷ [])
     (fetched-same steady_name steady_left steady_faults (classic_texts (λ n. Some (mid n))) (classic_texts (λ n. Some (last n))) (asked ∷ []) sources
     (λ n. ap (option_map classic) (late n)) fetched)
@@ -192,7 +193,7 @@ found-made frames flaw bytes mid last asked sources media listed notes found mad
 
 -- the line of what was found
 pub has-line : (frames flaw : ℕ) (line : List ℕ) (notes : List FileNote) (found : List Row)
-    → AreFound (capture frames frames flaw ∷ []) (rows_of_files 0 0 (plain_media ∷ [])) notes found
+    → AreFound (capture frames frames flaw ∷ []) (rows_of_files no_options 0 (plain_media ∷ [])) notes found
     → ((note : FileNote) (row : Row) → notes ≡ note ∷ [] → found ≡ row ∷ [] → line ≡ flaw_line flaw plain_media note row) → HasLine frames flaw line
 has-line frames flaw line notes found h told =
     let one = one-found (capture frames frames flaw) plain_media notes found h in

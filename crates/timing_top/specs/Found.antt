@@ -48,7 +48,7 @@ Judges rows media tells from old new sources outcome =
     IsJudged (name_of from.name) (left_of from.left) (faults_of from.faults) (seen_of tells old new)
     sources rows media outcome
 
--- captures that may be judged: at most 16 and 64 media, no read of them has failed, and at most 1,000 seconds are added
+-- captures that may be judged: at most 16 and 64 media, and no read of them has failed
 pub record AreReady {S : Type 0} (faults : S → ℕ) (sources : List S) (media : List Media) : Type 0 where
   pub few : length sources ≤ 16
   pub fresh : All (λ source. faults source ≡ 0) sources

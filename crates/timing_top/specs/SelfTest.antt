@@ -2,6 +2,7 @@
 -- number of frames, and judged with the SDP `plain.sdp`.
 use Rattle.std.specs.Prelude.{◌≡◌, ℕ, zero, suc, ◌^◌, List, [], ◌∷◌, ◌++◌, Ok, codes}
 use Rattle.std.specs.Fmt.{decimal}
+use Rattle.timing_base.specs.Shifts.{no_options}
 use Rattle.timing_base.specs.Captures.{Record}
 use Rattle.timing_base.specs.Media.{Media}
 use Rattle.timing_base.specs.declared.capture.FileNote.{FileNote}
@@ -30,7 +31,7 @@ pub record HasLine (frames flaw : ℕ) (line : List ℕ) : Type 0 where
   pub row : Row
   pub session_is : session sdp_text ≡ Ok (media ∷ [])
   pub records : Records (capture frames frames flaw) (2 ^ 40) items note
-  pub row_is : rows_of 0 0 (media ∷ []) items ≡ row ∷ []
+  pub row_is : rows_of no_options 0 (media ∷ []) items ≡ row ∷ []
   pub line_is : line ≡ flaw_line flaw media note row
 
 -- the lines of the captures with the flaws below `count`, in order

@@ -64,7 +64,7 @@ no-reading o r e f = cc
 pub one-read : (m : Media) (claim : ReportProof) (options : FlowOptions) (texts : List (List ℕ)) (first : Reading) (rs : List Reading) (finding : Result Bool Unjudged)
     → media_of first ≡ m → options_of first ≡ options → IsAsked (asked_by first) claim.run claim.proof
     → AreSame (first ∷ []) rs → ReadAs rs texts
-    → ((x : Media) (t : ℕ) (l : List (List ℕ)) (r : Reading) → slice_get rs 0 ≡ Some r → IsReadFor x t l claim r → Finds x claim t l finding)
+    → ((x : Media) (t : FlowOptions) (l : List (List ℕ)) (r : Reading) → slice_get rs 0 ≡ Some r → IsReadFor x t l claim r → Finds x claim t l finding)
     → Finds m claim options texts finding
 one-read m claim options texts first [] finding media late asked same read finds = absurd same
 one-read m claim options texts first (r ∷ rs) finding media late asked same read finds =

@@ -82,7 +82,7 @@ has-verified job media m texts claim options finding answer found asked late h i
   defined = subst (λ o. OnMedia o (λ x. DefinesVerified job x h.files answer)) (sym found) (record {
     finding = finding;
     finds = subst (λ (c : ReportProof). FindsIn m c job.options h.files finding) asked
-        (subst (λ (t : ℕ). FindsIn m claim t h.files finding) late h.says);
+        (subst (λ (t : FlowOptions). FindsIn m claim t h.files finding) late h.says);
     answer_is = is;
   });
 }

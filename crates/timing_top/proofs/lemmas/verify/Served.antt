@@ -117,7 +117,7 @@ read-at (x ∷ rs) (suc k) r items h e = read-at rs k r items h.1 e
 pub serves-finds : (job : ReportJob) (media : List Media) (claims : List ReportProof) (text : List ℕ → List ℕ) (read : FileRead) (claim : ReportProof)
     (m : Media) (finding : Result Bool Unjudged) → Serves job media claims text read → claim.key.file ≡ read.file → Contains claims claim
     → slice_get media claim.key.media ≡ Some m
-    → ((x : Media) (t : ℕ) (l : List (List ℕ)) (r : Reading) → slice_get read.readings.items claim.key.media ≡ Some r → IsReadFor x t l claim r
+    → ((x : Media) (t : FlowOptions) (l : List (List ℕ)) (r : Reading) → slice_get read.readings.items claim.key.media ≡ Some r → IsReadFor x t l claim r
     → Finds x claim t l finding)
     → Finds m claim job.options (map text (captures_of job claim.key)) finding
 serves-finds job media claims text read claim m finding s same reported there finds =
