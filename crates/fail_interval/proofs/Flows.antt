@@ -219,7 +219,7 @@ begins-next m packets shift i rec_number at seen expected so_far done new (Some 
     (open-same _ _ _ _ _ _ _ (sym rec) (sym number) (sym expects_run))
     (cut-next m packets shift i rec_number at seen expected so_far done open_run _ run.judge next expects stands refl starts o))
 
--- what starts with packet i, where the media, the seconds and the marker are known by equations
+-- what starts with packet i, where the media, the limits and the marker are known by equations
 pub begins-as : {M : Type 0} (m more_m : Media) (packets : List FlowPacket) (shift : Shift) (more_tai i rec_number at : ℕ) (seen : Rtp) (marker : Bool) (expected : Option ℕ)
     (so_far : SoFar) (done new : List Run) (open_run : Option (OpenRun M)) (run : OpenRun M)
     → more_m ≡ m → more_tai ≡ shift

@@ -28,7 +28,7 @@ use Rattle.fail_interval.specs.declared.flow.OpenRun.{OpenRun}
 use Rattle.fail_interval.specs.declared.judge.FlowJudge.{FlowJudge}
 use Rattle.fail_interval.specs.declared.judge.State.{State}
 use Rattle.fail_interval.specs.declared.judge.State.TheVariants.{Going, Refused, Spent}
-use Rattle.fail_interval.proofs.Feeding.{shift}
+use Rattle.fail_interval.proofs.Feeding.{onward}
 use Rattle.fail_interval.proofs.FlowTold.{now-told}
 use Rattle.fail_interval.proofs.Judging.{at-flow}
 use Rattle.fail_interval.proofs.Rows.{no_fault, opens}
@@ -43,21 +43,21 @@ at-before stands tells past m shift packets zero so_far done None out o t = t
 at-before stands tells past m shift packets (suc n) so_far done None out o t = absurd (omega (arith, o.0))
 at-before stands tells past m shift packets n so_far done (Some open_run) out o t = t.out_tells
 
--- of a flow whose media and seconds are known by equations
+-- of a flow whose media and limits are known by equations
 flow-as : {M Out Past : Type 0} (stands : Standing M) (tells : Telling Past Out) (past : Past) (flow : Flow M) (m : Media) (shift : Shift) (packets : List FlowPacket)
     (out : Out)
     → flow.media ≡ m → flow.shift ≡ shift
     → Tells stands tells past m shift packets flow.open out → FlowTells stands tells past flow packets out
-flow-as stands tells past flow m shift packets out media seconds t =
+flow-as stands tells past flow m shift packets out media limits t =
     subst (λ k. Tells stands tells past k flow.shift packets flow.open out) (sym media)
-    (subst (λ s. Tells stands tells past m s packets flow.open out) (sym seconds) t)
+    (subst (λ s. Tells stands tells past m s packets flow.open out) (sym limits) t)
 
 as-flow : {M Out Past : Type 0} (stands : Standing M) (tells : Telling Past Out) (past : Past) (flow : Flow M) (m : Media) (shift : Shift) (packets : List FlowPacket)
     (out : Out)
     → flow.media ≡ m → flow.shift ≡ shift
     → FlowTells stands tells past flow packets out → Tells stands tells past m shift packets flow.open out
-as-flow stands tells past flow m shift packets out media seconds t =
-    subst (λ s. Tells stands tells past m s packets flow.open out) seconds
+as-flow stands tells past flow m shift packets out media limits t =
+    subst (λ s. Tells stands tells past m s packets flow.open out) limits
     (subst (λ k. Tells stands tells past k flow.shift packets flow.open out) media t)
 
 -- the packets of a judge whose flow can go on
@@ -155,7 +155,7 @@ refused-tells stands tells past m key shift rec fault judge flow state packets p
     let c = can m key shift p.at judge flow packets e few stamp s in
     let told = told-flow stands tells past m key shift judge flow packets out e s t in
     subst (λ x. StateTells stands tells past m shift (packets ++ p ∷ []) x out) (sym ended)
-    (shift (λ all n. TellsSoFar tells past m shift all n out) packets p
+    (onward (λ all n. TellsSoFar tells past m shift all n out) packets p
     (λ rest.
     let all = packets ++ p ∷ rest in
     let n = length packets in
@@ -179,7 +179,7 @@ ended-tells {M} stands tells past m key shift rec fault judge state packets p ou
     let told : (rest : List FlowPacket) → TellsSoFar tells past m shift (packets ++ rest) (length packets) out =
     subst (λ (x : State M). StateTells stands tells past m shift packets x out) e t in
     subst (λ (x : State M). StateTells stands tells past m shift (packets ++ p ∷ []) x out) (sym stays)
-    (shift (λ all n. TellsSoFar tells past m shift all n out) packets p
+    (onward (λ all n. TellsSoFar tells past m shift all n out) packets p
     (λ rest.
     let all = packets ++ p ∷ rest in
     let n = length packets in

@@ -5,7 +5,7 @@ use Rattle.std.proofs.Math.Logic.{∥∥₁_map}
 use Rattle.timing_base.specs.Shifts.{FlowOptions}
 use Rattle.timing_base.specs.Captures.{IsStamp}
 use Rattle.timing_base.specs.Flows.{first_fault_below, packet}
-use Rattle.timing_base.specs.Judged.{judged, refusal}
+use Rattle.timing_base.specs.Judged.{judged_as_numbered, refusal}
 use Rattle.timing_base.specs.Media.{Media}
 use Rattle.timing_base.specs.declared.key.FlowKey.{FlowKey}
 use Rattle.timing_base.specs.declared.packet.FlowPacket.{FlowPacket}
@@ -24,7 +24,7 @@ use Rattle.fail_interval.specs.declared.flow.Flow.{Flow}
 use Rattle.fail_interval.specs.declared.judge.FlowJudge.{FlowJudge}
 use Rattle.fail_interval.specs.declared.judge.State.{State}
 use Rattle.fail_interval.specs.declared.judge.State.TheVariants.{Going, Refused, Spent}
-use Rattle.fail_interval.proofs.Feeding.{shift, stamped-more}
+use Rattle.fail_interval.proofs.Feeding.{onward, stamped-more}
 use Rattle.fail_interval.proofs.Flows.{packet-here}
 use Rattle.fail_interval.proofs.Rows.{refused-verdict}
 
@@ -117,12 +117,12 @@ pub going-more : {M : Type 0} {T E : Type 0} (value : T) (rec at : ℕ) (rtp : R
     → new.media ≡ flow.media → new.options ≡ flow.options
     → Took flow new (fed_packet rec at rtp)
     → Takes {T = T} {E = E} judge (judge_by judge.key (judge.fed + 1) (Going new) known) (fed_packet rec at rtp) (Ok value)
-going-more value rec at rtp judge flow new known e few stamp media seconds goes =
+going-more value rec at rtp judge flow new known e few stamp media limits goes =
     took (Ok value) rec at rtp judge (Going new) known refl (λ spent. cc)
     (λ m key options packets s.
     let is = at-flow m options at judge.state flow packets e s.state in
     let c : CanGoOn flow packets at = record { stands = is.2; stamped = s.stamped; stamp = stamp; few = omega (arith, s.fed, few) } in
-    more m key options rec at rtp judge (Going new) known packets stamp s (media ∙ is.0, seconds ∙ is.1, goes packets c))
+    more m key options rec at rtp judge (Going new) known packets stamp s (media ∙ is.0, limits ∙ is.1, goes packets c))
 
 -- a judge stands for its packets with a state that equals its own
 pub same-state : {M : Type 0} (m : Media) (key : FlowKey) (options : FlowOptions) (judge : FlowJudge M) (state : State M) (known : ∥ IsKnown judge.fed state ∥₁) (packets : List FlowPacket)
@@ -185,9 +185,9 @@ refused-more : (m : Media) (packets : List FlowPacket) (p : FlowPacket) (rec : �
     → IsRefused m (packets ++ p ∷ []) rec fault
 refused-more m packets p rec fault r = record {
   index = r.index;
-  first = shift (λ all n. first_fault_below all m.pt n ≡ Some (record { index = r.index; fault = fault })) packets p
+  first = onward (λ all n. first_fault_below all m.pt n ≡ Some (record { index = r.index; fault = fault })) packets p
       (λ rest. fault-kept (packets ++ p ∷ rest) m.pt (length packets) (length packets + 1) _ (omega arith) (r.first (p ∷ rest)));
-  rec_is = shift (λ all n. (packet all r.index).rec ≡ rec) packets p (λ rest. r.rec_is (p ∷ rest));
+  rec_is = onward (λ all n. (packet all r.index).rec ≡ rec) packets p (λ rest. r.rec_is (p ∷ rest));
 }
 
 -- the flow ends with a fault
@@ -204,9 +204,9 @@ refused-now result rec at rtp fault judge flow state known e (ok, ended) few sta
     let p = fed_packet rec at rtp in
     let refused : IsRefused m (packets ++ p ∷ []) rec fault = record {
       index = length packets;
-      first = shift (λ all n. first_fault_below all m.pt n ≡ Some (record { index = length packets; fault = fault })) packets p
+      first = onward (λ all n. first_fault_below all m.pt n ≡ Some (record { index = length packets; fault = fault })) packets p
           (λ rest. subst (λ (k : Media). has_fault (packets ++ p ∷ rest) k.pt (length packets) fault) is.0 (ends packets rest c));
-      rec_is = shift (λ all n. (packet all (length packets)).rec ≡ rec) packets p (λ rest. ap (λ (q : FlowPacket). q.rec) (packet-here packets rest p));
+      rec_is = onward (λ all n. (packet all (length packets)).rec ≡ rec) packets p (λ rest. ap (λ (q : FlowPacket). q.rec) (packet-here packets rest p));
     } in
     more m key options rec at rtp judge state known packets stamp s (subst (IsAt m options (packets ++ p ∷ [])) (sym ended) refused))
 
@@ -283,7 +283,7 @@ row-same a b v w e f = cc
 -- the row of a flow that has no fault
 pub row-going : {M : Type 0} (m : Media) (key : FlowKey) (options : FlowOptions) (judge : FlowJudge M) (flow : Flow M) (told verdict : Verdict) (packets : List FlowPacket)
     → judge.state ≡ Going flow
-    → ((packets : List FlowPacket) → FlowStandsFor flow packets → verdict ≡ verdict_of flow.media (judged packets flow.media.pt flow.options))
+    → ((packets : List FlowPacket) → FlowStandsFor flow packets → verdict ≡ verdict_of flow.media (judged_as_numbered packets flow.media.pt flow.options))
     → told ≡ verdict
     → StandsFor m key options judge packets
     → row_by judge.key told ≡ row packets key m options
@@ -291,7 +291,7 @@ row-going m key options judge flow told verdict packets e says is s =
     let at = at-flow m options 0 judge.state flow packets e s.state in
     row-same _ _ _ _ s.key_is
     (is ∙ (says packets at.2
-    ∙ (ap (λ (k : Media). verdict_of k (judged packets k.pt flow.options)) at.0 ∙ ap (λ t. verdict_of m (judged packets m.pt t)) at.1)))
+    ∙ (ap (λ (k : Media). verdict_of k (judged_as_numbered packets k.pt flow.options)) at.0 ∙ ap (λ t. verdict_of m (judged_as_numbered packets m.pt t)) at.1)))
 
 -- and of one that has
 pub row-refused : {M : Type 0} (m : Media) (key : FlowKey) (options : FlowOptions) (rec : ℕ) (fault : PacketFault) (judge : FlowJudge M) (told verdict : Verdict) (packets : List FlowPacket)

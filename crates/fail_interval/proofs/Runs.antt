@@ -154,7 +154,7 @@ pub so_far_at-next : (packets : List FlowPacket) (shift : Shift) (from to : ℕ)
 so_far_at-next packets shift from to order within = next-case packets shift from to (has_marker packets to) refl order within
 
 -- what is judged of a run, by its markers
-abbrev outcome_by : List FlowPacket → ℕ → ℕ → ℕ → List ℕ → RunOutcome
+abbrev outcome_by : List FlowPacket → Shift → ℕ → ℕ → List ℕ → RunOutcome
 outcome_by packets shift from to marks =
     if nat_lt (length marks) 2 then no_whole_frame (head_len marks from to) else whole_frames record {
       n = slice_index marks 1 - slice_index marks 0;
