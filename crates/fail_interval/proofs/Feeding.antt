@@ -282,7 +282,7 @@ some-of None e = cc
 some-of (Some n) e = (n, refl)
 
 -- a packet that was not read has a fault
-unread-fault : (packets : List FlowPacket) (pt i : ℕ) (fault_here : PacketFault) → (packet packets i).rtp ≡ Err fault_here
+pub unread-fault : (packets : List FlowPacket) (pt i : ℕ) (fault_here : PacketFault) → (packet packets i).rtp ≡ Err fault_here
     → fault packets pt i ≡ Some fault_here
 unread-fault packets pt i fault_here e =
     ap (λ r. first_of (first_of (reading_fault r)

@@ -279,12 +279,12 @@ begins-told stands tells past m packets shift i pt seen so_far done new (Some op
     (omega (arith, count, long, o.count, length-append places (i ∷ []))) rec number stood begun
     (subst (λ parts. tells past mid m shift parts None) (sym (parts_over-push m packets shift 1 0 i places)) telling))
 
--- where the media and the limits are known by equations
+-- where the media and the shift are known by equations
 pub begins-told-as : {M Out Past : Type 0} (stands : Standing M) (tells : Telling Past Out) (past : Past) (m more_m : Media) (packets : List FlowPacket)
-    (shift : Shift) (more_tai i pt : ℕ) (seen : Rtp) (marker : Bool) (so_far : SoFar) (done new : List Run) (open_run : Option (OpenRun M)) (run : OpenRun M)
+    (shift more_shift : Shift) (i pt : ℕ) (seen : Rtp) (marker : Bool) (so_far : SoFar) (done new : List Run) (open_run : Option (OpenRun M)) (run : OpenRun M)
     (head : RunHead)
     (told : RunPacket) (before mid after : Out)
-    → more_m ≡ m → more_tai ≡ shift → marker ≡ seen.marker
+    → more_m ≡ m → more_shift ≡ shift → marker ≡ seen.marker
     → ComesNext packets shift i told.rec told.at seen → told.timestamp ≡ seen.timestamp
     → StartsAt packets i open_run
     → OpensAt m shift packets i so_far done open_run
@@ -296,13 +296,13 @@ pub begins-told-as : {M Out Past : Type 0} (stands : Standing M) (tells : Tellin
     → ((past : Past) (shift : Shift) (first : FlowPacket) (over : List JudgedPart) → told ≡ told_of shift first → Heads first head → tells past mid more_m shift over None
     → TellsOf stands tells past more_m shift head.run first over run.judge after [] [])
     → TellsAt stands tells past m shift packets i open_run before
-    → TellsAt stands tells past more_m more_tai packets (i + 1) (Some run) after
-begins-told-as stands tells past m more_m packets shift more_tai i pt seen marker so_far done new open_run run head told before mid after e f marked next
+    → TellsAt stands tells past more_m more_shift packets (i + 1) (Some run) after
+begins-told-as stands tells past m more_m packets shift more_shift i pt seen marker so_far done new open_run run head told before mid after e f marked next
     timestamp starts o
     sound count rec number closed closes stood begun t =
     let stood_so = subst (λ k. RunStandsFor k run.judge (so_far_next (in_head 0) told.at seen.marker)) e
     (subst (λ b. RunStandsFor more_m run.judge (so_far_next (in_head 0) told.at b)) marked stood) in
-    subst (λ k. TellsAt stands tells past k more_tai packets (i + 1) (Some run) after) (sym e)
+    subst (λ k. TellsAt stands tells past k more_shift packets (i + 1) (Some run) after) (sym e)
     (subst (λ s. TellsAt stands tells past m s packets (i + 1) (Some run) after) (sym f)
     (begins-told stands tells past m packets shift i pt seen so_far done new open_run run head told before mid after next timestamp starts o sound count rec
     number closed

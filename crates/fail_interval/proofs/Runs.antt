@@ -171,10 +171,10 @@ not_none : (n : ℕ) → (suc n == 0) ≡ false
 not_none n = grind (arith, nat_tests)
 
 -- a judged run by its parts
-whole_by-same : (n groups head more_head tail more_tail : ℕ) (stamps : List ℕ) → head ≡ more_head → tail ≡ more_tail
+whole_by-same : (n groups head more_head tail more_shiftl : ℕ) (stamps : List ℕ) → head ≡ more_head → tail ≡ more_shiftl
     → whole_frames (record { n = n; groups = groups; head = head; tail = tail; stamps = stamps })
-    ≡ whole_frames (record { n = n; groups = groups; head = more_head; tail = more_tail; stamps = stamps })
-whole_by-same n groups head more_head tail more_tail stamps e f = cc
+    ≡ whole_frames (record { n = n; groups = groups; head = more_head; tail = more_shiftl; stamps = stamps })
+whole_by-same n groups head more_head tail more_shiftl stamps e f = cc
 
 outcome-case : (packets : List FlowPacket) (shift : Shift) (from to : ℕ) (marks : List ℕ) → to ≤ length packets
     → (1 ≤ length marks → (slice_index marks 0 ≤ last_place marks) × (last_place marks < to))

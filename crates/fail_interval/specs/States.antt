@@ -27,6 +27,13 @@ IsAt m shift packets (Going flow) = (flow.media ≡ m) × (flow.shift ≡ shift)
 IsAt m shift packets (Refused rec fault) = IsRefused m packets rec fault
 IsAt m shift packets Spent = ⊥
 
+-- the state is that after these packets of a flow, which are `fed` packets
+pub record StandsFor {M : Type 0} (m : Media) (shift : Shift) (fed : ℕ) (packets : List FlowPacket) (state : State M)
+    : Type 0 where
+  pub count : fed ≡ length packets
+  pub stamped : AreStamped packets
+  pub is : IsAt m shift packets state
+
 -- a flow without a fault was fed exactly these packets
 pub record IsFedTo {M : Type 0} (flow : Flow M) (fed : ℕ) (packets : List FlowPacket) : Type 0 where
   pub count : length packets ≡ fed

@@ -8,7 +8,7 @@ ghost use Rattle.timing_base.specs.declared.packet.FlowPacket.{FlowPacket};
 ghost use Rattle.timing_base.specs.declared.packet.Rtp.{Rtp as RtpValue};
 ghost use Rattle.timing_base.specs.Judged.{judged_as_numbered};
 ghost use Rattle.frame_group.specs.Cuts.{cut_at};
-ghost use Rattle.frame_group.specs.Expected.{expected_after};
+ghost use Rattle.frame_group.specs.Expected.{expected_after, last_number_of};
 ghost use Rattle.timing_base.specs.Media.{Media as MediaValue};
 ghost use Rattle.fail_interval.specs.Row.{verdict_of};
 ghost use Rattle.fail_interval.specs.SoFar.{SoFar, in_head, outcome_of, so_far_next};
@@ -133,6 +133,13 @@ impl<M: RunMeter> Flow<M> {
             done: Vec::new(alloc),
             open: None,
         }
+    }
+
+    /// Returns the packet number of the last packet; `None` before the first packet.
+    pub fn last_number(&self) -> Option<u32>
+        ensures { (packets : List FlowPacket) → StandsFor self.now packets → result ≡ last_number_of packets }
+    {
+        self.grouper.last_number()
     }
 
     /// Ends the open run, if there is one. Returns `Err` if memory runs out.
