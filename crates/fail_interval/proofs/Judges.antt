@@ -1,12 +1,12 @@
 -- A judge is fed one packet, by its judged number.
-use Rattle.std.proofs.Common.{◌≡◌, ◌<◌, ◌+◌, ◌-◌, ◌%◌, ◌^◌, ℕ, Bool, true, false, List, [], ◌∷◌, ◌++◌, length, length-append, Option, Some, None, Ok, Err, Result}
+use Rattle.std.proofs.Common.{◌≡◌, ◌<◌, ◌+◌, ◌^◌, ℕ, Bool, true, false, List, [], ◌∷◌, ◌++◌, length, length-append, Option, Some, None, Ok, Err, Result}
 use Rattle.std.proofs.Common.{refl, arith, ap, ◌∙◌, sym, subst}
-use Rattle.std.specs.Prelude.{IsErr, IsOk, OnErr, OnOk}
+use Rattle.std.specs.Prelude.{OnOk}
 use Rattle.std.proofs.lemmas.List.Elements.{All-nil}
 use Rattle.timing_base.specs.Captures.{IsStamp}
-use Rattle.timing_base.specs.Flows.{first_fault, first_fault_below, rtp}
+use Rattle.timing_base.specs.Flows.{first_fault, rtp}
 use Rattle.timing_base.specs.Media.{Media}
-use Rattle.timing_base.specs.Numbered.{counted, last_counted, numbered}
+use Rattle.timing_base.specs.Numbered.{counted, numbered}
 use Rattle.timing_base.specs.Shifts.{FlowOptions, Shift}
 use Rattle.timing_base.specs.declared.key.FlowKey.{FlowKey}
 use Rattle.timing_base.specs.declared.packet.FlowPacket.{FlowPacket}
@@ -22,7 +22,7 @@ use Rattle.fail_interval.specs.Flowing.{StandsFor as FlowStandsFor}
 use Rattle.fail_interval.specs.Goings.{CountsOn, GoesAsExpected, StateTakes}
 use Rattle.fail_interval.specs.Measured.{JudgeTells, StateTells, StateTellsTaken, TellsGoingOn, TellsSoFar}
 use Rattle.fail_interval.specs.Metered.{Standing, Telling}
-use Rattle.fail_interval.specs.Row.{row, verdict_of}
+use Rattle.fail_interval.specs.Row.{row}
 use Rattle.fail_interval.specs.Stands.{StandsFor, Takes, TakesExpected}
 use Rattle.fail_interval.specs.States.{IsAt, IsKnown, IsRefused, StandsFor as StateStandsFor}
 use Rattle.fail_interval.specs.Taken.{IsExpected}

@@ -1,6 +1,6 @@
 -- The state of a judge is fed one packet, and gives the verdict.
 use Rattle.std.proofs.Common.{◌≡◌, ◌<◌, ◌+◌, ◌^◌, ℕ, List, [], ◌∷◌, ◌++◌, length, length-append, None, Some, Ok, Err, Result, arith, ap, ◌∙◌, refl, sym, subst}
-use Rattle.std.specs.Prelude.{IsErr, IsOk, OnErr, OnOk}
+use Rattle.std.specs.Prelude.{IsErr, IsOk}
 use Rattle.std.proofs.Math.Logic.{∥∥₁_map}
 use Rattle.std.proofs.lemmas.List.{append-nil}
 use Rattle.timing_base.specs.Shifts.{Shift}

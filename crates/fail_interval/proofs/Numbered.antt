@@ -1,6 +1,6 @@
 -- The judged numbers of a flow's packets, one packet on.
 use Rattle.std.proofs.Common.{◌≡◌, ◌<◌, ◌+◌, ◌-◌, ◌%◌, ◌^◌, ℕ, zero, suc, Bool, true, false, List, [], ◌∷◌, ◌++◌, length, length-append, Option, Some, None}
-use Rattle.std.proofs.Common.{Result, Ok, Err, refl, arith, ap, ◌∙◌, sym, subst}
+use Rattle.std.proofs.Common.{Result, Ok, Err, refl, arith, ap, ◌∙◌, sym}
 use Rattle.std.specs.Prelude.{◌==◌, if◌then◌else◌, IsOk}
 use Rattle.std.proofs.lemmas.Bool.Decides.{nat_tests}
 use Rattle.timing_base.specs.Flows.{first_fault, first_fault_below, first_of, next_number, packet, read_or_zeros, reading_fault, rtp}
