@@ -143,7 +143,8 @@ records-came leaves k (x ∷ xs) same =
     (records-came leaves (k + 1) xs (λ j stamp few. same j stamp (omega (arith, few))))
 
 -- the packets of a head keep their stamps
-pub capture-head : (shift : Shift) (head : ℕ) (records : List Record) → length records ≤ head → shaped_capture shift head [] records ≡ file_head ++ came_text records
+pub capture-head : (shift : Shift) (head : ℕ) (records : List Record) → length records ≤ head
+    → shaped_capture shift head [] records ≡ file_head ++ came_text records
 capture-head shift head records few =
     ap (λ l. file_head ++ l)
     (records-came (leaves_at shift head []) 0 records

@@ -69,7 +69,8 @@ run-of packets pt shift run e =
     (run_outcome packets shift 0 (length packets)) (runs packets shift)
     (subst (IsOne (whole_frames run)) (sym e) refl)
 
-pub one-run : (packets : List FlowPacket) (pt : ℕ) (shift : Shift) (run : JudgedRun) → judged_as_numbered packets pt shift ≡ in_one_run (whole_frames run) → IsOneRun packets shift run
+pub one-run : (packets : List FlowPacket) (pt : ℕ) (shift : Shift) (run : JudgedRun) → judged_as_numbered packets pt shift ≡ in_one_run (whole_frames run)
+    → IsOneRun packets shift run
 one-run packets pt shift run e =
     let out = run-of packets pt shift run e in
     whole-of packets shift (head_len (markers packets 0 (length packets)) 0 (length packets)) run (nat_lt (length (markers packets 0 (length packets))) 2) refl
@@ -126,6 +127,7 @@ within-run packets shift run one =
 abbrev pub JudgeTakes : Media → (old new : Judging) → List Record → Type 0
 JudgeTakes m old new items = Feeds {Past = Unit {0}} false (λ _ _ _ _ _ _. ⊤) (λ _ _ _ _ _ _. ⊤) m old new items
 
-pub judge-took : (m : Media) (key : FlowKey) (options : FlowOptions) (old new : Judging) (items : List Record) (packets : List FlowPacket) → JudgeTakes m old new items
+pub judge-took : (m : Media) (key : FlowKey) (options : FlowOptions) (old new : Judging) (items : List Record) (packets : List FlowPacket)
+    → JudgeTakes m old new items
     → StandsFor m key options old.judge packets → StandsFor m key options new.judge (packets ++ flow items m)
 judge-took m key options old new items packets takes s = (takes tt key options packets (record { judge_is = s; told = λ wanted. cc })).judge_is

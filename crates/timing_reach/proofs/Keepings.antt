@@ -82,14 +82,16 @@ reads-packet old new p frame stamp short takes keeps = λ m r is carried key opt
     }
 
 -- the records of a text were read
-pub kept-in : (text : List ℕ) (m : Media) (key : FlowKey) (options : FlowOptions) (list : Bool) (old new : Reading) (f : KeptFlow) → IsReading m key options list old []
+pub kept-in : (text : List ℕ) (m : Media) (key : FlowKey) (options : FlowOptions) (list : Bool) (old new : Reading) (f : KeptFlow)
+    → IsReading m key options list old []
     → TakesIn (ReadsOn m) text old new → ((items : List Record) → IsReading m key options list new items → IsKeptFlow m options list items f)
     → IsKeptIn m options list text f
 kept-in text m key options list old new f start t finish =
     record { items = t.items; note = t.note; records = t.records; flow_is = finish t.items (t.fed key options list [] start) }
 
 -- some records were read, and few
-pub kept-some : (m : Media) (key : FlowKey) (options : FlowOptions) (most : ℕ) (list : Bool) (old new : Reading) (f : KeptFlow) → IsReading m key options list old []
+pub kept-some : (m : Media) (key : FlowKey) (options : FlowOptions) (most : ℕ) (list : Bool) (old new : Reading) (f : KeptFlow)
+    → IsReading m key options list old []
     → TakesFew (ReadsOn m) most old new → ((items : List Record) → IsReading m key options list new items → IsKeptFlow m options list items f)
     → IsRead m options list f
 kept-some m key options most list old new f start t finish = record { items = t.items; flow_is = finish t.items (t.taken key options list [] start) }

@@ -58,7 +58,8 @@ kept-capture true bytes records h = absurd h
 kept-capture false bytes records h = (refl, h)
 
 -- the stamps of a list
-pub list-within : (m : Media) (shift : Shift) (j : Judged) (stamps : Vec ℕ Global) → CanShape m shift j (Stamps stamps) → j.head + j.packets ≤ length stamps.items
+pub list-within : (m : Media) (shift : Shift) (j : Judged) (stamps : Vec ℕ Global) → CanShape m shift j (Stamps stamps)
+    → j.head + j.packets ≤ length stamps.items
 list-within m shift j stamps can =
     let records = flow_records m can.items in
     let is = kept-stamps can.list stamps records can.kept.kept in
@@ -125,8 +126,8 @@ listed-shape m kind shift first j items run answer group (inr late) = inr (recor
 
 pub list-shape : (m : Media) (kind : Kind) (shift : Shift) (first : ℕ) (j : Judged) (stamps : Vec ℕ Global) (answer : Answer)
     → first ≡ slice_index (judged_part j stamps.items) 0
-    → (IsFit (shifted shift first) (in_tai shift (judged_part j stamps.items)) → ListsSo (part_of m kind shift first j) (in_tai shift (judged_part j stamps.items))
-    answer)
+    → (IsFit (shifted shift first) (in_tai shift (judged_part j stamps.items))
+    → ListsSo (part_of m kind shift first j) (in_tai shift (judged_part j stamps.items)) answer)
     → IsShapeOf m kind shift j (Stamps stamps) answer
 list-shape m kind shift first j stamps answer opens lists = λ list items run run_is kept.
     let is = kept-stamps list stamps (flow_records m items) kept.kept in
@@ -188,7 +189,8 @@ first-head m shift j bytes begun walk new passed can =
     (skip.done, first.0, first.1, subst (λ (l : List Record). IsBefore walk skip.done l) first.2 skip.before)
 
 -- whatever flow is kept, what became of its judged packets
-captured-run : (m : Media) (kind : Kind) (shift : Shift) (first : ℕ) (j : Judged) (bytes : Vec ℕ Global) (begun walk gone : Walk) (leaver : Leaver) (result : Result ℕ Late)
+captured-run : (m : Media) (kind : Kind) (shift : Shift) (first : ℕ) (j : Judged) (bytes : Vec ℕ Global) (begun walk gone : Walk) (leaver : Leaver)
+    (result : Result ℕ Late)
     → ((records : List Record) → bytes.items ≡ file_head ++ came_text records → All CanBeHeld records → IsBefore begun file_head records)
     → PassesAll j.head begun walk
     → ((done : List ℕ) (r : Record) (rest : List Record) → IsBefore walk done (r ∷ rest) → first ≡ r.stamp)
@@ -206,8 +208,8 @@ captured-run m kind shift first j bytes begun walk gone leaver result new passed
     departs w (take j.head records) (drop j.head records) run.stamps given at.before at.many at.stamps fit
 
 -- the answer with a capture
-pub capture-shape : (m : Media) (kind : Kind) (shift : Shift) (first : ℕ) (j : Judged) (bytes : Vec ℕ Global) (begun walk gone end : Walk) (leaver : Leaver) (left : ℕ)
-    (answer : Answer)
+pub capture-shape : (m : Media) (kind : Kind) (shift : Shift) (first : ℕ) (j : Judged) (bytes : Vec ℕ Global) (begun walk gone end : Walk) (leaver : Leaver)
+    (left : ℕ) (answer : Answer)
     → ((records : List Record) → bytes.items ≡ file_head ++ came_text records → All CanBeHeld records → IsBefore begun file_head records)
     → PassesAll j.head begun walk
     → ((done : List ℕ) (r : Record) (rest : List Record) → IsBefore walk done (r ∷ rest) → first ≡ r.stamp)
@@ -240,8 +242,8 @@ capture-shape m kind shift first j bytes begun walk gone end leaver left answer 
       answer_is = e;
     }))
 
-pub capture-late : (m : Media) (kind : Kind) (shift : Shift) (first : ℕ) (j : Judged) (bytes : Vec ℕ Global) (begun walk gone : Walk) (leaver : Leaver) (late : Late)
-    (answer : Answer)
+pub capture-late : (m : Media) (kind : Kind) (shift : Shift) (first : ℕ) (j : Judged) (bytes : Vec ℕ Global) (begun walk gone : Walk) (leaver : Leaver)
+    (late : Late) (answer : Answer)
     → ((records : List Record) → bytes.items ≡ file_head ++ came_text records → All CanBeHeld records → IsBefore begun file_head records)
     → PassesAll j.head begun walk
     → ((done : List ℕ) (r : Record) (rest : List Record) → IsBefore walk done (r ∷ rest) → first ≡ r.stamp)

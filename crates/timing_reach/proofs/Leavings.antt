@@ -49,13 +49,13 @@ let-in-time w l stamps departures h =
 pub one-leaves : (w : Part) (old new : Leaver) (stamps departures : List ℕ) (at : ℕ) (result : Result Departure Late) → new.params ≡ old.params
     → new.shift ≡ old.shift → new.shaper.kind ≡ old.shaper.kind → new.shaper.origin ≡ old.shaper.origin → new.shaper.end ≡ old.shaper.end
     → ((arrivals departures : List ℕ) → StandsFor old.params old.shaper arrivals departures → CanFollow old.shaper arrivals (shifted old.shift at)
-    → IfOk result (λ d. BoundAt old.params.media old.params.n old.shaper.kind (arrivals ++ (shifted old.shift at) ∷ []) (departures ++ d.at ∷ [])
+    → IfOk result (λ d. BoundAt old.params.media old.params.n old.shaper.kind (arrivals ++ shifted old.shift at ∷ []) (departures ++ d.at ∷ [])
     (length arrivals) d.bound))
     → ((arrivals departures : List ℕ) → StandsFor old.params old.shaper arrivals departures → CanFollow old.shaper arrivals (shifted old.shift at)
-    → IfOk result (λ d. StandsFor new.params new.shaper (arrivals ++ (shifted old.shift at) ∷ []) (departures ++ d.at ∷ [])))
+    → IfOk result (λ d. StandsFor new.params new.shaper (arrivals ++ shifted old.shift at ∷ []) (departures ++ d.at ∷ [])))
     → ((arrivals departures : List ℕ) → StandsFor old.params old.shaper arrivals departures → CanFollow old.shaper arrivals (shifted old.shift at)
     → (late : Late) → result ≡ Err late
-    → (late.packet ≡ length arrivals) × NoneInTime old.params old.shaper (arrivals ++ (shifted old.shift at) ∷ []) (length arrivals))
+    → (late.packet ≡ length arrivals) × NoneInTime old.params old.shaper (arrivals ++ shifted old.shift at ∷ []) (length arrivals))
     → HasLet w old stamps departures → Leaves w new stamps departures (shifted w.shift at) result
 one-leaves w old new stamps departures at result params shift kind origin end bound stands late h =
     subst (λ (x : Shift). Leaves w new stamps departures (shifted x at) result) h.shift
@@ -64,14 +64,14 @@ one-leaves w old new stamps departures at result params shift kind origin end bo
     (late stamps departures h.stands (can-follow old.shaper stamps w.origin (shifted old.shift at) h.origin fit)))
   where
     by : (result : Result Departure Late)
-        → IfOk result (λ d. BoundAt old.params.media old.params.n old.shaper.kind (stamps ++ (shifted old.shift at) ∷ []) (departures ++ d.at ∷ []) (length stamps)
-        d.bound)
-        → IfOk result (λ d. StandsFor new.params new.shaper (stamps ++ (shifted old.shift at) ∷ []) (departures ++ d.at ∷ []))
+        → IfOk result (λ d. BoundAt old.params.media old.params.n old.shaper.kind (stamps ++ shifted old.shift at ∷ []) (departures ++ d.at ∷ [])
+        (length stamps) d.bound)
+        → IfOk result (λ d. StandsFor new.params new.shaper (stamps ++ shifted old.shift at ∷ []) (departures ++ d.at ∷ []))
         → ((late : Late) → result ≡ Err late
-        → (late.packet ≡ length stamps) × NoneInTime old.params old.shaper (stamps ++ (shifted old.shift at) ∷ []) (length stamps))
+        → (late.packet ≡ length stamps) × NoneInTime old.params old.shaper (stamps ++ shifted old.shift at ∷ []) (length stamps))
         → LeavesSo w new stamps departures (shifted old.shift at) result
     by (Ok d) bound stands late = (
-      retold (λ m n kind end. BoundAt m n kind (stamps ++ (shifted old.shift at) ∷ []) (departures ++ d.at ∷ []) (length stamps) d.bound)
+      retold (λ m n kind end. BoundAt m n kind (stamps ++ shifted old.shift at ∷ []) (departures ++ d.at ∷ []) (length stamps) d.bound)
           old.params.media w.media old.params.n w.n old.shaper.kind w.kind 0 0 h.media h.group h.kind refl bound,
       record {
         media = ap (λ x. x.media) params ∙ h.media;
@@ -86,7 +86,7 @@ one-leaves w old new stamps departures at result params shift kind origin end bo
     by (Err e) bound stands late =
         let none = late e refl in (
           none.0,
-          retold (λ m n kind end. IsLate m n kind end (stamps ++ (shifted old.shift at) ∷ []) (length stamps))
+          retold (λ m n kind end. IsLate m n kind end (stamps ++ shifted old.shift at ∷ []) (length stamps))
               old.params.media w.media old.params.n w.n old.shaper.kind w.kind old.shaper.end (end_of w.shift) h.media h.group h.kind h.end
               (late-last old.params.media old.params.n old.shaper.kind old.shaper.end stamps departures (shifted old.shift at)
               (record { shaped = h.stands.shaped; in_time = h.stands.in_time }) none.1),

@@ -1,5 +1,6 @@
 -- The number of a packet changes neither its instant nor its marker, nor what is judged of a flow without a gap.
-use Rattle.std.proofs.Common.{◌≡◌, ◌+◌, ◌-◌, ℕ, zero, suc, Bool, true, false, if◌then◌else◌, nat_lt, List, [], ◌∷◌, length, map, take, drop, Option, None, refl, ap, ◌∙◌, sym}
+use Rattle.std.proofs.Common.{◌≡◌, ◌+◌, ◌-◌, ℕ, zero, suc, Bool, true, false, if◌then◌else◌, nat_lt, List, [], ◌∷◌, length, map, take, drop}
+use Rattle.std.proofs.Common.{Option, None, refl, ap, ◌∙◌, sym}
 use Rattle.std.specs.Prelude.{Result, Ok, Err, slice_index, slice_range}
 use Rattle.std.proofs.lemmas.List.{drop-map, take-map}
 use Rattle.timing_base.specs.Flows.{group_len, has_marker, last_place, markers, read_or_zeros}
@@ -24,7 +25,8 @@ pub instants-numbered : (seq16 : Bool) (packets : List FlowPacket)
 instants-numbered false packets = refl
 instants-numbered true packets = instants-counted None packets
 
-stamps-counted : (shift : Shift) (before : Option ℕ) (packets : List FlowPacket) → map (stamp_of shift) (counted_from before packets) ≡ map (stamp_of shift) packets
+stamps-counted : (shift : Shift) (before : Option ℕ) (packets : List FlowPacket)
+    → map (stamp_of shift) (counted_from before packets) ≡ map (stamp_of shift) packets
 stamps-counted shift before [] = refl
 stamps-counted shift before (p ∷ ps) = ap (λ l. stamp_of shift p ∷ l) (stamps-counted shift (number_after before (counted_rtp before p.rtp)) ps)
 

@@ -131,7 +131,8 @@ prints-once : (list : Bool) (shift : Shift) (kind : Kind) (m : Media) (items : L
 prints-once true shift kind m items run departures a b h k = list-once m run.n kind run.stamps departures a b h k
 prints-once false shift kind m items run departures a b h k = h ∙ sym k
 
-plan-once : (list : Bool) (shift : Shift) (kind : Kind) (m : Media) (items : List Record) (run : JudgedRun) (a b : Answer) → HasPlan list shift kind m items run a
+plan-once : (list : Bool) (shift : Shift) (kind : Kind) (m : Media) (items : List Record) (run : JudgedRun) (a b : Answer)
+    → HasPlan list shift kind m items run a
     → HasPlan list shift kind m items run b → a ≡ b
 plan-once list shift kind m items run a b h k =
     let same : h.departures ≡ k.departures = leave-once m run.n kind (end_of shift) run.stamps h.departures k.departures h.leave k.leave in
@@ -140,7 +141,8 @@ plan-once list shift kind m items run a b h k =
     h.answer_is ∙ ap (λ (t : List ℕ). record { text = t; status = status.Pass }) text ∙ sym k.answer_is
 
 -- of a run
-pub shape-once : (list : Bool) (shift : Shift) (kind : Kind) (m : Media) (items : List Record) (run : JudgedRun) (a b : Answer) → HasShape list shift kind m items run a
+pub shape-once : (list : Bool) (shift : Shift) (kind : Kind) (m : Media) (items : List Record) (run : JudgedRun) (a b : Answer)
+    → HasShape list shift kind m items run a
     → HasShape list shift kind m items run b → a ≡ b
 shape-once list shift kind m items run a b (inl h) (inl k) = plan-once list shift kind m items run a b h k
 shape-once list shift kind m items run a b (inl h) (inr k) = absurd (late-not m run.n kind (end_of shift) run.stamps h.departures k.packet k.late h.leave)

@@ -193,7 +193,8 @@ leaves-behind shift head departures k stamp h =
     leaves-by shift head departures k stamp false false (grind (arith, nat_tests)) (grind (arith, nat_tests))
 
 -- the first judged packet leaves no earlier than the one before it
-rise-head : (shift : Shift) (head : ℕ) (departures : List ℕ) (j x y : ℕ) → x ≤ y → (0 < length departures → shifted shift x ≤ slice_index departures 0) → j < head
+rise-head : (shift : Shift) (head : ℕ) (departures : List ℕ) (j x y : ℕ) → x ≤ y → (0 < length departures → shifted shift x ≤ slice_index departures 0)
+    → j < head
     → leaves_at shift head departures j x ≤ leaves_at shift head departures (j + 1) y
 rise-head shift head departures j x y order first early =
     let here = leaves-early shift head departures j x early in
@@ -269,7 +270,8 @@ last-held shift (d ∷ ds) early =
     let in_time = early (length ds) (omega arith) in
     omega (arith, in_time)
 
-leaves-held : (shift : Shift) (head : ℕ) (departures : List ℕ) (k stamp : ℕ) → ((i : ℕ) → i < length departures → slice_index departures i < end_of shift) → IsStamp stamp
+leaves-held : (shift : Shift) (head : ℕ) (departures : List ℕ) (k stamp : ℕ) → ((i : ℕ) → i < length departures → slice_index departures i < end_of shift)
+    → IsStamp stamp
     → IsStamp (leaves_at shift head departures k stamp)
 leaves-held shift head departures k stamp early held =
     elim (cases_lt k head) as (λ _. IsStamp (leaves_at shift head departures k stamp)) [
@@ -360,7 +362,8 @@ leaving-judged ps m kind shift run departures is plan =
     let least = came k within in
     omega (arith, at, moves, left, least)))
   where
-    no-first : (ps : List FlowPacket) (pt : ℕ) (shift : Shift) (run : JudgedRun) → judged_as_numbered ps pt shift ≡ in_one_run (whole_frames run) → first_fault ps pt ≡ None
+    no-first : (ps : List FlowPacket) (pt : ℕ) (shift : Shift) (run : JudgedRun) → judged_as_numbered ps pt shift ≡ in_one_run (whole_frames run)
+        → first_fault ps pt ≡ None
     no-first ps pt shift run is =
         (in-one ps (length ps == 0) (length (cuts ps (length ps)) == 0) (first_fault ps pt) (run_outcome ps shift 0 (length ps)) (runs ps shift)
         (subst IsInOne (sym is) tt)).1
@@ -377,7 +380,8 @@ leaving-judged ps m kind shift run departures is plan =
 
 -- so is the flow of the capture that is written of them
 pub shaped-again : (options : FlowOptions) (kind : Kind) (m : Media) (items : List Record) (run : JudgedRun) (answer : Answer) → All CanBeHeld items
-    → judged (flow items m) m.pt options ≡ in_one_run (whole_frames run) → (plan : HasPlan false options.shift kind m items run answer) → length answer.text ≤ 2 ^ 40
+    → judged (flow items m) m.pt options ≡ in_one_run (whole_frames run) → (plan : HasPlan false options.shift kind m items run answer)
+        → length answer.text ≤ 2 ^ 40
     → IsJudgedAs options m answer.text (came_at run plan.departures)
 shaped-again options kind m items run answer held is plan few =
     let leaves = leaves_at options.shift run.head plan.departures in

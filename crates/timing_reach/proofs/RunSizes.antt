@@ -5,8 +5,8 @@ use Rattle.std.proofs.lemmas.Bool.{cond_both, eqb-true, ltb-false}
 use Rattle.timing_base.specs.Shifts.{FlowOptions, Shift}
 use Rattle.timing_base.specs.Flows.{FirstFault, cuts, first_fault, markers}
 use Rattle.timing_base.specs.Grouped.{IsSized}
-use Rattle.timing_base.specs.Judged.{FlowVerdict, JudgedRun, RunOutcome, absent, head_len, in_one_run, in_runs, judged, judged_as_numbered, judged_run, judged_runs}
-use Rattle.timing_base.specs.Judged.{no_whole_frame, refusal, refused_or, run_outcome, runs, whole_frames}
+use Rattle.timing_base.specs.Judged.{FlowVerdict, JudgedRun, RunOutcome, absent, head_len, in_one_run, in_runs, judged, judged_as_numbered, judged_run}
+use Rattle.timing_base.specs.Judged.{judged_runs, no_whole_frame, refusal, refused_or, run_outcome, runs, whole_frames}
 use Rattle.timing_base.specs.Numbered.{numbered}
 use Rattle.timing_base.specs.declared.packet.FlowPacket.{FlowPacket}
 use Rattle.timing_base.specs.declared.packet.PacketFault.{PacketFault}
@@ -24,7 +24,8 @@ RunHasSize (in_one_run (whole_frames run)) = HasSize run
 RunHasSize verdict = ⊤
 
 -- by the markers of the run
-outcome-size : (packets : List FlowPacket) (shift : Shift) (to : ℕ) → IsSized to (markers packets 0 to) → RunHasSize (in_one_run (run_outcome packets shift 0 to))
+outcome-size : (packets : List FlowPacket) (shift : Shift) (to : ℕ) → IsSized to (markers packets 0 to)
+    → RunHasSize (in_one_run (run_outcome packets shift 0 to))
 outcome-size packets shift to sized =
     let marks = markers packets 0 to in
     cond_both (nat_lt (length marks) 2) (no_whole_frame (head_len marks 0 to)) (whole_frames (judged_run packets shift 0 to))

@@ -75,7 +75,7 @@ listed-next w old new before after stamps i at delay d within is same late leave
     let next = next-leaves w old new all h.departures i (shifted w.shift at) d (omega (arith, within, long)) came fit
     (leaves w (take i all) h.departures h.left) in
     let size : length (take i all) ≡ i = length-take-le i all (omega (arith, within, long)) in
-    let more : take (i + 1) all ≡ take i all ++ (shifted w.shift at) ∷ [] =
+    let more : take (i + 1) all ≡ take i all ++ shifted w.shift at ∷ [] =
     take_more all i 0 (omega (arith, within, long)) ∙ ap (λ x. take i all ++ x ∷ []) (sym came) in
     record {
       departures = h.departures ++ d.at ∷ [];

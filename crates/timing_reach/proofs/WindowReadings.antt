@@ -45,7 +45,8 @@ pub room-on : (count : ℕ) (old new : Reading) → (JudgeHasRoom (count + 1) ol
 room-on count old new leaves kept room = record { judge = leaves room.judge; gauge = omega (arith, kept, room.gauge) }
 
 -- the windows of a flow that is judged in one run
-windows-of : (m : Media) (options : FlowOptions) (packets : List FlowPacket) (x : Measured) (j : Judged) → IsMeasured m options packets x → x.verdict ≡ verdict.Judged j
+windows-of : (m : Media) (options : FlowOptions) (packets : List FlowPacket) (x : Measured) (j : Judged) → IsMeasured m options packets x
+    → x.verdict ≡ verdict.Judged j
     → (run : JudgedRun) × (judged packets m.pt options ≡ in_one_run (whole_frames run)) × AreWindowsIn m (whole_frames run) x.windows
 windows-of m options packets x j h is =
     let run = judged-of m j (judged packets m.pt options) x.verdict h.verdict_is is in
@@ -56,7 +57,8 @@ some-windows m run (Some w) size are = refl
 some-windows m run None size are = absurd (omega (arith, are, size.few))
 
 -- few records were read, so there are some of this flow
-pub has-windows : (m : Media) (key : FlowKey) (options : FlowOptions) (most : ℕ) (old new : Reading) (x : Measured) → IsReading m key options old [] → TakesFew (ReadsOn m) most old new
+pub has-windows : (m : Media) (key : FlowKey) (options : FlowOptions) (most : ℕ) (old new : Reading) (x : Measured) → IsReading m key options old []
+    → TakesFew (ReadsOn m) most old new
     → ((packets : List FlowPacket) → IsReading m key options new packets → IsMeasured m options packets x) → HasWindows x
 has-windows m key options most old new x start t finish = λ j is.
     let packets = flow t.items m in

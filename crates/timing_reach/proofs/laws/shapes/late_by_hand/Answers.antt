@@ -61,5 +61,6 @@ lines = refl
 
 pub returns : goal.returns
 returns c = λ list items answer h.
-    shape-once list no_shift N hd_50 items (run_of_stamps (last_nanosecond 5)) answer (not_shaped 4) h (inr (record { packet = 4; late = late; answer_is = refl }))
+    shape-once list no_shift N hd_50 items (run_of_stamps (last_nanosecond 5)) answer (not_shaped 4) h
+    (inr (record { packet = 4; late = late; answer_is = refl }))
     ∙ lines
