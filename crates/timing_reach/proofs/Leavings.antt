@@ -46,32 +46,32 @@ let-in-time w l stamps departures h =
     h.media h.group h.kind h.end (record { shaped = h.stands.shaped; in_time = h.stands.in_time })
 
 -- what its shaper says of a packet
-pub one-leaves : (w : Part) (old new : Leaver) (stamps departures : List ℕ) (at : ℕ) (result : Result Departure Late) → new.params ≡ old.params
-    → new.shift ≡ old.shift → new.shaper.kind ≡ old.shaper.kind → new.shaper.origin ≡ old.shaper.origin → new.shaper.end ≡ old.shaper.end
-    → ((arrivals departures : List ℕ) → StandsFor old.params old.shaper arrivals departures → CanFollow old.shaper arrivals (shifted old.shift at)
-    → IfOk result (λ d. BoundAt old.params.media old.params.n old.shaper.kind (arrivals ++ shifted old.shift at ∷ []) (departures ++ d.at ∷ [])
+pub one-leaves : (w : Part) (old new : Leaver) (stamps departures : List ℕ) (at came : ℕ) (result : Result Departure Late) → came ≡ shifted old.shift at
+    → new.params ≡ old.params → new.shift ≡ old.shift → new.shaper.kind ≡ old.shaper.kind → new.shaper.origin ≡ old.shaper.origin → new.shaper.end ≡ old.shaper.end
+    → ((arrivals departures : List ℕ) → StandsFor old.params old.shaper arrivals departures → CanFollow old.shaper arrivals came
+    → IfOk result (λ d. BoundAt old.params.media old.params.n old.shaper.kind (arrivals ++ came ∷ []) (departures ++ d.at ∷ [])
     (length arrivals) d.bound))
-    → ((arrivals departures : List ℕ) → StandsFor old.params old.shaper arrivals departures → CanFollow old.shaper arrivals (shifted old.shift at)
-    → IfOk result (λ d. StandsFor new.params new.shaper (arrivals ++ shifted old.shift at ∷ []) (departures ++ d.at ∷ [])))
-    → ((arrivals departures : List ℕ) → StandsFor old.params old.shaper arrivals departures → CanFollow old.shaper arrivals (shifted old.shift at)
+    → ((arrivals departures : List ℕ) → StandsFor old.params old.shaper arrivals departures → CanFollow old.shaper arrivals came
+    → IfOk result (λ d. StandsFor new.params new.shaper (arrivals ++ came ∷ []) (departures ++ d.at ∷ [])))
+    → ((arrivals departures : List ℕ) → StandsFor old.params old.shaper arrivals departures → CanFollow old.shaper arrivals came
     → (late : Late) → result ≡ Err late
-    → (late.packet ≡ length arrivals) × NoneInTime old.params old.shaper (arrivals ++ shifted old.shift at ∷ []) (length arrivals))
+    → (late.packet ≡ length arrivals) × NoneInTime old.params old.shaper (arrivals ++ came ∷ []) (length arrivals))
     → HasLet w old stamps departures → Leaves w new stamps departures (shifted w.shift at) result
-one-leaves w old new stamps departures at result params shift kind origin end bound stands late h =
-    subst (λ (x : Shift). Leaves w new stamps departures (shifted x at) result) h.shift
-    (λ fit. by result (bound stamps departures h.stands (can-follow old.shaper stamps w.origin (shifted old.shift at) h.origin fit))
-    (stands stamps departures h.stands (can-follow old.shaper stamps w.origin (shifted old.shift at) h.origin fit))
-    (late stamps departures h.stands (can-follow old.shaper stamps w.origin (shifted old.shift at) h.origin fit)))
+one-leaves w old new stamps departures at came result is params shift kind origin end bound stands late h =
+    subst (λ x. Leaves w new stamps departures x result) (is ∙ ap (λ (x : Shift). shifted x at) h.shift)
+    (λ fit. by result (bound stamps departures h.stands (can-follow old.shaper stamps w.origin came h.origin fit))
+    (stands stamps departures h.stands (can-follow old.shaper stamps w.origin came h.origin fit))
+    (late stamps departures h.stands (can-follow old.shaper stamps w.origin came h.origin fit)))
   where
     by : (result : Result Departure Late)
-        → IfOk result (λ d. BoundAt old.params.media old.params.n old.shaper.kind (stamps ++ shifted old.shift at ∷ []) (departures ++ d.at ∷ [])
+        → IfOk result (λ d. BoundAt old.params.media old.params.n old.shaper.kind (stamps ++ came ∷ []) (departures ++ d.at ∷ [])
         (length stamps) d.bound)
-        → IfOk result (λ d. StandsFor new.params new.shaper (stamps ++ shifted old.shift at ∷ []) (departures ++ d.at ∷ []))
+        → IfOk result (λ d. StandsFor new.params new.shaper (stamps ++ came ∷ []) (departures ++ d.at ∷ []))
         → ((late : Late) → result ≡ Err late
-        → (late.packet ≡ length stamps) × NoneInTime old.params old.shaper (stamps ++ shifted old.shift at ∷ []) (length stamps))
-        → LeavesSo w new stamps departures (shifted old.shift at) result
+        → (late.packet ≡ length stamps) × NoneInTime old.params old.shaper (stamps ++ came ∷ []) (length stamps))
+        → LeavesSo w new stamps departures came result
     by (Ok d) bound stands late = (
-      retold (λ m n kind end. BoundAt m n kind (stamps ++ shifted old.shift at ∷ []) (departures ++ d.at ∷ []) (length stamps) d.bound)
+      retold (λ m n kind end. BoundAt m n kind (stamps ++ came ∷ []) (departures ++ d.at ∷ []) (length stamps) d.bound)
           old.params.media w.media old.params.n w.n old.shaper.kind w.kind 0 0 h.media h.group h.kind refl bound,
       record {
         media = ap (λ x. x.media) params ∙ h.media;
@@ -86,9 +86,9 @@ one-leaves w old new stamps departures at result params shift kind origin end bo
     by (Err e) bound stands late =
         let none = late e refl in (
           none.0,
-          retold (λ m n kind end. IsLate m n kind end (stamps ++ shifted old.shift at ∷ []) (length stamps))
+          retold (λ m n kind end. IsLate m n kind end (stamps ++ came ∷ []) (length stamps))
               old.params.media w.media old.params.n w.n old.shaper.kind w.kind old.shaper.end (end_of w.shift) h.media h.group h.kind h.end
-              (late-last old.params.media old.params.n old.shaper.kind old.shaper.end stamps departures (shifted old.shift at)
+              (late-last old.params.media old.params.n old.shaper.kind old.shaper.end stamps departures came
               (record { shaped = h.stands.shaped; in_time = h.stands.in_time }) none.1),
         )
 

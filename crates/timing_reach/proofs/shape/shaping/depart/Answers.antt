@@ -1,5 +1,6 @@
 use Rattle.std.proofs.Common.{rules, arith, ◌<◌, ◌≡◌, ℕ, ap, ◌∙◌, subst, sym, Err, Result}
 use Rattle.flow_shaper.specs.declared.departure.Late.{Late}
+use Rattle.timing_reach.specs.Shapes.{end_of}
 use Rattle.std.proofs.lemmas.Result.{err_from_is_err_and}
 use Rattle.timing_reach.specs.shape.Shaping.{DepartsSo, HasLeft}
 use Rattle.timing_reach.proofs.Shapings.{departs-all, departs-late, left-next, skip-on, skip-record}
