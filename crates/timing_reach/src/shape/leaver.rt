@@ -1,7 +1,7 @@
 //! Computes when the judged packets of a flow leave.
 
-ghost use Rattle.std.specs.Prelude.{◌≡◌, ◌≤◌, ◌<◌, ◌+◌, ◌^◌, [], ℕ, List, IfOk};
-ghost use Rattle.timing_base.specs.Shifts.{shifted};
+ghost use Rattle.std.specs.Prelude.{◌≡◌, ◌≤◌, ◌<◌, ◌+◌, ◌-◌, ◌^◌, [], ℕ, List, IfOk};
+ghost use Rattle.timing_base.specs.Shifts.{shifted, unshifted};
 ghost use Rattle.timing_base.specs.Captures.{IsStamp};
 ghost use Rattle.timing_reach.specs.Shapes.{end_of};
 
@@ -18,7 +18,7 @@ pub struct Leaver {
     params: Params,
     shaper: Shaper,
     /// The shift of every capture timestamp.
-    pub shift: Shift,
+    shift: Shift,
     ghost ends: { shaper.end ≡ end_of shift },
 }
 
@@ -57,10 +57,30 @@ impl Leaver {
         requires few { count_left self.old < 2 ^ 41 }
         ensures shift { self.new.shift ≡ self.old.shift }
         ensures count { count_left self.new ≤ count_left self.old + 1 }
-        ensures in_time { IfOk result (λ departure. departure.at < end_of self.old.shift) }
+        ensures in_time { IfOk result (λ departure. departure.at < end_of self.new.shift) }
         ensures leaves { (w : Part) (stamps departures : List ℕ) → HasLet w self.old stamps departures
             → Leaves w self.new stamps departures (shifted w.shift at) result }
     {
         self.shaper.feed(&self.params, self.shift.stamp(at))
+    }
+
+    /// Returns by how many nanoseconds a packet is delayed that leaves at this departure. `at` is its capture timestamp
+    /// in nanoseconds, as it stands in the capture.
+    #[inline(always)]
+    pub fn delay(&self, at: u64, departure: u64) -> u64
+        requires { IsStamp at }
+        ensures { result ≡ departure - shifted self.now.shift at }
+    {
+        departure.saturating_sub(self.shift.stamp(at))
+    }
+
+    /// Returns the capture timestamp with which a packet leaves at this departure, in nanoseconds.
+    #[inline(always)]
+    pub fn captured(&self, departure: u64) -> u64
+        requires { departure < end_of self.now.shift }
+        ensures is { result ≡ unshifted self.now.shift departure }
+        ensures stamp { IsStamp result }
+    {
+        self.shift.captured(departure)
     }
 }

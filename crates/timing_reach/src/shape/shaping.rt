@@ -35,7 +35,7 @@ fn list_delays(alloc: Global, mut leaver: Leaver, stamps: &[u64]) -> Result<Answ
     for (packet, at) in stamps.iter().enumerate() {
         match leaver.leave(*at) {
             Ok(departure) => {
-                let delay = departure.at.saturating_sub(leaver.shift.stamp(*at));
+                let delay = leaver.delay(*at, departure.at);
                 delays.add(packet as u64, delay, departure.bound)?;
             }
             Err(late) => return not_shaped(alloc, late.packet),
@@ -57,7 +57,7 @@ fn depart(walk: &mut Walk, mut leaver: Leaver, count: u64) -> Result<u64, Late>
     let mut left = 0;
     for _ in 0..count {
         let departure = leaver.leave(walk.stamp())?;
-        left = leaver.shift.captured(departure.at);
+        left = leaver.captured(departure.at);
         walk.restamp(left);
         walk.pass();
     }

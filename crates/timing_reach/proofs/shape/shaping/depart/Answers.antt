@@ -1,6 +1,5 @@
 use Rattle.std.proofs.Common.{rules, arith, ◌<◌, ◌≡◌, ℕ, ap, ◌∙◌, subst, sym, Err, Result}
 use Rattle.flow_shaper.specs.declared.departure.Late.{Late}
-use Rattle.timing_reach.specs.Shapes.{end_of}
 use Rattle.std.proofs.lemmas.Result.{err_from_is_err_and}
 use Rattle.timing_reach.specs.shape.Shaping.{DepartsSo, HasLeft}
 use Rattle.timing_reach.proofs.Shapings.{departs-all, departs-late, left-next, skip-on, skip-record}
@@ -43,13 +42,13 @@ loop-preserved c =
     let low : c.loop.counter < c.args.count = search rules in
     record {
       few = omega (arith, c.leave.ensures.count, c.loop.invariant.few);
-      stamp = omega (arith, c.in_ok-departure.ensures.in_time, c.captured-left.ensures, ap end_of c.leave.ensures.shift);
+      stamp = c.captured-left.ensures.stamp;
       can = skip-on c.loop.walk c.restamp.new.self c.pass.new.self c.captured-left.result c.args.count c.loop.counter low c.loop.invariant.can
           c.restamp.ensures.restamps c.pass.ensures.passes;
       departs = λ w head records stamps given before few are fit.
           left-next w c.loop.leaver c.leave.new.self c.loop.walk c.restamp.new.self c.pass.new.self c.loop.left c.stamp.result c.captured-left.result
           head records stamps c.args.count c.loop.counter c.in_ok-departure.departure low few are fit c.stamp.ensures c.in_ok-departure.ensures.leaves
-          c.leave.ensures.shift c.captured-left.ensures c.restamp.ensures.restamps c.pass.ensures.passes
+          c.leave.ensures.shift c.captured-left.ensures.is c.restamp.ensures.restamps c.pass.ensures.passes
           (c.loop.invariant.departs w head records stamps given before few are fit);
     }
 

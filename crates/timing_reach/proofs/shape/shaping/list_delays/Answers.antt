@@ -1,4 +1,4 @@
-use Rattle.std.proofs.Common.{rules, ap, arith, refl, subst, ◌-◌, ◌<◌, ◌≡◌, ◌∙◌, length, nat_lt, slice_index_or}
+use Rattle.std.proofs.Common.{rules, arith, refl, subst, ◌<◌, ◌≡◌, length, nat_lt, slice_index_or}
 use Rattle.timing_reach.specs.shape.Shaping.{HasListed, in_tai}
 use Rattle.timing_reach.proofs.Shapings.{at-most-one, listed-next, lists-all, lists-late}
 use Rattle.timing_reach.proofs.Takings.{if-ok}
@@ -21,11 +21,10 @@ loop-packet-preserved c =
     let within : i < length stamps = search rules in
     record {
       left = omega (arith, c.leave.ensures.count, c.loop-packet.invariant.left);
-      delayed = omega (arith, c.add.ensures.delayed, c.loop-packet.invariant.delayed, at-most-one (nat_lt 0 c.saturating_sub-delay.result));
+      delayed = omega (arith, c.add.ensures.delayed, c.loop-packet.invariant.delayed, at-most-one (nat_lt 0 c.delay-delay.result));
       listed = λ w given fit.
           listed-next w c.loop-packet.leaver c.leave.new.self c.loop-packet.delays c.add.new.self stamps i (slice_index_or stamps i 0)
-          c.saturating_sub-delay.result c.in-Ok.departure within refl c.leave.ensures.shift
-          (c.saturating_sub-delay.ensures ∙ ap (λ at. c.in-Ok.departure.at - at) c.stamp.ensures.is) c.in-Ok.ensures.leaves
+          c.delay-delay.result c.in-Ok.departure within refl c.leave.ensures.shift c.delay-delay.ensures c.in-Ok.ensures.leaves
           c.in_ok-add-in-Ok.ensures.lines c.add.ensures.delayed c.add.ensures.greatest fit (c.loop-packet.invariant.listed w given fit);
     }
 
