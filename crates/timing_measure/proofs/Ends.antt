@@ -3,7 +3,8 @@ use Rattle.std.proofs.Common.{◌≡◌, ◌==◌, ℕ, List, length, Option, So
 use Rattle.std.proofs.lemmas.Bool.{cond_both}
 use Rattle.timing_base.specs.Shifts.{Shift}
 use Rattle.timing_base.specs.Flows.{FirstFault, first_fault}
-use Rattle.timing_base.specs.Judged.{FlowVerdict, absent, gap, in_one_run, in_runs, judged_runs, no_whole_frame, refusal, refused, refused_or, judged_as_numbered}
+use Rattle.timing_base.specs.Judged.{FlowVerdict, absent, gap, in_one_run, in_runs, judged_runs, no_whole_frame, refusal, refused, refused_or}
+use Rattle.timing_base.specs.Judged.{judged_as_numbered}
 use Rattle.timing_base.specs.Judged.{whole_frames}
 use Rattle.timing_base.specs.Media.{Media}
 use Rattle.timing_base.specs.declared.packet.FlowPacket.{FlowPacket}

@@ -112,7 +112,8 @@ some-runs m shift (part ∷ parts) is limits whole held =
     (x.0 ∷ xs.0, (x.1, xs.1))
 
 -- so has a flow
-some-flow : (m : Media) (number : ℕ) (options : FlowOptions) (packets : List FlowPacket) → IsMedia m → AreFlowOptions options → length packets < 2 ^ 41 → AreStamped packets
+some-flow : (m : Media) (number : ℕ) (options : FlowOptions) (packets : List FlowPacket) → IsMedia m → AreFlowOptions options → length packets < 2 ^ 41
+    → AreStamped packets
     → (f : MeasuredFlow) × IsMeasuredFlow m number options packets f
 some-flow m number options packets is limits few stamped =
     let shift = options.shift in
@@ -132,7 +133,8 @@ some-flow m number options packets is limits few stamped =
       record { media = refl; count = refl; source = refl; verdict_is = refl; runs = runs.1 },
     )
 
-some-flows : (options : FlowOptions) (items : List Record) (number : ℕ) (media : List Media) → All IsMedia media → AreFlowOptions options → length items < 2 ^ 41
+some-flows : (options : FlowOptions) (items : List Record) (number : ℕ) (media : List Media) → All IsMedia media → AreFlowOptions options
+    → length items < 2 ^ 41
     → All (λ (r : Record). IsStamp r.stamp) items
     → (flows : List MeasuredFlow) × EachOf (λ n m f. IsMeasuredFlow m n options (flow items m) f) number media flows
 some-flows options items number [] is limits few held = ([], tt)

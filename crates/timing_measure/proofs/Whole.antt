@@ -101,4 +101,5 @@ in-whole m packets shift (in_runs all) h g =
 pub parts-whole : (m : Media) (packets : List FlowPacket) (shift : Shift) → length packets < 2 ^ 41 → IsShift shift → AreStamped packets
     → All (IsWhole shift) (judged_parts m packets shift)
 parts-whole m packets shift few limits stamped =
-    in-whole m packets shift (judged_as_numbered packets m.pt shift) (judged-of-runs packets m.pt shift) (numbered-grouped packets m.pt shift few limits stamped)
+    in-whole m packets shift (judged_as_numbered packets m.pt shift) (judged-of-runs packets m.pt shift)
+    (numbered-grouped packets m.pt shift few limits stamped)

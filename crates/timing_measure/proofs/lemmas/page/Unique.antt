@@ -60,5 +60,6 @@ pub once-page : (job : CaptureJob) → DefinesOnce (page_query job)
 once-page job media files notes a b h k =
     let items = only_file files in
     let pages : h.pages ≡ k.pages =
-    each-once (λ n m page. IsFlowPage m n job.options (flow items m) page) (λ n m. page-once m n job.options (flow items m)) 0 media h.pages k.pages h.are k.are in
+    each-once (λ n m page. IsFlowPage m n job.options (flow items m) page) (λ n m. page-once m n job.options (flow items m)) 0 media
+    h.pages k.pages h.are k.are in
     h.answer_is ∙ ap (λ pages. paged job.capture (only_note notes) job.options.shift media pages (contents items)) pages ∙ sym k.answer_is

@@ -1,6 +1,6 @@
 -- What stands where `series` stops before the end of a capture is a prefix of the text of an answer.
-use Rattle.std.proofs.Common.{◌≡◌, ◌≤◌, ◌<◌, ◌+◌, ℕ, List, [], ◌∷◌, ◌++◌, length, drop, take, Bool, true, false, Option, Some, None, inl, inr, refl, ap, ◌∙◌, sym}
-use Rattle.std.proofs.Common.{subst, arith, append-nil, append_assoc, length-append, take-append-drop}
+use Rattle.std.proofs.Common.{◌≡◌, ◌≤◌, ◌<◌, ◌+◌, ℕ, List, [], ◌∷◌, ◌++◌, length, drop, take, Bool, true, false, Option, Some, None, inl, inr, refl, ap, ◌∙◌}
+use Rattle.std.proofs.Common.{sym, subst, arith, append-nil, append_assoc, length-append, take-append-drop}
 use Rattle.std.specs.Prelude.{◌⊎◌}
 use Rattle.std.proofs.lemmas.List.Elements.{filter_map-append}
 use Rattle.timing_base.specs.Shifts.{FlowOptions, Shift}
@@ -100,7 +100,8 @@ begun-state frames gone m shift packets rest (Refused rec fault) out is at told 
 begun-state frames gone m shift packets rest Spent out is at told = absurd at
 
 -- the judged packets of a flow are the first of those of a longer one
-later-numbered : (seq16 : Bool) (packets later : List FlowPacket) → (rest : List FlowPacket) × (numbered seq16 (packets ++ later) ≡ numbered seq16 packets ++ rest)
+later-numbered : (seq16 : Bool) (packets later : List FlowPacket)
+    → (rest : List FlowPacket) × (numbered seq16 (packets ++ later) ≡ numbered seq16 packets ++ rest)
 later-numbered false packets later = (later, refl)
 later-numbered true packets later = (counted_from (last_counted None packets) later, counted_from-append None packets later)
 
@@ -112,7 +113,8 @@ series-begun frames m number options gone x taken rest is h =
     let later = later-numbered options.seq16 (flow taken m) (flow rest m) in
     subst (λ l. AreBegun frames m options.shift l gone (text_of x))
     (sym (ap (numbered options.seq16) (filter_map-append (flow_packet m) taken rest) ∙ later.1))
-    (begun-state frames gone m options.shift (numbered options.seq16 (flow taken m)) later.0 x.flow.taker.judge.state x.flow.taker.out is h.fed.judge_is.state (h.fed.told refl))
+    (begun-state frames gone m options.shift (numbered options.seq16 (flow taken m)) later.0 x.flow.taker.judge.state x.flow.taker.out is
+    h.fed.judge_is.state (h.fed.told refl))
 
 -- an answer that has rows
 text-of-rows : (frames : Bool) (m : Media) (note : FileNote) (v : Verdict) (rows : List ℕ) → 0 < length rows

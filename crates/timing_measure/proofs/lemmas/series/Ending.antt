@@ -82,7 +82,8 @@ some-put header put gone text e more =
     omega (arith, more, sym (length-append gone text) ∙ ap length e ∙ length-append header put)
 
 rest-rows : (frames : Bool) (m : Media) (options : FlowOptions) (note : FileNote) (items : List Record) (gone : List ℕ) (waiting : ℕ) (rest : Answer)
-    → Waits frames gone waiting → (0 < waiting → waiting < length rest.text) → HasPut frames m options.shift (numbered options.seq16 (flow items m)) gone rest.text
+    → Waits frames gone waiting → (0 < waiting → waiting < length rest.text)
+    → HasPut frames m options.shift (numbered options.seq16 (flow items m)) gone rest.text
     → 0 < length (header_text frames)
     → rest.status ≡ series_status note (verdict_of m (judged (flow items m) m.pt options))
     → IsRestOf frames m options note items gone rest
@@ -113,12 +114,14 @@ pub record Finishes (x : SeriesFlow) (told : Row × Rows) : Type 0 where
   pub tells : (past : PastRows) (m : Media) (key : FlowKey) (options : FlowOptions) (packets : List FlowPacket)
       → IsFed true RowsStandsFor Tells past m key options x.flow.taker packets → TellsOfAll Tells past m options packets told.1
 
-verdict-is : (x : SeriesFlow) (told : Row × Rows) (frames : Bool) (m : Media) (number : ℕ) (options : FlowOptions) (gone : List ℕ) (items : List Record) → Finishes x told
+verdict-is : (x : SeriesFlow) (told : Row × Rows) (frames : Bool) (m : Media) (number : ℕ) (options : FlowOptions) (gone : List ℕ) (items : List Record)
+    → Finishes x told
     → StandsFor frames m number options gone x items → told.0.verdict ≡ verdict_of m (judged (flow items m) m.pt options)
 verdict-is x told frames m number options gone items f h =
     ap (λ (r : Row). r.verdict) (f.result m (key_of 0 number) options (flow items m) h.fed.judge_is)
 
-rows-put : (x : SeriesFlow) (told : Row × Rows) (frames : Bool) (m : Media) (number : ℕ) (options : FlowOptions) (gone : List ℕ) (items : List Record) → Finishes x told
+rows-put : (x : SeriesFlow) (told : Row × Rows) (frames : Bool) (m : Media) (number : ℕ) (options : FlowOptions) (gone : List ℕ) (items : List Record)
+    → Finishes x told
     → StandsFor frames m number options gone x items → HasPut frames m options.shift (numbered options.seq16 (flow items m)) gone told.1.text.items
 rows-put x told frames m number options gone items f h =
     has-put frames m options.shift (numbered options.seq16 (flow items m)) gone told.1

@@ -56,7 +56,8 @@ parts-behind frames m shift (one ∷ over) part text rest h next = (
 )
 
 -- the open run is over, and its rows are those of one run more, if it has a complete frame or field
-so-far-over : (frames : Bool) (m : Media) (shift : Shift) (number : ℕ) (first : FlowPacket) (packets : List FlowPacket) (over : List JudgedPart) (o : RunOutcome)
+so-far-over : (frames : Bool) (m : Media) (shift : Shift) (number : ℕ) (first : FlowPacket) (packets : List FlowPacket) (over : List JudgedPart)
+    (o : RunOutcome)
     (text : List ℕ)
     → AreRowsSoFar frames m shift over (open_by number first packets o) text
     → AreRowsOf frames m shift (over ++ part_by m number first packets o) text
@@ -241,7 +242,8 @@ one-more frames m shift packets sound to false text cut is none few within h =
     let order : last_place (0 ∷ places) ≤ to = last_place-le (is_cut packets) to in
     let grows = grows-case packets shift places to (has_marker packets to) refl order within (sized-below packets m.pt sound to none few) in
     let rows =
-    more-open frames m shift (parts_over m packets shift 1 0 places) (open_at packets shift places to) (open_at packets shift places (to + 1)) text is grows h in (
+    more-open frames m shift (parts_over m packets shift 1 0 places) (open_at packets shift places to) (open_at packets shift places (to + 1)) text is
+    grows h in (
       rows.0,
       gaps-as frames m shift packets (cuts packets (to + 1)) places (to + 1) (text ++ rows.0) here rows.1,
     )

@@ -134,7 +134,8 @@ group-within shift n before p ends =
     omega (arith, fits, stamps)
 
 -- what is printed at a packet is one text
-group-adds : (m : Media) (shift : Shift) (number n : ℕ) (before : List FlowPacket) (p : FlowPacket) (ends : Bool) (a b : List ℕ) → ends_group n (length before) ≡ ends
+group-adds : (m : Media) (shift : Shift) (number n : ℕ) (before : List FlowPacket) (p : FlowPacket) (ends : Bool) (a b : List ℕ)
+    → ends_group n (length before) ≡ ends
     → AddsGroup m shift number n (before ++ p ∷ []) ends a → AddsGroup m shift number n (before ++ p ∷ []) ends b → a ≡ b
 group-adds m shift number n before p false a b is h k = h ∙ sym k
 group-adds m shift number n before p true a b is h k =
