@@ -2,7 +2,7 @@
 use Rattle.std.proofs.Common.{◌≡◌, ◌≤◌, ◌<◌, ◌+◌, ◌*◌, ℕ, zero, suc, Bool, false, List, [], ◌∷◌, ◌++◌, length, length-append, Option, Some}
 use Rattle.std.proofs.Common.{None, Ok, refl, arith, ap, ◌∙◌, sym, subst}
 use Rattle.std.proofs.lemmas.List.{append-nil}
-use Rattle.timing_base.specs.Shifts.{Shift}
+use Rattle.timing_base.specs.Shifts.{Shift, shifted}
 use Rattle.frame_group.specs.declared.grouper.Grouper.{Grouper}
 use Rattle.timing_base.specs.Flows.{cuts, first_fault_below, has_marker, is_cut, last_place, markers, packet, read_or_zeros}
 use Rattle.timing_base.specs.Grouped.{IsSized}
@@ -24,7 +24,7 @@ use Rattle.fail_interval.specs.Telling.{FlowTells, Tells, TellsAt, TellsBy, Tell
 use Rattle.fail_interval.specs.declared.flow.Flow.{Flow}
 use Rattle.fail_interval.specs.declared.flow.OpenRun.{OpenRun}
 use Rattle.fail_interval.specs.declared.run.RunJudge.{RunJudge}
-use Rattle.fail_interval.proofs.Feeding.{IsAnswered, can_take, comes, is_cut-there, not_cut, read_packet, shift, starts-case, with_parts}
+use Rattle.fail_interval.proofs.Feeding.{IsAnswered, can_take, comes, is_cut-there, not_cut, read_packet, onward, starts-case, with_parts}
 use Rattle.fail_interval.proofs.Flows.{cut-answered, with_judge}
 use Rattle.fail_interval.proofs.PartsTold.{behind-next, committed-next, ends-whole, have-stamps, have-whole, judged_parts-none}
 use Rattle.fail_interval.proofs.PartsTold.{judged_parts-sound, open-is, parts_between-over, parts_over-push, sized-below}
@@ -146,26 +146,26 @@ goes_on-told stands tells past m packets shift i seen so_far done open_run judge
 
 -- the flow goes on with the packet
 pub goes_on-tells : {M Out Past : Type 0} (stands : Standing M) (tells : Telling Past Out) (past : Past) (flow : Flow M) (packets : List FlowPacket)
-    (rec_number at timestamp : ℕ) (seen : Rtp) (cut : Option ℕ) (open_run : OpenRun M) (judge : RunJudge M) (head : RunHead) (before after : Out)
-    → flow.open ≡ Some open_run → cut ≡ None
+    (rec_number at stamp timestamp : ℕ) (seen : Rtp) (cut : Option ℕ) (open_run : OpenRun M) (judge : RunJudge M) (head : RunHead) (before after : Out)
+    → stamp ≡ shifted flow.shift at → flow.open ≡ Some open_run → cut ≡ None
     → IsAnswered packets (read_packet rec_number at seen) flow.media.pt cut
     → timestamp ≡ seen.timestamp
     → head.run ≡ length flow.done.items + 1 → head.rec ≡ open_run.rec → head.number ≡ open_run.number
-    → ((so_far : SoFar) → CanTake flow.media open_run.judge so_far (at + flow.shift * 1000000000) seen.marker
-    → RunStandsFor flow.media judge (so_far_next so_far (at + flow.shift * 1000000000) seen.marker))
+    → ((so_far : SoFar) → CanTake flow.media open_run.judge so_far stamp seen.marker
+    → RunStandsFor flow.media judge (so_far_next so_far stamp seen.marker))
     → Taken stands tells flow.media open_run.judge judge before after head
-    (record { rec = rec_number; at = at + flow.shift * 1000000000; timestamp = timestamp }) seen.marker
+    (record { rec = rec_number; at = stamp; timestamp = timestamp }) seen.marker
     → CanGoOn flow packets at
     → FlowTells stands tells past flow packets before
     → Tells stands tells past flow.media flow.shift (packets ++ read_packet rec_number at seen ∷ []) (Some (with_judge open_run judge)) after
-goes_on-tells stands tells past flow packets rec_number at timestamp seen cut open_run judge head before after e none answer stamped run rec number fed takes
-    c t =
+goes_on-tells stands tells past flow packets rec_number at stamp timestamp seen cut open_run judge head before after timed e none answer stamped run rec number
+    fed takes c t =
     let p = read_packet rec_number at seen in
     let i = length packets in
     let m = flow.media in
-    let told : RunPacket = record { rec = rec_number; at = at + flow.shift * 1000000000; timestamp = timestamp } in
-    let can = can_take flow packets rec_number at seen cut open_run c e none answer in
-    shift (λ all n. TellsAt stands tells past m flow.shift all n (Some (with_judge open_run judge)) after) packets p
+    let told : RunPacket = record { rec = rec_number; at = stamp; timestamp = timestamp } in
+    let can = can_take flow packets rec_number at stamp seen cut open_run timed c e none answer in
+    onward (λ all n. TellsAt stands tells past m flow.shift all n (Some (with_judge open_run judge)) after) packets p
     (λ rest.
     let all = packets ++ p ∷ rest in
     let o : IsOpen m flow.shift all i (cuts all i) c.stands.so_far flow.done.items open_run =
@@ -174,7 +174,7 @@ goes_on-tells stands tells past flow packets rec_number at timestamp seen cut op
     subst (λ x. TellsAt stands tells past m flow.shift all i x before) e (t (p ∷ rest)) in
     let sound = (cut-answered all m.pt i cut (answer rest)).0 in
     goes_on-told stands tells past m all flow.shift i seen c.stands.so_far flow.done.items open_run judge head told before after
-    (comes packets rest flow.shift rec_number at seen) stamped (not_cut packets rest p m.pt cut answer none)
+    (comes packets rest flow.shift rec_number at stamp seen timed) stamped (not_cut packets rest p m.pt cut answer none)
     (sized-below all m.pt (i + 1) (i + 1) sound (omega arith)) run rec number o can (fed c.stands.so_far can) takes was)
 
 -- what a run that starts with packet i has come to
@@ -279,12 +279,12 @@ begins-told stands tells past m packets shift i pt seen so_far done new (Some op
     (omega (arith, count, long, o.count, length-append places (i ∷ []))) rec number stood begun
     (subst (λ parts. tells past mid m shift parts None) (sym (parts_over-push m packets shift 1 0 i places)) telling))
 
--- where the media and the seconds are known by equations
+-- where the media and the shift are known by equations
 pub begins-told-as : {M Out Past : Type 0} (stands : Standing M) (tells : Telling Past Out) (past : Past) (m more_m : Media) (packets : List FlowPacket)
-    (shift : Shift) (more_tai i pt : ℕ) (seen : Rtp) (marker : Bool) (so_far : SoFar) (done new : List Run) (open_run : Option (OpenRun M)) (run : OpenRun M)
+    (shift more_shift : Shift) (i pt : ℕ) (seen : Rtp) (marker : Bool) (so_far : SoFar) (done new : List Run) (open_run : Option (OpenRun M)) (run : OpenRun M)
     (head : RunHead)
     (told : RunPacket) (before mid after : Out)
-    → more_m ≡ m → more_tai ≡ shift → marker ≡ seen.marker
+    → more_m ≡ m → more_shift ≡ shift → marker ≡ seen.marker
     → ComesNext packets shift i told.rec told.at seen → told.timestamp ≡ seen.timestamp
     → StartsAt packets i open_run
     → OpensAt m shift packets i so_far done open_run
@@ -296,13 +296,13 @@ pub begins-told-as : {M Out Past : Type 0} (stands : Standing M) (tells : Tellin
     → ((past : Past) (shift : Shift) (first : FlowPacket) (over : List JudgedPart) → told ≡ told_of shift first → Heads first head → tells past mid more_m shift over None
     → TellsOf stands tells past more_m shift head.run first over run.judge after [] [])
     → TellsAt stands tells past m shift packets i open_run before
-    → TellsAt stands tells past more_m more_tai packets (i + 1) (Some run) after
-begins-told-as stands tells past m more_m packets shift more_tai i pt seen marker so_far done new open_run run head told before mid after e f marked next
+    → TellsAt stands tells past more_m more_shift packets (i + 1) (Some run) after
+begins-told-as stands tells past m more_m packets shift more_shift i pt seen marker so_far done new open_run run head told before mid after e f marked next
     timestamp starts o
     sound count rec number closed closes stood begun t =
     let stood_so = subst (λ k. RunStandsFor k run.judge (so_far_next (in_head 0) told.at seen.marker)) e
     (subst (λ b. RunStandsFor more_m run.judge (so_far_next (in_head 0) told.at b)) marked stood) in
-    subst (λ k. TellsAt stands tells past k more_tai packets (i + 1) (Some run) after) (sym e)
+    subst (λ k. TellsAt stands tells past k more_shift packets (i + 1) (Some run) after) (sym e)
     (subst (λ s. TellsAt stands tells past m s packets (i + 1) (Some run) after) (sym f)
     (begins-told stands tells past m packets shift i pt seen so_far done new open_run run head told before mid after next timestamp starts o sound count rec
     number closed
@@ -322,35 +322,37 @@ BegunTold {Past = Past} stands tells flow new before after rec_number stamp seen
     → TellsAt stands tells past new.media new.shift all (i + 1) new.open after
 
 begins-from : {M Out Past : Type 0} (stands : Standing M) (tells : Telling Past Out) (past : Past) (flow new : Flow M) (packets : List FlowPacket)
-    (rec_number at : ℕ) (seen : Rtp) (cut : Option ℕ) (before after : Out)
+    (rec_number at stamp : ℕ) (seen : Rtp) (cut : Option ℕ) (before after : Out)
+    → stamp ≡ shifted flow.shift at
     → ((run : OpenRun M) → flow.open ≡ Some run → (n : ℕ) × (cut ≡ Some n))
     → IsAnswered packets (read_packet rec_number at seen) flow.media.pt cut
-    → BegunTold stands tells flow new before after rec_number (at + flow.shift * 1000000000) seen
+    → BegunTold stands tells flow new before after rec_number stamp seen
     → CanGoOn flow packets at
     → FlowTells stands tells past flow packets before
     → FlowTells stands tells past new (packets ++ read_packet rec_number at seen ∷ []) after
-begins-from stands tells past flow new packets rec_number at seen cut before after opens_so answer begun c t =
+begins-from stands tells past flow new packets rec_number at stamp seen cut before after timed opens_so answer begun c t =
     let p = read_packet rec_number at seen in
-    shift (λ all n. TellsAt stands tells past new.media new.shift all n new.open after) packets p
+    onward (λ all n. TellsAt stands tells past new.media new.shift all n new.open after) packets p
     (λ rest.
-    begun past (packets ++ p ∷ rest) (length packets) c.stands.so_far (comes packets rest flow.shift rec_number at seen)
+    begun past (packets ++ p ∷ rest) (length packets) c.stands.so_far (comes packets rest flow.shift rec_number at stamp seen timed)
     (starts-case (packets ++ p ∷ rest) (length packets) flow.open
     (λ run e. let there = opens_so run e in is_cut-there packets rest p flow.media.pt there.0 cut answer there.1))
     (c.stands.runs (p ∷ rest)) (c.stands.sound (p ∷ rest)) (t (p ∷ rest)))
 
 -- a run begins with a packet that the grouper took
 pub begins-tells : {M Out Past : Type 0} (stands : Standing M) (tells : Telling Past Out) (past : Past) (flow between new : Flow M) (packets : List FlowPacket)
-    (rec_number at : ℕ) (seen : Rtp) (cut : Option ℕ) (grouper : Grouper) (before after : Out)
+    (rec_number at stamp : ℕ) (seen : Rtp) (cut : Option ℕ) (grouper : Grouper) (before after : Out)
+    → stamp ≡ shifted flow.shift at
     → between ≡ with_parts flow grouper flow.open
     → ((run : OpenRun M) → flow.open ≡ Some run → (n : ℕ) × (cut ≡ Some n))
     → IsAnswered packets (read_packet rec_number at seen) flow.media.pt cut
-    → BegunTold stands tells between new before after rec_number (at + flow.shift * 1000000000) seen
+    → BegunTold stands tells between new before after rec_number stamp seen
     → CanGoOn flow packets at
     → FlowTells stands tells past flow packets before
     → FlowTells stands tells past new (packets ++ read_packet rec_number at seen ∷ []) after
-begins-tells stands tells past flow between new packets rec_number at seen cut grouper before after is opens_so answer begun c t =
-    begins-from stands tells past flow new packets rec_number at seen cut before after opens_so answer
-    (subst (λ (f : Flow _). BegunTold stands tells f new before after rec_number (at + flow.shift * 1000000000) seen) is begun) c t
+begins-tells stands tells past flow between new packets rec_number at stamp seen cut grouper before after timed is opens_so answer begun c t =
+    begins-from stands tells past flow new packets rec_number at stamp seen cut before after timed opens_so answer
+    (subst (λ (f : Flow _). BegunTold stands tells f new before after rec_number stamp seen) is begun) c t
 
 -- what is told of packets that nothing follows
 pub now-told : {M Out Past : Type 0} (stands : Standing M) (tells : Telling Past Out) (past : Past) (flow : Flow M) (packets : List FlowPacket) (out : Out)

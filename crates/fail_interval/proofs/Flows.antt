@@ -219,21 +219,21 @@ begins-next m packets shift i rec_number at seen expected so_far done new (Some 
     (open-same _ _ _ _ _ _ _ (sym rec) (sym number) (sym expects_run))
     (cut-next m packets shift i rec_number at seen expected so_far done open_run _ run.judge next expects stands refl starts o))
 
--- what starts with packet i, where the media, the seconds and the marker are known by equations
-pub begins-as : {M : Type 0} (m more_m : Media) (packets : List FlowPacket) (shift : Shift) (more_tai i rec_number at : ℕ) (seen : Rtp) (marker : Bool) (expected : Option ℕ)
+-- what starts with packet i, where the media, the shift and the marker are known by equations
+pub begins-as : {M : Type 0} (m more_m : Media) (packets : List FlowPacket) (shift more_shift : Shift) (i rec_number at : ℕ) (seen : Rtp) (marker : Bool) (expected : Option ℕ)
     (so_far : SoFar) (done new : List Run) (open_run : Option (OpenRun M)) (run : OpenRun M)
-    → more_m ≡ m → more_tai ≡ shift
+    → more_m ≡ m → more_shift ≡ shift
     → ComesNext packets shift i rec_number at seen → expected ≡ cut_at packets i → StartsAt packets i open_run
     → run.rec ≡ rec_number → run.number ≡ seen.number → run.expected ≡ expected
     → marker ≡ seen.marker
     → RunStandsFor more_m run.judge (so_far_next (in_head 0) at marker)
     → IsClosed m done open_run new
     → OpensAt m shift packets i so_far done open_run
-    → OpensAt more_m more_tai packets (i + 1) (so_far_next (in_head 0) at seen.marker) new (Some run)
-begins-as m more_m packets shift more_tai i rec_number at seen marker expected so_far done new open_run run e f next expects starts rec number expects_run marked
+    → OpensAt more_m more_shift packets (i + 1) (so_far_next (in_head 0) at seen.marker) new (Some run)
+begins-as m more_m packets shift more_shift i rec_number at seen marker expected so_far done new open_run run e f next expects starts rec number expects_run marked
     stood closed o =
     let stands = subst (λ b. RunStandsFor more_m run.judge (so_far_next (in_head 0) at b)) marked stood in
-    subst (λ k. OpensAt k more_tai packets (i + 1) (so_far_next (in_head 0) at seen.marker) new (Some run)) (sym e)
+    subst (λ k. OpensAt k more_shift packets (i + 1) (so_far_next (in_head 0) at seen.marker) new (Some run)) (sym e)
     (subst (λ t. OpensAt m t packets (i + 1) (so_far_next (in_head 0) at seen.marker) new (Some run)) (sym f)
     (begins-next m packets shift i rec_number at seen expected so_far done new open_run run next expects starts rec number expects_run
     (subst (λ k. RunStandsFor k run.judge (so_far_next (in_head 0) at seen.marker)) e stands) closed o))

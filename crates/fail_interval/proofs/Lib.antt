@@ -18,6 +18,7 @@ mod Limits
 mod Lulls
 mod Told
 mod Metering
+mod Numbered
 mod Offers
 mod Prefixes
 mod Rows

@@ -5,7 +5,7 @@ use Rattle.std.specs.List.Sorted.{IsNonDecreasingBy}
 use Rattle.std.proofs.Math.Nat.{mul-le-mul_right}
 use Rattle.std.proofs.lemmas.List.{get_or-drop, get_or-map, get_or-take, length-drop, length-take-le}
 use Rattle.std.proofs.lemmas.List.Elements.{All-map}
-use Rattle.timing_base.specs.Shifts.{Shift}
+use Rattle.timing_base.specs.Shifts.{IsShift, Shift}
 use Rattle.timing_base.specs.Flows.{AreStamped, cuts, first_fault, last_place, markers, no_packet, packet}
 use Rattle.timing_base.specs.Grouped.{IsSized}
 use Rattle.timing_base.specs.Judged.{stamp_of}
@@ -26,9 +26,9 @@ stamps_from-at packets shift from to k within here =
     ∙ ap (stamp_of shift) (get_or-take (to - from) rest k no_packet (omega (arith, here)) ∙ get_or-drop from packets k no_packet)
 
 -- the stamps of a part are within the limits
-pub stamps-fit : (packets : List FlowPacket) (shift : Shift) (from to : ℕ) → to ≤ length packets → length packets ≤ 2 ^ 41 → shift ≤ 1000 → AreStamped packets
+pub stamps-fit : (packets : List FlowPacket) (shift : Shift) (from to : ℕ) → to ≤ length packets → length packets ≤ 2 ^ 41 → IsShift shift → AreStamped packets
     → IsNonDecreasingBy (λ (p : FlowPacket). p.at) packets → AreStamps (stamps_from packets shift from to)
-stamps-fit packets shift from to within few seconds stamped rise =
+stamps-fit packets shift from to within few limits stamped rise =
     let long = length-stamps_from packets shift from to within in
     record {
       ordered = λ j i order below.
@@ -43,7 +43,7 @@ stamps-fit packets shift from to within few seconds stamped rise =
       early =
           let part : All (λ (p : FlowPacket). p.at < 2 ^ 32 * 10 ^ 9) (slice_range packets from to) =
           all_range (λ (p : FlowPacket). p.at < 2 ^ 32 * 10 ^ 9) packets from to stamped in
-          All-map (λ at. at < 2 ^ 62) (stamp_of shift) (slice_range packets from to) (λ k d below. let early = part k d below in omega (arith, early, seconds));
+          All-map (λ at. at < 2 ^ 62) (stamp_of shift) (slice_range packets from to) (λ k d below. let early = part k d below in let most = limits.tai_most in omega (arith, early, most));
       few = omega (arith, long, within, few);
     }
 
@@ -51,15 +51,15 @@ few-groups : (a n k last : ℕ) → 1 ≤ n → last ≡ a + n * k → k ≤ las
 few-groups a n k last some e = let more = mul-le-mul_right k some in omega (arith, more, e)
 
 -- what holds of the run, by its markers
-fits-by : (packets : List FlowPacket) (shift : Shift) (from to : ℕ) (marks : List ℕ) → to ≤ length packets → length packets ≤ 2 ^ 41 → shift ≤ 1000 → AreStamped packets
+fits-by : (packets : List FlowPacket) (shift : Shift) (from to : ℕ) (marks : List ℕ) → to ≤ length packets → length packets ≤ 2 ^ 41 → IsShift shift → AreStamped packets
     → IsNonDecreasingBy (λ (p : FlowPacket). p.at) packets → IsSized to marks → Fits (so_far_by packets shift from to marks)
-fits-by packets shift from to [] within few seconds stamped rise sized = omega (arith, within, few)
-fits-by packets shift from to (a ∷ []) within few seconds stamped rise sized = (
+fits-by packets shift from to [] within few limits stamped rise sized = omega (arith, within, few)
+fits-by packets shift from to (a ∷ []) within few limits stamped rise sized = (
   omega (arith, sized.begun (omega arith), within, few),
   omega (arith, sized.first refl, length-stamps_from packets shift (a + 1) to within),
-  stamps-fit packets shift (a + 1) to within few seconds stamped rise,
+  stamps-fit packets shift (a + 1) to within few limits stamped rise,
 )
-fits-by packets shift from to (a ∷ b ∷ rest) within few seconds stamped rise sized =
+fits-by packets shift from to (a ∷ b ∷ rest) within few limits stamped rise sized =
     let two : 2 ≤ length (a ∷ b ∷ rest) = omega arith in
     let some : a < b = sized.some two in
     record {
@@ -73,15 +73,15 @@ fits-by packets shift from to (a ∷ b ∷ rest) within few seconds stamped rise
         within,
         few,
       );
-      stamps = stamps-fit packets shift (a + 1) to within few seconds stamped rise;
+      stamps = stamps-fit packets shift (a + 1) to within few limits stamped rise;
     }
 
 -- the open run of a flow without a fault
-pub fits-at : (packets : List FlowPacket) (pt : ℕ) (shift : Shift) → first_fault packets pt ≡ None → length packets ≤ 2 ^ 41 → shift ≤ 1000 → AreStamped packets
+pub fits-at : (packets : List FlowPacket) (pt : ℕ) (shift : Shift) → first_fault packets pt ≡ None → length packets ≤ 2 ^ 41 → IsShift shift → AreStamped packets
     → Fits (so_far_at packets shift (last_place (0 ∷ cuts packets (length packets))) (length packets))
-fits-at packets pt shift e few seconds stamped =
+fits-at packets pt shift e few limits stamped =
     let from = last_place (0 ∷ cuts packets (length packets)) in
-    fits-by packets shift from (length packets) (markers packets from (length packets)) (omega arith) few seconds stamped (stamps_rise packets pt e)
+    fits-by packets shift from (length packets) (markers packets from (length packets)) (omega arith) few limits stamped (stamps_rise packets pt e)
     (each_sized packets pt e (length packets) (omega arith))
 
 no-stamps : AreStamps []

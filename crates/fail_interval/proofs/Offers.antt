@@ -2,7 +2,7 @@
 use Rattle.std.proofs.Common.{◌≡◌, ℕ, Bool, true, List, [], ◌∷◌, ◌++◌, Option, Some, sym, ◌∙◌, subst}
 use Rattle.std.specs.Prelude.{Err, IfOk, IsOkAnd, Ok, Result}
 use Rattle.std.specs.List.{cons_option}
-use Rattle.timing_base.specs.Shifts.{Shift}
+use Rattle.timing_base.specs.Shifts.{FlowOptions}
 use Rattle.timing_base.specs.Captures.{Record}
 use Rattle.timing_base.specs.Media.{Media}
 use Rattle.timing_base.specs.declared.key.FlowKey.{FlowKey}
@@ -23,11 +23,11 @@ use Rattle.fail_interval.proofs.Judges.{takes_expected, tells_expected}
 feeds-packet : {M O Past : Type 0} (wants : Bool) (stands : Standing M) (tells : Telling Past O) (old new : Metered M O) (m : Media) (r : Record)
     (p : FlowPacket)
     → flow_packet m r ≡ Some p
-    → ((past : Past) (key : FlowKey) (shift : Shift) (packets : List FlowPacket) → IsFed wants stands tells past m key shift old packets
-    → IsFed wants stands tells past m key shift new (packets ++ p ∷ []))
+    → ((past : Past) (key : FlowKey) (options : FlowOptions) (packets : List FlowPacket) → IsFed wants stands tells past m key options old packets
+    → IsFed wants stands tells past m key options new (packets ++ p ∷ []))
     → Feeds wants stands tells m old new (r ∷ [])
-feeds-packet wants stands tells old new m r p is feeds past key shift packets h =
-    subst (λ (o : Option FlowPacket). IsFed wants stands tells past m key shift new (packets ++ cons_option o [])) (sym is) (feeds past key shift packets h)
+feeds-packet wants stands tells old new m r p is feeds past key options packets h =
+    subst (λ (o : Option FlowPacket). IsFed wants stands tells past m key options new (packets ++ cons_option o [])) (sym is) (feeds past key options packets h)
 
 -- where memory was there
 pub feeds-taken : {M O Past T E : Type 0} (wants : Bool) (stands : Standing M) (tells : Telling Past O) (result : Result T E) (old new : Metered M O)
@@ -37,9 +37,9 @@ pub feeds-taken : {M O Past T E : Type 0} (wants : Bool) (stands : Standing M) (
     → IfOk result (λ _. (m : Media) (r : Record) → flow_packet m r ≡ Some p → r.bytes ≡ bytes → Feeds wants stands tells m old new (r ∷ []))
 feeds-taken wants stands tells (Ok x) old new p bytes takes told = λ m r is _.
     feeds-packet wants stands tells old new m r p is
-    (λ past key shift packets h. record {
-      judge_is = takes.stands m key shift packets h.judge_is;
-      told = λ wanted. told wanted past m key shift packets h.judge_is (h.told wanted);
+    (λ past key options packets h. record {
+      judge_is = takes.stands m key options packets h.judge_is;
+      told = λ wanted. told wanted past m key options packets h.judge_is (h.told wanted);
     })
 feeds-taken wants stands tells (Err e) old new p bytes takes told = tt
 
@@ -54,13 +54,13 @@ feeds-read : {M O Past : Type 0} (wants : Bool) (stands : Standing M) (tells : T
     → Feeds wants stands tells m old new (r ∷ [])
 feeds-read wants stands tells old new n at (Err fault) m r took told out expected is = absurd expected
 feeds-read wants stands tells old new n at (Ok p) m r took told out expected is =
-    let next : IsExpected old.judge p = λ k key shift packets s. sym expected ∙ expected-stands k key shift old.judge packets s in
+    let next : IsExpected old.judge p = λ k key options packets s. sym expected ∙ expected-stands k key options old.judge packets s in
     feeds-packet wants stands tells old new m r (record { rec = n; at = at; rtp = Ok p }) is
-    (λ past key shift packets h. record {
-      judge_is = takes_expected old.judge new.judge at p next took n m key shift packets h.judge_is;
+    (λ past key options packets h. record {
+      judge_is = takes_expected old.judge new.judge at p next took n m key options packets h.judge_is;
       told = λ wanted.
-          tells_expected stands tells old.judge new.judge n at p next took (told wanted) past new.out m key shift packets h.judge_is
-          (subst (λ o. JudgeTells stands tells past m shift packets old.judge o) (sym out) (h.told wanted));
+          tells_expected stands tells old.judge new.judge n at p next took (told wanted) past new.out m key options packets h.judge_is
+          (subst (λ o. JudgeTells stands tells past m options packets old.judge o) (sym out) (h.told wanted));
     })
 
 pub feeds-expected : {M O Past : Type 0} (wants : Bool) (stands : Standing M) (tells : Telling Past O) (old new : Metered M O) (packet : FlowPacket) (m : Media)

@@ -113,7 +113,7 @@ committed-case packets shift from to true e order within =
 committed-case packets shift from to false e order within =
     ap (judged_by packets) (places-other (has_marker packets) from to e) ∙ committed-plain packets shift from to (markers packets from to)
 
--- the judged packets, with packet `to`
+-- the judged_as_numbered packets, with packet `to`
 pub committed-next : (packets : List FlowPacket) (shift : Shift) (from to : ℕ) → from ≤ to → to < length packets
     → judged_packets packets from (to + 1)
     ≡ committed_next (so_far_at packets shift from to) (has_marker packets to) (behind_first packets to (markers packets from to))
@@ -155,7 +155,7 @@ whole-by packets shift from to (a ∷ b ∷ rest) within sized =
       );
     }
 
--- the judged packets are whole groups
+-- the judged_as_numbered packets are whole groups
 pub have-whole : (packets : List FlowPacket) (shift : Shift) (from to : ℕ) → to ≤ length packets → IsSized to (markers packets from to)
     → HaveWhole shift (so_far_at packets shift from to) (judged_packets packets from to)
 have-whole packets shift from to within sized = whole-by packets shift from to (markers packets from to) within sized

@@ -10,7 +10,7 @@ use Rattle.std.proofs.lemmas.List.Elements.{All-map}
 use Rattle.timing_base.specs.Shifts.{Shift}
 use Rattle.timing_base.specs.Flows.{FirstFault, cuts, first_fault, first_fault_below, last_place, packet}
 use Rattle.timing_base.specs.Grouped.{ExpectsAfterFirst}
-use Rattle.timing_base.specs.Judged.{FlowRun, RunOutcome, absent, in_one_run, in_runs, judged, judged_runs, refusal, refused_or, run_outcome, runs}
+use Rattle.timing_base.specs.Judged.{FlowRun, RunOutcome, absent, in_one_run, in_runs, judged_as_numbered, judged_runs, refusal, refused_or, run_outcome, runs}
 use Rattle.timing_base.specs.Media.{Media}
 use Rattle.timing_base.specs.Rows.{AreRuns, ExpectAfterFirst}
 use Rattle.timing_base.specs.declared.packet.FlowPacket.{FlowPacket}
@@ -37,26 +37,26 @@ some-is : (n : ℕ) → 0 < n → (n == 0) ≡ false
 some-is n h = grind (arith, nat_tests)
 
 -- what is judged of no packets
-pub judged-none : (packets : List FlowPacket) (pt : ℕ) (shift : Shift) → length packets ≡ 0 → judged packets pt shift ≡ absent
+pub judged-none : (packets : List FlowPacket) (pt : ℕ) (shift : Shift) → length packets ≡ 0 → judged_as_numbered packets pt shift ≡ absent
 judged-none packets pt shift e =
     ap (λ b. if b then absent else refused_or packets (first_fault packets pt) (judged_runs packets shift)) (none-is (length packets) e)
 
 -- of a flow without a fault
-judged-sound : (packets : List FlowPacket) (pt : ℕ) (shift : Shift) → 0 < length packets → first_fault packets pt ≡ None → judged packets pt shift ≡ judged_runs packets shift
+judged-sound : (packets : List FlowPacket) (pt : ℕ) (shift : Shift) → 0 < length packets → first_fault packets pt ≡ None → judged_as_numbered packets pt shift ≡ judged_runs packets shift
 judged-sound packets pt shift some none =
     ap (λ b. if b then absent else refused_or packets (first_fault packets pt) (judged_runs packets shift)) (some-is (length packets) some)
     ∙ ap (λ first. refused_or packets first (judged_runs packets shift)) none
 
 -- of one without a cut
 pub judged-one : (packets : List FlowPacket) (pt : ℕ) (shift : Shift) → 0 < length packets → first_fault packets pt ≡ None → length (cuts packets (length packets)) ≡ 0
-    → judged packets pt shift ≡ in_one_run (run_outcome packets shift 0 (length packets))
+    → judged_as_numbered packets pt shift ≡ in_one_run (run_outcome packets shift 0 (length packets))
 judged-one packets pt shift some none no_cut =
     judged-sound packets pt shift some none
     ∙ ap (λ b. if b then in_one_run (run_outcome packets shift 0 (length packets)) else in_runs (runs packets shift)) (none-is _ no_cut)
 
 -- and of one with cuts
 pub judged-many : (packets : List FlowPacket) (pt : ℕ) (shift : Shift) → 0 < length packets → first_fault packets pt ≡ None → 0 < length (cuts packets (length packets))
-    → judged packets pt shift ≡ in_runs (runs packets shift)
+    → judged_as_numbered packets pt shift ≡ in_runs (runs packets shift)
 judged-many packets pt shift some none a_cut =
     judged-sound packets pt shift some none
     ∙ ap (λ b. if b then in_one_run (run_outcome packets shift 0 (length packets)) else in_runs (runs packets shift)) (some-is _ a_cut)
@@ -73,7 +73,7 @@ opens flow packets s =
 
 -- a flow that has no packet is absent
 pub verdict-absent : {M : Type 0} (flow : Flow M) (packets : List FlowPacket) → flow.open ≡ None → StandsFor flow packets
-    → verdict.Unjudged unjudged.Absent ≡ verdict_of flow.media (judged packets flow.media.pt flow.shift)
+    → verdict.Unjudged unjudged.Absent ≡ verdict_of flow.media (judged_as_numbered packets flow.media.pt flow.shift)
 verdict-absent {M} flow packets e s =
     let o : OpensAt {M = M} flow.media flow.shift packets (length packets) s.so_far flow.done.items None =
     subst (OpensAt flow.media flow.shift packets (length packets) s.so_far flow.done.items) e (opens flow packets s) in
@@ -110,7 +110,7 @@ pub verdict-one : {M : Type 0} (flow : Flow M) (packets : List FlowPacket) (open
     → Says open_run told
     → ((m : Media) (outcome : RunOutcome) → told ≡ run_verdict_of m outcome → result ≡ one_run_verdict m outcome)
     → StandsFor flow packets
-    → result ≡ verdict_of flow.media (judged packets flow.media.pt flow.shift)
+    → result ≡ verdict_of flow.media (judged_as_numbered packets flow.media.pt flow.shift)
 verdict-one flow packets open_run told result e none says is s =
     let n = length packets in
     let o = some-open flow packets open_run e s in
@@ -150,7 +150,7 @@ pub verdict-many : {M : Type 0} (flow : Flow M) (packets : List FlowPacket) (ope
     → Tells open_run told
     → list ≡ flow.done.items ++ told ∷ []
     → StandsFor flow packets
-    → verdict.Runs list ≡ verdict_of flow.media (judged packets flow.media.pt flow.shift)
+    → verdict.Runs list ≡ verdict_of flow.media (judged_as_numbered packets flow.media.pt flow.shift)
 verdict-many flow packets open_run told list e some says is s =
     let o = some-open flow packets open_run e s in
     ap verdict.Runs (is ∙ all-runs flow packets open_run told e says s)
@@ -216,7 +216,7 @@ some-packets (p ∷ packets) pt x e = omega arith
 
 -- the row of a flow with a fault
 pub refused-verdict : (m : Media) (shift : Shift) (packets : List FlowPacket) (rec : ℕ) (fault : PacketFault) → IsRefused m packets rec fault
-    → judged packets m.pt shift ≡ refusal rec fault
+    → judged_as_numbered packets m.pt shift ≡ refusal rec fault
 refused-verdict m shift packets rec fault r =
     let first : first_fault packets m.pt ≡ Some (record { index = r.index; fault = fault }) =
     subst (λ (all : List FlowPacket). first_fault_below all m.pt (length packets) ≡ Some (record { index = r.index; fault = fault })) (append-nil packets)

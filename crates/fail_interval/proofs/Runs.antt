@@ -154,7 +154,7 @@ pub so_far_at-next : (packets : List FlowPacket) (shift : Shift) (from to : ℕ)
 so_far_at-next packets shift from to order within = next-case packets shift from to (has_marker packets to) refl order within
 
 -- what is judged of a run, by its markers
-abbrev outcome_by : List FlowPacket → ℕ → ℕ → ℕ → List ℕ → RunOutcome
+abbrev outcome_by : List FlowPacket → Shift → ℕ → ℕ → List ℕ → RunOutcome
 outcome_by packets shift from to marks =
     if nat_lt (length marks) 2 then no_whole_frame (head_len marks from to) else whole_frames record {
       n = slice_index marks 1 - slice_index marks 0;
@@ -171,10 +171,10 @@ not_none : (n : ℕ) → (suc n == 0) ≡ false
 not_none n = grind (arith, nat_tests)
 
 -- a judged run by its parts
-whole_by-same : (n groups head more_head tail more_tail : ℕ) (stamps : List ℕ) → head ≡ more_head → tail ≡ more_tail
+whole_by-same : (n groups head more_head tail more_shiftl : ℕ) (stamps : List ℕ) → head ≡ more_head → tail ≡ more_shiftl
     → whole_frames (record { n = n; groups = groups; head = head; tail = tail; stamps = stamps })
-    ≡ whole_frames (record { n = n; groups = groups; head = more_head; tail = more_tail; stamps = stamps })
-whole_by-same n groups head more_head tail more_tail stamps e f = cc
+    ≡ whole_frames (record { n = n; groups = groups; head = more_head; tail = more_shiftl; stamps = stamps })
+whole_by-same n groups head more_head tail more_shiftl stamps e f = cc
 
 outcome-case : (packets : List FlowPacket) (shift : Shift) (from to : ℕ) (marks : List ℕ) → to ≤ length packets
     → (1 ≤ length marks → (slice_index marks 0 ≤ last_place marks) × (last_place marks < to))

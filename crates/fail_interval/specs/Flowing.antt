@@ -1,7 +1,7 @@
 -- The state of a `Flow` after the packets that it was fed. Packets count from 0.
 use Rattle.std.specs.Prelude.{◌≡◌, ◌≤◌, ◌<◌, ◌+◌, ◌^◌, ℕ, List, [], ◌∷◌, ◌++◌, length, map, vec_len, vec_capacity, ⊤}
 use Rattle.std.specs.Prelude.{true, Option, Some, None, Ok}
-use Rattle.timing_base.specs.Shifts.{Shift}
+use Rattle.timing_base.specs.Shifts.{IsShift, Shift}
 use Rattle.frame_group.specs.Expected.{after, expected_after, going_on, next_packet}
 use Rattle.frame_group.specs.Stands.{StandsFor as GrouperStandsFor, expected_of}
 use Rattle.timing_base.specs.Captures.{IsStamp}
@@ -33,7 +33,7 @@ pub record IsOpen {M : Type 0} (m : Media) (shift : Shift) (packets : List FlowP
 
 -- the packets before packet i are those of the runs that have ended and of the open one; before packet 0 there is no
 -- run
-abbrev pub OpensAt : {M : Type 0} → Media → ℕ → List FlowPacket → ℕ → SoFar → List Run → Option (OpenRun M) → Type 0
+abbrev pub OpensAt : {M : Type 0} → Media → Shift → List FlowPacket → ℕ → SoFar → List Run → Option (OpenRun M) → Type 0
 OpensAt m shift packets i so_far done None = (i ≡ 0) × (done ≡ [])
 OpensAt m shift packets i so_far done (Some open_run) = IsOpen m shift packets i (cuts packets i) so_far done open_run
 
@@ -54,7 +54,7 @@ HasRoom flow = 1 ≤ vec_len flow.done → vec_len flow.done < vec_capacity flow
 
 -- the flow was fed exactly these packets, as far as later calls depend on it, whatever packets follow
 pub record StandsFor {M : Type 0} (flow : Flow M) (packets : List FlowPacket) : Type 0 where
-  pub seconds : flow.shift ≤ 1000
+  pub limits : IsShift flow.shift
   pub grouper : GrouperStandsFor flow.media.pt flow.grouper packets
   pub sound : (rest : List FlowPacket) → first_fault_below (packets ++ rest) flow.media.pt (length packets) ≡ None
   pub so_far : SoFar

@@ -1,6 +1,6 @@
 -- The output of the meters of a flow's runs, by the packets that the flow's judge was fed. Packets count from 0, runs
 -- from 1.
-use Rattle.std.specs.Prelude.{ℕ, ⊤, List, [], ◌∷◌, ◌++◌, length, Option, Some, None, Result, OnOk}
+use Rattle.std.specs.Prelude.{◌≡◌, ◌+◌, ℕ, ⊤, List, [], ◌∷◌, ◌++◌, length, Option, Some, None, Result, OnOk}
 use Rattle.timing_base.specs.Numbered.{numbered}
 use Rattle.timing_base.specs.Shifts.{FlowOptions, Shift}
 use Rattle.frame_group.specs.Expected.{next_packet}
@@ -8,9 +8,11 @@ use Rattle.timing_base.specs.Flows.{FirstFault, first_fault, first_fault_below}
 use Rattle.timing_base.specs.Media.{Media}
 use Rattle.timing_base.specs.declared.key.FlowKey.{FlowKey}
 use Rattle.timing_base.specs.declared.packet.FlowPacket.{FlowPacket}
+use Rattle.timing_base.specs.declared.packet.PacketFault.{PacketFault}
 use Rattle.fail_interval.specs.Metered.{Standing, Telling}
 use Rattle.fail_interval.specs.Parts.{judged_parts, open_before, parts_before, sound_before}
 use Rattle.fail_interval.specs.Stands.{StandsFor}
+use Rattle.fail_interval.specs.States.{StandsFor as StateStandsFor}
 use Rattle.fail_interval.specs.Telling.{Tells}
 use Rattle.fail_interval.specs.declared.judge.FlowJudge.{FlowJudge}
 use Rattle.fail_interval.specs.declared.judge.State.{State}
@@ -53,6 +55,15 @@ abbrev pub JudgeTells : {M Out Past : Type 0} → Standing M → Telling Past Ou
     → List FlowPacket → FlowJudge M → Out → Type 0
 JudgeTells stands tells past m options packets judge out =
     StateTells stands tells past m options.shift (numbered options.seq16 packets) judge.state out
+
+-- a call took this packet, with its judged number, after `fed` ones, and the output contains its results too; after a
+-- fault the output stays
+pub record StateTellsTaken {M Out Past T E : Type 0} (stands : Standing M) (tells : Telling Past Out) (fed : ℕ)
+    (old new : State M) (before after : Out) (next : FlowPacket) (result : Result T E) : Type 0 where
+  pub told : (past : Past) (m : Media) (shift : Shift) (packets : List FlowPacket)
+      → StateStandsFor m shift fed packets old → StateTells stands tells past m shift packets old before
+      → OnOk result (StateTells stands tells past m shift (packets ++ next ∷ []) new after)
+  pub refused : (rec : ℕ) (fault : PacketFault) → old ≡ Refused rec fault → after ≡ before
 
 -- a call took this packet, the next of the flow, after those fed, and the output contains its results too
 abbrev pub TellsTaken : {M Out Past T E : Type 0} → Standing M → Telling Past Out → (old new : FlowJudge M)

@@ -1,10 +1,10 @@
 -- The judged runs of a flow, and the judged packets of the open one, whatever follows. A run stands between two gaps;
 -- its judged packets are those after its first marker, up to and including its last marker. Packets count from 0, runs
--- from 1; `tai` is in seconds. This project's profile.
+-- from 1. This project's profile.
 use Rattle.std.specs.Prelude.{ℕ, ◌+◌, List, [], ◌∷◌, ◌++◌, length, slice_index, slice_range, Option, Some, None}
 use Rattle.timing_base.specs.Shifts.{Shift}
 use Rattle.timing_base.specs.Flows.{FirstFault, cuts, last_place, markers, packet}
-use Rattle.timing_base.specs.Judged.{FlowVerdict, RunOutcome, in_one_run, in_runs, judged, no_whole_frame, run_outcome}
+use Rattle.timing_base.specs.Judged.{FlowVerdict, RunOutcome, in_one_run, in_runs, judged_as_numbered, no_whole_frame, run_outcome}
 use Rattle.timing_base.specs.Judged.{whole_frames}
 use Rattle.timing_base.specs.Media.{Media}
 use Rattle.timing_base.specs.declared.packet.FlowPacket.{FlowPacket}
@@ -48,9 +48,9 @@ parts_in m packets shift (in_runs runs) =
     parts_between m packets shift (length packets) 1 0 (cuts packets (length packets))
 parts_in m packets shift verdict = []
 
--- the judged runs of the flow of a media
+-- the judged runs of the flow of a media, by the packet numbers as they are
 abbrev pub judged_parts : Media → List FlowPacket → (shift : Shift) → List JudgedPart
-judged_parts m packets shift = parts_in m packets shift (judged packets m.pt shift)
+judged_parts m packets shift = parts_in m packets shift (judged_as_numbered packets m.pt shift)
 
 -- the judged runs that have ended before packet n of a flow
 abbrev pub parts_before : Media → List FlowPacket → (shift : Shift) (n : ℕ) → List JudgedPart

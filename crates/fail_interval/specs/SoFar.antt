@@ -4,6 +4,7 @@ use Rattle.std.specs.Prelude.{◌≤◌, ◌<◌, ℕ, ◌+◌, ◌-◌, ◌^◌
 use Rattle.std.specs.Prelude.{map, slice_range, All}
 use Rattle.timing_base.specs.Flows.{last_place, markers}
 use Rattle.timing_base.specs.Judged.{RunOutcome, no_whole_frame, stamp_of, whole_frames}
+use Rattle.timing_base.specs.Shifts.{Shift}
 use Rattle.timing_base.specs.declared.packet.FlowPacket.{FlowPacket}
 use Rattle.sender_params.specs.Ticks.{NeverFall}
 
@@ -89,12 +90,12 @@ Fits (in_head head) = head ≤ 2 ^ 41
 Fits (in_first head stamps) = (head ≤ 2 ^ 41) × (length stamps ≤ 262144) × AreStamps stamps
 Fits (in_groups g) = IsFit g
 
--- the capture timestamps of the packets from packet `from` on and before packet `to`, with `tai` seconds added
-abbrev pub stamps_from : List FlowPacket → ℕ → ℕ → ℕ → List ℕ
+-- the capture timestamps of the packets from packet `from` on and before packet `to`, after the shift
+abbrev pub stamps_from : List FlowPacket → Shift → ℕ → ℕ → List ℕ
 stamps_from packets shift from to = map (stamp_of shift) (slice_range packets from to)
 
 -- the state of the run from packet `from` on and before packet `to`, by the places of its markers
-abbrev pub so_far_by : List FlowPacket → ℕ → ℕ → ℕ → List ℕ → SoFar
+abbrev pub so_far_by : List FlowPacket → Shift → ℕ → ℕ → List ℕ → SoFar
 so_far_by packets shift from to [] = in_head (to - from)
 so_far_by packets shift from to (a ∷ []) = in_first (a + 1 - from) (stamps_from packets shift (a + 1) to)
 so_far_by packets shift from to (a ∷ b ∷ rest) = in_groups record {
@@ -106,5 +107,5 @@ so_far_by packets shift from to (a ∷ b ∷ rest) = in_groups record {
 }
 
 -- the state of the run from packet `from` on and before packet `to`
-abbrev pub so_far_at : List FlowPacket → ℕ → ℕ → ℕ → SoFar
+abbrev pub so_far_at : List FlowPacket → Shift → ℕ → ℕ → SoFar
 so_far_at packets shift from to = so_far_by packets shift from to (markers packets from to)

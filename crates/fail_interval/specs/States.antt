@@ -2,6 +2,7 @@
 use Rattle.std.specs.Prelude.{◌≡◌, ℕ, ⊤, List, ◌++◌, length, Option, Some, None}
 use Rattle.timing_base.specs.Flows.{AreStamped, first_fault_below, packet}
 use Rattle.timing_base.specs.Media.{Media}
+use Rattle.timing_base.specs.Shifts.{Shift}
 use Rattle.timing_base.specs.declared.packet.FlowPacket.{FlowPacket}
 use Rattle.timing_base.specs.declared.packet.PacketFault.{PacketFault}
 use Rattle.timing_base.specs.declared.packet.Rtp.{Rtp}
@@ -21,10 +22,17 @@ pub record IsRefused (m : Media) (packets : List FlowPacket) (rec : ℕ) (fault 
   pub rec_is : (rest : List FlowPacket) → (packet (packets ++ rest) index).rec ≡ rec
 
 -- the state is that after these packets of a flow
-abbrev pub IsAt : {M : Type 0} → Media → ℕ → List FlowPacket → State M → Type 0
+abbrev pub IsAt : {M : Type 0} → Media → Shift → List FlowPacket → State M → Type 0
 IsAt m shift packets (Going flow) = (flow.media ≡ m) × (flow.shift ≡ shift) × FlowStandsFor flow packets
 IsAt m shift packets (Refused rec fault) = IsRefused m packets rec fault
 IsAt m shift packets Spent = ⊥
+
+-- the state is that after these packets of a flow, which are `fed` packets
+pub record StandsFor {M : Type 0} (m : Media) (shift : Shift) (fed : ℕ) (packets : List FlowPacket) (state : State M)
+    : Type 0 where
+  pub count : fed ≡ length packets
+  pub stamped : AreStamped packets
+  pub is : IsAt m shift packets state
 
 -- a flow without a fault was fed exactly these packets
 pub record IsFedTo {M : Type 0} (flow : Flow M) (fed : ℕ) (packets : List FlowPacket) : Type 0 where

@@ -1,5 +1,5 @@
 -- The packets that the meters of a flow's runs were fed, and the contents of their output. Packets count from 0, runs
--- from 1; `tai` is in seconds.
+-- from 1.
 use Rattle.std.specs.Prelude.{◌≡◌, ◌+◌, ℕ, List, [], ◌∷◌, ◌++◌, length, slice_range, Option, Some, None}
 use Rattle.timing_base.specs.Shifts.{Shift}
 use Rattle.frame_group.specs.Expected.{next_packet}

@@ -5,6 +5,7 @@
 use Rattle.std.specs.Prelude.{ℕ, true, false, List, [], ◌∷◌, Option, Some, None}
 use Rattle.timing_base.specs.Examples.{sent}
 use Rattle.timing_base.specs.Media.{Media}
+use Rattle.timing_base.specs.Shifts.{FlowOptions, no_shift}
 use Rattle.timing_base.specs.declared.key.FlowKey.{FlowKey}
 use Rattle.timing_base.specs.declared.media.Kind.TheVariants.{N}
 use Rattle.timing_base.specs.declared.packet.FlowPacket.{FlowPacket}
@@ -20,6 +21,18 @@ use Rattle.sender_params.specs.Worked.{described}
 -- key of the flows: file 1, media 2
 abbrev pub a_key : FlowKey
 a_key = record { file = 1; media = 2 }
+
+-- `--tai` alone
+abbrev pub with_tai : ℕ → FlowOptions
+with_tai seconds = record { shift = record { tai = seconds; delay = 0 }; seq16 = false }
+
+-- `--delay` alone
+abbrev pub with_delay : ℕ → FlowOptions
+with_delay nanoseconds = record { shift = record { tai = 0; delay = nanoseconds }; seq16 = false }
+
+-- `--seq16` alone
+abbrev pub with_seq16 : FlowOptions
+with_seq16 = record { shift = no_shift; seq16 = true }
 
 -- 1080 lines at 50 frames per second, declared narrow, with this CMAX
 abbrev pub with_cmax : ℕ → Media
@@ -42,6 +55,13 @@ ten_at_once =
     sent 11 0 6 0 true ∷ sent 12 764000 7 1 false ∷ sent 13 764000 8 1 true ∷ sent 14 764000 9 2 false
     ∷ sent 15 764000 10 2 true ∷ sent 16 764000 11 3 false ∷ sent 17 764000 12 3 true ∷ sent 18 764000 13 4 false
     ∷ sent 19 764000 14 4 true ∷ sent 20 764000 15 5 false ∷ sent 21 764000 16 5 true ∷ []
+
+-- a head of one packet, and two frames; the sender leaves the extended sequence number 0, and the sequence number wraps
+-- in the first frame
+abbrev pub four_wrapped : List FlowPacket
+four_wrapped =
+    sent 11 0 65534 0 true ∷ sent 12 764000 65535 1 false ∷ sent 13 10364000 0 1 true ∷ sent 14 20764000 1 2 false
+    ∷ sent 15 30364000 2 2 true ∷ []
 
 -- a head, a frame and a packet without a marker; after a gap a head of one packet and a frame
 abbrev pub gap_between : List FlowPacket

@@ -12,7 +12,7 @@ use crate::metered::Metered;
 use flow_demux::{Demux, MediaFlow};
 use pcap_reader::Taker;
 use std::alloc::{AllocError as OutOfMemory, Global};
-use timing_base::{FlowKey, Media, Row};
+use timing_base::{FlowKey, FlowOptions, Media, Row};
 
 /// One judge for each media of a session, over the packet records of one file or of joined files.
 #[derive(Drop)]
@@ -24,8 +24,8 @@ pub struct Bank {
 impl Bank {
     ghost use Rattle.fail_interval.specs.BankStands.{StandsFor, records};
 
-    /// Returns the judges of these media for a file, before its first packet record. `file` counts from 0, and `tai`
-    /// seconds are added to the capture timestamps. Returns `Err` if memory runs out.
+    /// Returns the judges of these media for a file, before its first packet record. `file` counts from 0. All flows
+    /// have these options. Returns `Err` if memory runs out.
     pub fn new(alloc: Global, media: &[Media], file: u32, options: FlowOptions) -> Result<Bank, OutOfMemory>
         requires few { length media.now ≤ 64 }
         ensures stands { IfOk result (λ bank. StandsFor media.now file options bank []) }

@@ -1,14 +1,14 @@
 //! A flow so far, in which no packet has a fault.
 
 ghost use Rattle.std.specs.Prelude.{◌≡◌, ◌≤◌, ◌<◌, ◌+◌, ◌*◌, ◌^◌, ◌++◌, ◌∷◌, [], ℕ, List, length, Ok, None, Some, OnOk, IfOk, true, false};
-ghost use Rattle.timing_base.specs.Shifts.{Shift as ShiftValue};
+ghost use Rattle.timing_base.specs.Shifts.{IsShift, Shift as ShiftValue};
 ghost use Rattle.timing_base.specs.Captures.{IsStamp};
 ghost use Rattle.timing_base.specs.Flows.{first_fault_below};
 ghost use Rattle.timing_base.specs.declared.packet.FlowPacket.{FlowPacket};
 ghost use Rattle.timing_base.specs.declared.packet.Rtp.{Rtp as RtpValue};
-ghost use Rattle.timing_base.specs.Judged.{judged};
+ghost use Rattle.timing_base.specs.Judged.{judged_as_numbered};
 ghost use Rattle.frame_group.specs.Cuts.{cut_at};
-ghost use Rattle.frame_group.specs.Expected.{expected_after};
+ghost use Rattle.frame_group.specs.Expected.{expected_after, last_number_of};
 ghost use Rattle.timing_base.specs.Media.{Media as MediaValue};
 ghost use Rattle.fail_interval.specs.Row.{verdict_of};
 ghost use Rattle.fail_interval.specs.SoFar.{SoFar, in_head, outcome_of, so_far_next};
@@ -21,7 +21,7 @@ use frame_group::Grouper;
 use run_meter::{RunHead, RunMeter, RunPacket};
 use std::alloc::{AllocError as OutOfMemory, Global};
 use std::mem;
-use timing_base::{Items, Media, PacketFault, Rtp, Run, RunVerdict, Runs, Unjudged, Verdict};
+use timing_base::{Items, Media, PacketFault, Rtp, Run, RunVerdict, Runs, Shift, Unjudged, Verdict};
 
 /// A run between gaps that hasn't ended.
 #[derive(Drop)]
@@ -102,7 +102,7 @@ impl<M: RunMeter> OpenRun<M> {
 pub struct Flow<M: Drop> {
     alloc: Global,
     media: Media,
-    /// Seconds added to the capture timestamps.
+    /// Shift of the capture timestamps.
     shift: Shift,
     grouper: Grouper,
     /// Runs before the open one. If there are any, there is room for one more.
@@ -116,8 +116,9 @@ impl<M: RunMeter> Flow<M> {
     ghost use Rattle.fail_interval.specs.Flowing.{IsClosed, OpensAt, StartsAt, flow_expects};
     ghost use Rattle.fail_interval.specs.Telling.{FlowTells, TellsAt, TellsClosed, TellsExpected, TellsTook};
 
-    /// Returns the flow before its first packet. `tai` is in seconds.
+    /// Returns the flow before its first packet.
     pub fn new(alloc: Global, media: &Media, shift: Shift) -> Flow<M>
+        requires { IsShift shift }
         ensures media { result.media ≡ media.now }
         ensures shift { result.shift ≡ shift }
         ensures stands { StandsFor result [] }
@@ -132,6 +133,13 @@ impl<M: RunMeter> Flow<M> {
             done: Vec::new(alloc),
             open: None,
         }
+    }
+
+    /// Returns the packet number of the last packet; `None` before the first packet.
+    pub fn last_number(&self) -> Option<u32>
+        ensures { (packets : List FlowPacket) → StandsFor self.now packets → result ≡ last_number_of packets }
+    {
+        self.grouper.last_number()
     }
 
     /// Ends the open run, if there is one. Returns `Err` if memory runs out.
@@ -228,7 +236,7 @@ impl<M: RunMeter> Flow<M> {
                 }
                 let packet = RunPacket {
                     rec,
-                    at: at + self.shift * 1_000_000_000,
+                    at: self.shift.stamp(at),
                     timestamp: timestamp_of(self.grouper.expected()),
                 };
                 open.judge.feed_whole(packet)?;
@@ -270,7 +278,7 @@ impl<M: RunMeter> Flow<M> {
                 };
                 let packet = RunPacket {
                     rec,
-                    at: at + self.shift * 1_000_000_000,
+                    at: self.shift.stamp(at),
                     timestamp: rtp.timestamp,
                 };
                 open.judge
@@ -306,7 +314,7 @@ impl<M: RunMeter> Flow<M> {
         };
         let packet = RunPacket {
             rec,
-            at: at + self.shift * 1_000_000_000,
+            at: self.shift.stamp(at),
             timestamp: rtp.timestamp,
         };
         if cut.is_none() {
@@ -329,7 +337,7 @@ impl<M: RunMeter> Flow<M> {
     pub fn verdict(self, out: &mut M::Out) -> Result<Verdict, OutOfMemory>
         requires { ∥ ((packets : List FlowPacket) × StandsFor self packets) ∥₁ }
         ensures verdict { IfOk result (λ verdict. (packets : List FlowPacket) → StandsFor self packets
-            → verdict ≡ verdict_of self.media (judged packets self.media.pt self.shift)) }
+            → verdict ≡ verdict_of self.media (judged_as_numbered packets self.media.pt self.shift)) }
         ensures tells { IfOk result (λ _. (past : M.Past) (packets : List FlowPacket) → StandsFor self packets
             → FlowTells M.stands M.tells past self packets out.old
             → M.tells past out.new self.media self.shift (judged_parts self.media packets self.shift) None) }

@@ -1,8 +1,9 @@
 //! The judge of one flow.
 
-ghost use Rattle.std.specs.Prelude.{◌≡◌, ◌≤◌, ◌<◌, ◌+◌, ◌^◌, ◌++◌, ◌∷◌, [], ℕ, List, Ok, Err, IfOk, IsErr, OnErr, OnOk, length, true, false};
-ghost use Rattle.timing_base.specs.Shifts.{FlowOptions as FlowOptionsValue};
-ghost use Rattle.frame_group.specs.Expected.{expected_after};
+ghost use Rattle.std.specs.Prelude.{◌≡◌, ◌≤◌, ◌<◌, ◌+◌, ◌^◌, ◌++◌, ◌∷◌, [], ℕ, List, Ok, Err, None, IfOk, IsErr, OnErr, OnOk, length, true, false};
+ghost use Rattle.timing_base.specs.Flows.{first_fault};
+ghost use Rattle.timing_base.specs.Shifts.{FlowOptions as FlowOptionsValue, Shift as ShiftValue};
+ghost use Rattle.frame_group.specs.Expected.{expected_by_options, last_number_of};
 ghost use Rattle.timing_base.specs.Captures.{IsStamp};
 ghost use Rattle.timing_base.specs.declared.packet.FlowPacket.{FlowPacket};
 ghost use Rattle.timing_base.specs.declared.key.FlowKey.{FlowKey as KeyValue};
@@ -10,10 +11,11 @@ ghost use Rattle.timing_base.specs.Media.{Media as MediaValue};
 ghost use Rattle.fail_interval.specs.Row.{row};
 ghost use Rattle.fail_interval.specs.States.{IsKnown, IsReading};
 
+use crate::counting::Counting;
 use crate::flow::Flow;
 use run_meter::RunMeter;
 use std::alloc::{AllocError as OutOfMemory, Global};
-use timing_base::{FlowKey, Media, PacketFault, Row, Rtp, Unjudged, Verdict};
+use timing_base::{FlowKey, FlowOptions, Media, PacketFault, Row, Rtp, Unjudged, Verdict};
 
 /// State after the packets so far.
 #[derive(Drop)]
@@ -28,10 +30,23 @@ enum State<M: Drop> {
 
 impl<M: RunMeter> State<M> {
     ghost use Rattle.fail_interval.specs.Flowing.{CanGoOn};
-    ghost use Rattle.fail_interval.specs.Goings.{GoesAsExpected, GoesBy, GoesOn, Refuses};
+    ghost use Rattle.fail_interval.specs.Goings.{GoesAsExpected, GoesBy, GoesOn, Refuses, StateTakes};
+    ghost use Rattle.fail_interval.specs.Measured.{StateTellsTaken};
+    ghost use Rattle.fail_interval.specs.States.{IsAt};
     ghost use Rattle.fail_interval.specs.Telling.{TellsExpected, TellsTook};
     ghost use Rattle.fail_interval.specs.declared.flow.Flow.{Flow as FlowValue};
     ghost use Rattle.fail_interval.specs.declared.judge.State.TheVariants.{Going, Spent};
+
+    /// Returns the judged number of the last packet, or `None` before the first packet and after a fault.
+    fn last_number(&self) -> Option<u32>
+        ensures { (media : MediaValue) (shift : ShiftValue) (packets : List FlowPacket) → IsAt media shift packets self.now
+            → first_fault packets media.pt ≡ None → result ≡ last_number_of packets }
+    {
+        match self {
+            State::Going(flow) => flow.last_number(),
+            _ => None,
+        }
+    }
 
     /// Takes the expected packet, captured at `at` in nanoseconds, if it continues a judged run and has no fault.
     /// Returns whether it was taken; if not, nothing changes. Returns `Err` if memory runs out.
@@ -72,11 +87,92 @@ impl<M: RunMeter> State<M> {
               at = at;
               rtp = Ok rtp;
             })) self.old self.new }
-        ensures spent { self.old ≡ Spent → result ≡ Ok false }
+        ensures others { ((flow : FlowValue M) → self.old ≡ Going flow → ⊥) → result ≡ Ok false }
     {
         match self {
             State::Going(flow) => flow.feed_on(rec, at, rtp, out),
             _ => Ok(false),
+        }
+    }
+
+    /// Takes the next packet, which was parsed, with its judged number. Returns `Err` if memory runs out, or ran out
+    /// before.
+    #[inline(always)]
+    fn feed(
+        &mut self,
+        rec: u64,
+        at: u64,
+        rtp: Rtp,
+        out: &mut M::Out,
+    ) -> Result<(), OutOfMemory>
+        requires stamp { IsStamp at }
+        requires known { (flow : FlowValue M) → self.old ≡ Going flow
+            → ∥ ((packets : List FlowPacket) × CanGoOn flow packets at) ∥₁ }
+        ensures takes { (fed : ℕ) → fed < 2 ^ 41
+            → StateTakes fed self.old self.new (record { rec = rec; at = at; rtp = Ok rtp }) result }
+        ensures tells { M.WANTS_LEVELS ≡ true → (fed : ℕ) → fed < 2 ^ 41
+            → StateTellsTaken M.stands M.tells fed self.old self.new out.old out.new (record {
+              rec = rec;
+              at = at;
+              rtp = Ok rtp;
+            }) result }
+    {
+        match self.feed_on(rec, at, rtp, out) {
+            Ok(true) => return Ok(()),
+            Ok(false) => {}
+            Err(refused) => {
+                self.spend();
+                return Err(refused);
+            }
+        }
+        // A copy of its own, so that a usual packet is never written to memory.
+        let other = Rtp {
+            number: rtp.number,
+            timestamp: rtp.timestamp,
+            marker: rtp.marker,
+            pt: rtp.pt,
+            ssrc: rtp.ssrc,
+        };
+        self.feed_other(rec, at, other, out)
+    }
+
+    /// Takes the next packet, which was parsed, with its judged number. It may begin or end a frame or field, or have a
+    /// fault.
+    #[cold]
+    #[inline(never)]
+    fn feed_other(
+        &mut self,
+        rec: u64,
+        at: u64,
+        rtp: Rtp,
+        out: &mut M::Out,
+    ) -> Result<(), OutOfMemory>
+        requires stamp { IsStamp at }
+        requires known { (flow : FlowValue M) → self.old ≡ Going flow
+            → ∥ ((packets : List FlowPacket) × CanGoOn flow packets at) ∥₁ }
+        ensures takes { (fed : ℕ) → fed < 2 ^ 41
+            → StateTakes fed self.old self.new (record { rec = rec; at = at; rtp = Ok rtp }) result }
+        ensures tells { M.WANTS_LEVELS ≡ true → (fed : ℕ) → fed < 2 ^ 41
+            → StateTellsTaken M.stands M.tells fed self.old self.new out.old out.new (record {
+              rec = rec;
+              at = at;
+              rtp = Ok rtp;
+            }) result }
+    {
+        let step = match self {
+            State::Going(flow) => flow.feed(rec, at, rtp, out),
+            State::Refused { .. } => return Ok(()),
+            State::Spent => return Err(OutOfMemory),
+        };
+        match step {
+            Ok(fault) => match fault {
+                None => Ok(()),
+                Some(fault) => self.refuse(rec, fault),
+            },
+            Err(refused) => {
+                self.spend();
+                Err(refused)
+            }
         }
     }
 
@@ -112,6 +208,8 @@ pub struct FlowJudge<M: Drop> {
     key: FlowKey,
     /// Number of packets fed.
     fed: u64,
+    /// Numbers by which the packets are judged.
+    counting: Counting,
     state: State<M>,
     ghost known: { ∥ IsKnown fed state ∥₁ },
 }
@@ -119,19 +217,21 @@ pub struct FlowJudge<M: Drop> {
 impl<M: RunMeter> FlowJudge<M> {
     ghost use Rattle.fail_interval.specs.Stands.{IsSpent, StandsFor, Takes, TakesExpected, count_fed, expected_of};
     ghost use Rattle.fail_interval.specs.Measured.{JudgeTells, TellsGoingOn, TellsOfAll, TellsTaken};
+    ghost use Rattle.fail_interval.specs.Goings.{CountsOn};
 
-    /// Returns the judge of the flow with this key and this media, before the first packet. `tai` seconds are added to
-    /// the capture timestamps of judged packets, but not to those in a reported fault.
+    /// Returns the judge of the flow with this key, this media and these options, before the first packet. The shift
+    /// changes the capture timestamps of judged packets, but not those in a reported fault.
     pub fn new(alloc: Global, media: &Media, key: FlowKey, options: FlowOptions) -> FlowJudge<M>
         ensures fed { count_fed result ≡ 0 }
         ensures stands { StandsFor media.now key options result [] }
-        ensures tells { (past : M.Past) (out : M.Out) → M.tells past out media.now options [] None
+        ensures tells { (past : M.Past) (out : M.Out) → M.tells past out media.now options.shift [] None
             → JudgeTells M.stands M.tells past media.now options [] result out }
     {
         FlowJudge {
             key,
             fed: 0,
-            state: State::Going(Flow::new(alloc, media, options)),
+            counting: Counting::new(options.seq16),
+            state: State::Going(Flow::new(alloc, media, options.shift)),
         }
     }
 
@@ -145,17 +245,20 @@ impl<M: RunMeter> FlowJudge<M> {
         self.fed
     }
 
-    /// Returns the next packet of the flow if it continues its frame or field, as most do: with the next packet number,
-    /// the same RTP timestamp and no marker. Returns `None` before the first packet, after one with the marker, and
-    /// after a fault.
+    /// Returns the next packet of the flow if it continues its frame or field, as most do: with the next packet number
+    /// as it stands in the bytes of its frame, the same RTP timestamp and no marker. Returns `None` before the first
+    /// packet, after one with the marker, and after a fault.
     #[inline(always)]
     pub fn expected(&self) -> Option<Rtp>
         ensures follows { (media : MediaValue) (key : KeyValue) (options : FlowOptionsValue) (packets : List FlowPacket)
-            → StandsFor media key options self.now packets → result ≡ expected_after packets media.pt }
+            → StandsFor media key options self.now packets → result ≡ expected_by_options options packets media.pt }
         ensures is { result ≡ expected_of self.now }
     {
         match &self.state {
-            State::Going(flow) => flow.expected(),
+            State::Going(flow) => match flow.expected() {
+                Some(rtp) => Some(self.counting.own(rtp)),
+                None => None,
+            },
             _ => None,
         }
     }
@@ -246,65 +349,23 @@ impl<M: RunMeter> FlowJudge<M> {
           rtp = Ok rtp;
         }) result }
     {
-        match self.state.feed_on(rec, at, rtp, out) {
-            Ok(true) => {
-                self.fed += 1;
-                return Ok(());
-            }
-            Ok(false) => {}
-            Err(refused) => {
-                self.fed += 1;
-                self.state.spend();
-                return Err(refused);
-            }
-        }
-        // A copy of its own, so that a usual packet is never written to memory.
-        let other = Rtp {
-            number: rtp.number,
-            timestamp: rtp.timestamp,
-            marker: rtp.marker,
-            pt: rtp.pt,
-            ssrc: rtp.ssrc,
-        };
-        self.feed_other(rec, at, other, out)
+        let judged = self.count(rtp);
+        self.fed += 1;
+        self.state.feed(rec, at, judged, out)
     }
 
-    /// Takes the next packet, which was parsed. It may begin or end a frame or field, or have a fault.
-    #[cold]
-    #[inline(never)]
-    fn feed_other(
-        &mut self,
-        rec: u64,
-        at: u64,
-        rtp: Rtp,
-        out: &mut M::Out,
-    ) -> Result<(), OutOfMemory>
-        requires stamp { IsStamp at }
-        requires few { count_fed self.old < 2 ^ 41 }
-
-        ensures takes { Takes self.old self.new (record { rec = rec; at = at; rtp = Ok rtp }) result }
-        ensures tells { M.WANTS_LEVELS ≡ true → TellsTaken M.stands M.tells self.old self.new out.old out.new (record {
-          rec = rec;
-          at = at;
-          rtp = Ok rtp;
-        }) result }
+    /// Returns the next packet with its judged number.
+    #[inline(always)]
+    fn count(&mut self, rtp: Rtp) -> Rtp
+        ensures key { self.new.key ≡ self.old.key }
+        ensures fed { self.new.fed ≡ self.old.fed }
+        ensures state { self.new.state ≡ self.old.state }
+        ensures counts { CountsOn self.old.counting self.new.counting self.old.state rtp result }
     {
-        self.fed += 1;
-        let step = match &mut self.state {
-            State::Going(flow) => flow.feed(rec, at, rtp, out),
-            State::Refused { .. } => return Ok(()),
-            State::Spent => return Err(OutOfMemory),
-        };
-        match step {
-            Ok(fault) => match fault {
-                None => Ok(()),
-                Some(fault) => self.state.refuse(rec, fault),
-            },
-            Err(refused) => {
-                self.state.spend();
-                Err(refused)
-            }
+        if !self.counting.seq16 {
+            return rtp;
         }
+        self.counting.count(self.state.last_number(), rtp)
     }
 
     /// Takes the next packet, which couldn't be parsed: that is its fault.

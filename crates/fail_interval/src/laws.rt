@@ -2,7 +2,8 @@
 //! its clauses are the theorem.
 
 ghost use Rattle.std.specs.Prelude.{◌≡◌, ◌≤◌, ◌∷◌, [], ℕ, List, Option, Some, None, true, false, length, map};
-ghost use Rattle.timing_base.specs.Shifts.{FlowOptions};
+ghost use Rattle.timing_base.specs.Numbered.{numbered};
+ghost use Rattle.timing_base.specs.Shifts.{FlowOptions, no_options, no_shift};
 ghost use Rattle.timing_base.specs.Captures.{Record};
 ghost use Rattle.timing_base.specs.Examples.{sent};
 ghost use Rattle.timing_base.specs.Keys.{key_of};
@@ -30,8 +31,8 @@ ghost use Rattle.fail_interval.specs.Stands.{StandsFor};
 ghost use Rattle.fail_interval.specs.declared.judge.FlowJudge.{FlowJudge as JudgeValue};
 ghost use Rattle.fail_interval.specs.Row.{row};
 ghost use Rattle.fail_interval.specs.Rows.{rows_of, rows_of_files};
-ghost use Rattle.fail_interval.specs.Worked.{a_key, with_cmax};
-ghost use Rattle.fail_interval.specs.Worked.{four, four_and_tail, gap_between, ten_at_once};
+ghost use Rattle.fail_interval.specs.Worked.{a_key, with_cmax, with_delay, with_seq16, with_tai};
+ghost use Rattle.fail_interval.specs.Worked.{four, four_and_tail, four_wrapped, gap_between, ten_at_once};
 ghost use Rattle.fail_interval.specs.Worked.{headed_run, judged_row, judged_run, runs_row, twos, unjudged_row};
 
 use run_meter::RunMeter;
@@ -58,86 +59,98 @@ pub fn verdict_names_first()
 {}
 
 /// Each packet comes shortly before its gapped read: 444 4/9 ns in the frames, 222 2/9 ns in the fields. The tail comes
-/// at once, and isn't judged. One second that is added is the time of fifty frames.
+/// at once, and isn't judged. One second that is added is the time of fifty frames, and a flow that is 64 ns late isn't
+/// late if 64 ns are subtracted.
 pub fn passes_by_hand()
-    ensures plain { row (four 764000 10364000 20764000 30364000) a_key hd_50 0
+    ensures plain { row (four 764000 10364000 20764000 30364000) a_key hd_50 no_options
         ≡ judged_row (twos 2 4 0 1 1 1 Pass Pass Pass) }
-    ensures tail { row (four_and_tail 764000 10364000 20764000 30364000 30364000) a_key hd_50 0
+    ensures tail { row (four_and_tail 764000 10364000 20764000 30364000 30364000) a_key hd_50 no_options
         ≡ judged_row (twos 2 4 1 1 1 1 Pass Pass Pass) }
-    ensures second_later { row (four 764000 10364000 20764000 30364000) a_key hd_50 1
+    ensures second_later { row (four 764000 10364000 20764000 30364000) a_key hd_50 (with_tai 1)
         ≡ judged_row (twos 2 4 0 1 1 1 Pass Pass Pass) }
-    ensures fields { row (four 782000 10382000 20782000 30382000) a_key hd_25_interlaced 0
+    ensures ahead { row (four 764064 10364064 20764064 30364064) a_key hd_50 (with_delay 64)
+        ≡ judged_row (twos 2 4 0 1 1 1 Pass Pass Pass) }
+    ensures fields { row (four 782000 10382000 20782000 30382000) a_key hd_25_interlaced no_options
         ≡ judged_row (twos 2 4 0 1 1 1 Pass Pass Pass) }
 {}
 
 /// With CMAX=1 two packets at once are too many, for the declared type only. The named interval starts at the latest
 /// packet from which on the packets, less the drain ticks, are the count of the bucket.
 pub fn bucket_by_hand()
-    ensures first { row (four 764000 764000 20764000 30364000) a_key (with_cmax 1) 0
+    ensures first { row (four 764000 764000 20764000 30364000) a_key (with_cmax 1) no_options
         ≡ judged_row (twos 2 4 0 2 2 2 (Fail (fail Bucket 0 1 2 1)) Pass Pass) }
-    ensures second { row (four 764000 10364000 20764000 20764000) a_key (with_cmax 1) 0
+    ensures second { row (four 764000 10364000 20764000 20764000) a_key (with_cmax 1) no_options
         ≡ judged_row (twos 2 4 0 2 2 2 (Fail (fail Bucket 2 3 2 1)) Pass Pass) }
-    ensures both { row (four 764000 764000 20764000 20764000) a_key (with_cmax 1) 0
+    ensures both { row (four 764000 764000 20764000 20764000) a_key (with_cmax 1) no_options
         ≡ judged_row (twos 2 4 0 2 2 2 (Fail (fail Bucket 0 1 2 1)) Pass Pass) }
 {}
 
 /// Ten packets at once: the bucket may hold four for N and NL and sixteen for W, and the buffer of N and NL eight. If
 /// one packet breaks both limits, the bucket is named.
 pub fn over_by_hand()
-    ensures bucket { row ten_at_once a_key hd_50 0
+    ensures bucket { row ten_at_once a_key hd_50 no_options
         ≡ judged_row (twos 5 10 0 10 10 10 (Fail (fail Bucket 0 4 5 4)) (Fail (fail Bucket 0 4 5 4)) Pass) }
-    ensures over { row ten_at_once a_key (with_cmax 100) 0
+    ensures over { row ten_at_once a_key (with_cmax 100) no_options
         ≡ judged_row (twos 5 10 0 10 10 10 (Fail (fail Over 0 8 9 8)) (Fail (fail Bucket 0 4 5 4)) Pass) }
-    ensures both { row ten_at_once a_key (with_cmax 8) 0
+    ensures both { row ten_at_once a_key (with_cmax 8) no_options
         ≡ judged_row (twos 5 10 0 10 10 10 (Fail (fail Bucket 0 8 9 8)) (Fail (fail Bucket 0 4 5 4)) Pass) }
 {}
 
 /// A packet less than a nanosecond after gapped read 1, which is at 10,364,444 4/9 ns; linear read 1 is 400,000 ns
 /// later. A flow that comes late as a whole is late at its first packet.
 pub fn empty_by_hand()
-    ensures late { row (four 764000 10364445 20764000 30364000) a_key hd_50 0
+    ensures late { row (four 764000 10364445 20764000 30364000) a_key hd_50 no_options
         ≡ judged_row (twos 2 4 0 1 1 1 (Fail (fail Empty 1 1 1 2)) Pass Pass) }
-    ensures all_late { row (four 764445 10364445 20764445 30364445) a_key hd_50 0
+    ensures all_late { row (four 764445 10364445 20764445 30364445) a_key hd_50 no_options
         ≡ judged_row (twos 2 4 0 1 0 1 (Fail (fail Empty 0 0 0 1)) (Fail (fail Empty 0 0 0 1))
         (Fail (fail Empty 0 0 0 1))) }
-    ensures late_field { row (four 782000 10382223 20782000 30382000) a_key hd_25_interlaced 0
+    ensures late_field { row (four 782000 10382223 20782000 30382000) a_key hd_25_interlaced no_options
         ≡ judged_row (twos 2 4 0 1 1 1 (Fail (fail Empty 1 1 1 2)) Pass Pass) }
 {}
 
 /// Results of flows that aren't judged, with the reason.
 pub fn unjudged_by_hand()
-    ensures absent { row [] a_key hd_50 0 ≡ unjudged_row Absent }
-    ensures no_marker { row (sent 11 0 6 0 false ∷ sent 12 5 7 0 false ∷ []) a_key hd_50 0
+    ensures absent { row [] a_key hd_50 no_options ≡ unjudged_row Absent }
+    ensures no_marker { row (sent 11 0 6 0 false ∷ sent 12 5 7 0 false ∷ []) a_key hd_50 no_options
         ≡ unjudged_row (NoWholeFrame 2) }
-    ensures one_marker { row (sent 11 0 6 0 true ∷ sent 12 5 7 1 false ∷ []) a_key hd_50 0
+    ensures one_marker { row (sent 11 0 6 0 true ∷ sent 12 5 7 1 false ∷ []) a_key hd_50 no_options
         ≡ unjudged_row (NoWholeFrame 1) }
-    ensures refused { row (sent 11 9 6 0 true ∷ sent 12 8 7 1 false ∷ []) a_key hd_50 5
+    ensures refused { row (sent 11 9 6 0 true ∷ sent 12 8 7 1 false ∷ []) a_key hd_50 (with_tai 5)
         ≡ unjudged_row (Refused 12 (StampBack 9 8)) }
 {}
 
 /// Runs between gaps: each has its own head, anchor, bucket and tail. The second frame of the first run isn't complete.
 pub fn runs_by_hand()
-    ensures two { row gap_between a_key hd_50 0
+    ensures two { row gap_between a_key hd_50 no_options
         ≡ runs_row (judged_run 11 6 None (twos 1 2 1 1 1 1 Pass Pass Pass))
         (judged_run 15 11 (Some 10) (twos 1 2 0 1 1 1 Pass Pass Pass)) }
-    ensures headed { row (sent 11 0 6 0 true ∷ sent 12 5 8 1 false ∷ sent 13 6 9 1 false ∷ []) a_key hd_50 0
+    ensures headed { row (sent 11 0 6 0 true ∷ sent 12 5 8 1 false ∷ sent 13 6 9 1 false ∷ []) a_key hd_50 no_options
         ≡ runs_row (headed_run 11 6 None 1) (headed_run 12 8 (Some 7) 2) }
+{}
+
+/// A sequence number that wraps where the sender leaves the extended sequence number 0: a gap, unless numbers are
+/// counted by sequence numbers alone.
+pub fn wrap_by_hand()
+    ensures counted { row four_wrapped a_key hd_50 with_seq16
+        ≡ judged_row (twos 2 4 0 1 1 1 Pass Pass Pass) }
+    ensures as_they_are { row four_wrapped a_key hd_50 no_options
+        ≡ runs_row (headed_run 11 65534 None 1) (judged_run 13 0 (Some 65536) (twos 1 2 0 1 1 1 Pass Pass Pass)) }
 {}
 
 /// Contents of the meters' output while the flow goes on: a run that ends at a gap, with an incomplete second frame,
 /// and the next run.
 pub fn open_runs_by_hand()
-    ensures in_first { open_before gap_between 0 2 ≡ None }
-    ensures first { open_before gap_between 0 3 ≡ Some (record {
+    ensures in_first { open_before gap_between no_shift 2 ≡ None }
+    ensures first { open_before gap_between no_shift 3 ≡ Some (record {
       run = run_by 1 (sent 11 0 6 0 true) 2;
       packets = sent 12 764000 7 1 false ∷ sent 13 10364000 8 1 true ∷ [];
     }) }
-    ensures in_second { open_before gap_between 0 4 ≡ open_before gap_between 0 3 }
-    ensures none_over { parts_before hd_50 gap_between 0 4 ≡ [] }
-    ensures over { map (λ (part : JudgedPart). part.values) (parts_before hd_50 gap_between 0 5)
+    ensures in_second { open_before gap_between no_shift 4 ≡ open_before gap_between no_shift 3 }
+    ensures none_over { parts_before hd_50 gap_between no_shift 4 ≡ [] }
+    ensures over { map (λ (part : JudgedPart). part.values) (parts_before hd_50 gap_between no_shift 5)
         ≡ twos 1 2 1 1 1 1 Pass Pass Pass ∷ [] }
-    ensures in_head { open_before gap_between 0 5 ≡ None }
-    ensures next { open_before gap_between 0 7 ≡ Some (record {
+    ensures in_head { open_before gap_between no_shift 5 ≡ None }
+    ensures next { open_before gap_between no_shift 7 ≡ Some (record {
       run = run_by 2 (sent 15 30364000 11 2 true) 2;
       packets = sent 16 40764000 12 3 false ∷ sent 17 50364000 13 3 true ∷ [];
     }) }
@@ -148,14 +161,14 @@ pub fn output_tells_so_far<M: RunMeter>()
     ensures { (past : M.Past) (m : Media) (key : FlowKey) (options : FlowOptions) (judge : JudgeValue M) (packets : List FlowPacket)
         (out : M.Out) → StandsFor m key options judge packets
         → JudgeTells M.stands M.tells past m options packets judge out
-        → TellsSoFar M.tells past m options packets (length packets) out }
+        → TellsSoFar M.tells past m options.shift (numbered options.seq16 packets) (length packets) out }
 {}
 
 /// The owner of the output may take results out of it, if the meter's `Past` accounts for what was taken.
 pub fn output_may_be_taken_out<M: RunMeter>()
     ensures { (past later : M.Past) (m : Media) (options : FlowOptions) (judge : JudgeValue M) (packets : List FlowPacket)
-        (out left : M.Out) → ((over : List JudgedPart) (part : Option OpenPart) → M.tells past out m options over part
-        → M.tells later left m options over part)
+        (out left : M.Out) → ((over : List JudgedPart) (part : Option OpenPart) → M.tells past out m options.shift over part
+        → M.tells later left m options.shift over part)
         → JudgeTells M.stands M.tells past m options packets judge out
         → JudgeTells M.stands M.tells later m options packets judge left }
 {}

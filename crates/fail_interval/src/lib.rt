@@ -12,6 +12,7 @@
 #![tactic(auto)]
 
 mod bank;
+mod counting;
 mod first;
 mod flow;
 mod judge;

@@ -11,7 +11,7 @@ use crate::judge::FlowJudge;
 use flow_demux::FlowTaker;
 use run_meter::RunMeter;
 use std::alloc::{AllocError as OutOfMemory, Global};
-use timing_base::{FlowKey, FlowPacket, Media, Row, Rtp};
+use timing_base::{FlowKey, FlowOptions, FlowPacket, Media, Row, Rtp};
 
 /// The judge of a flow, and the output of the meters of the flow's runs.
 #[derive(Drop)]
@@ -27,11 +27,11 @@ impl<M: RunMeter<Out = O>, O: Drop> Metered<M, O> {
     ghost use Rattle.fail_interval.specs.Meterings.{IsFed};
     ghost use Rattle.fail_interval.specs.Stands.{StandsFor, count_fed};
 
-    /// Returns the judge of the flow with this key and this media, before the first packet. `out` must not contain any
-    /// result yet. `tai` seconds are added to the capture timestamps of judged packets, but not to those in a reported
-    /// fault.
+    /// Returns the judge of the flow with this key, this media and these options, before the first packet. `out` must
+    /// not contain any result yet. The shift changes the capture timestamps of judged packets, but not those in a
+    /// reported fault.
     pub fn new(alloc: Global, media: &Media, key: FlowKey, options: FlowOptions, out: O) -> Metered<M, O>
-        ensures fed { (past : M.Past) → M.tells past out media.now options [] None
+        ensures fed { (past : M.Past) → M.tells past out media.now options.shift [] None
             → IsFed M.WANTS_LEVELS M.stands M.tells past media.now key options result [] }
         ensures none { count_fed result.judge ≡ 0 }
         ensures stands { StandsFor media.now key options result.judge [] }

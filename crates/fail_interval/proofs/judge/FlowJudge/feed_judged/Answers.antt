@@ -1,7 +1,9 @@
 use Rattle.std.proofs.Common.{Ok, ap, ◌∙◌, refl}
-use Rattle.fail_interval.proofs.Expecting.{expected-next}
+use Rattle.timing_base.specs.Numbered.{numbered}
+use Rattle.fail_interval.proofs.Expecting.{own-next}
 use Rattle.fail_interval.proofs.JudgeTold.{expected-tells}
-use Rattle.fail_interval.proofs.Judging.{flow-known, known-expected, stands-expected, took-expected}
+use Rattle.fail_interval.proofs.Judges.{as-state, judge-expected, judge-more, judge-tells}
+use Rattle.fail_interval.proofs.Judging.{flow-known, known-expected}
 use Rattle.fail_interval.proofs.judge.FlowJudge.feed_judged.Goals as goal
 
 pub feed_judged-requires : goal.feed_judged-requires
@@ -17,15 +19,18 @@ returns-in-Ok-true-clause-took g c = λ _.
     let went = c.feed_judged.ensures.goes_on (c.in-Ok-true.is ∙ ap Ok c.in-Ok-true.field-0-test) in
     record {
       fed = refl;
-      expects = λ media key options packets s. took-expected media key options c.args.at c.args.self.now _ packets went c.requires.few c.requires.stamp s;
+      expects = λ media key options packets s. judge-expected media key options c.args.at c.args.self.now _ packets went c.requires.few c.requires.stamp s;
       stands = λ media key options packets rec s.
-          stands-expected media key options rec c.args.at c.args.self.now _ _ packets went c.requires.few c.requires.stamp s;
+          judge-more media key options rec c.args.at c.args.self.now _ _ packets went c.requires.few c.requires.stamp s;
       going = λ spent. let was = went.is in cc;
-      next = expected-next c.args.at c.args.self.now.state _ went;
+      next = own-next c.args.at c.args.self.now.counting c.args.self.now.state _ went;
     }
 
 pub returns-in-Ok-true-clause-tells : goal.returns-in-Ok-true-clause-tells
 returns-in-Ok-true-clause-tells g c = λ _ wants past out media key options packets s t.
-    let went = c.feed_judged.ensures.tells (c.in-Ok-true.is ∙ ap Ok c.in-Ok-true.field-0-test) wants in
-    expected-tells g.M.RunMeter.stands g.M.RunMeter.tells past media key options c.args.rec c.args.at c.args.self.now _ packets out went c.requires.few
-    c.requires.stamp s t
+    let took = c.in-Ok-true.is ∙ ap Ok c.in-Ok-true.field-0-test in
+    judge-tells g.M.RunMeter.stands g.M.RunMeter.tells past media key options c.args.rec c.args.at c.args.self.now _ packets out
+    (c.feed_judged.ensures.goes_on took) c.requires.few c.requires.stamp s
+    (expected-tells g.M.RunMeter.stands g.M.RunMeter.tells past media options.shift c.args.rec c.args.at c.args.self.now.fed c.args.self.now.state _
+    (numbered options.seq16 packets) out
+    (c.feed_judged.ensures.tells took wants) c.requires.few c.requires.stamp (as-state media key options c.args.self.now packets s) t)

@@ -8,7 +8,7 @@ returns-in-Going-clause-goes_on g c = λ took. record {
   is = c.in-Going.is;
   becomes = refl;
   media = c.feed_judged.ensures.media;
-  options = c.feed_judged.ensures.options;
+  shift = c.feed_judged.ensures.shift;
   goes = c.feed_judged.ensures.goes_on took;
 }
 
@@ -19,6 +19,6 @@ returns-in-Going-clause-tells g c = λ took wants. record {
   is = c.in-Going.is;
   becomes = refl;
   media = c.feed_judged.ensures.media;
-  options = c.feed_judged.ensures.options;
+  shift = c.feed_judged.ensures.shift;
   goes = c.feed_judged.ensures.tells took wants;
 }
