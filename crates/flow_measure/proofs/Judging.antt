@@ -27,7 +27,8 @@ use Rattle.flow_measure.specs.declared.numbers.MeasuredRun.{MeasuredRun}
 use Rattle.flow_measure.specs.declared.numbers.RunNumbers.{RunNumbers}
 
 -- what the packets have, and one more
-pub stamps-more : (shift : Shift) (before : List FlowPacket) (p : FlowPacket) → stamps_of shift (before ++ p ∷ []) ≡ stamps_of shift before ++ stamp_of shift p ∷ []
+pub stamps-more : (shift : Shift) (before : List FlowPacket) (p : FlowPacket)
+    → stamps_of shift (before ++ p ∷ []) ≡ stamps_of shift before ++ stamp_of shift p ∷ []
 stamps-more shift before p = map-append (stamp_of shift) before (p ∷ [])
 
 pub records-more : (before : List FlowPacket) (p : FlowPacket) → records_of (before ++ p ∷ []) ≡ records_of before ++ p.rec ∷ []

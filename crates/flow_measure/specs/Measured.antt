@@ -1,4 +1,4 @@
--- The measurements of the judged runs of a flow. Capture timestamps are nanoseconds of TAI, with `tai` seconds added.
+-- The measurements of the judged runs of a flow. Capture timestamps are nanoseconds of TAI, after the shift of the flow.
 -- Runs and packet records count from 1. This project's profile.
 use Rattle.std.specs.Prelude.{◌≡◌, ℕ, ⊤, List, [], ◌∷◌, map, Option, Some, None}
 use Rattle.timing_base.specs.Shifts.{Shift}

@@ -21,7 +21,7 @@ pub struct Buffer {
 pub struct Place {
     /// The number of its packet record, from 1.
     pub record: u64,
-    /// Its capture timestamp in nanoseconds, including the seconds that are added to get TAI.
+    /// Its capture timestamp in nanoseconds of TAI, after the shift of its flow.
     pub stamp: u64,
 }
 

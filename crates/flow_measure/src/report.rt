@@ -2,7 +2,7 @@
 //! frame or field.
 //!
 //! The JSON is made whole, as one string. Rows are written one by one, into memory that is reused. Capture timestamps
-//! are nanoseconds since 1970-01-01 00:00:00, including the seconds that are added to get TAI. Ticks are of 90 kHz.
+//! are nanoseconds since 1970-01-01 00:00:00, after the shift to TAI. Ticks are of 90 kHz.
 
 mod flow;
 mod json;

@@ -1,9 +1,9 @@
 -- Times in milliseconds, microseconds or nanoseconds, exact: with three, six or no decimals as far as they aren't 0.
 -- Times are nanoseconds. This project's own format.
-use Rattle.std.specs.Prelude.{ℕ, ℤ, pos, ◌/◌, ◌%◌, ◌-◌, ◌*◌, ◌==◌, nat_lt, int_lt, unsigned_abs, if◌then◌else◌}
+use Rattle.std.specs.Prelude.{ℕ, ℤ, pos, ◌/◌, ◌%◌, ◌==◌, nat_lt, int_lt, unsigned_abs, if◌then◌else◌}
 use Rattle.std.specs.Prelude.{List, [], ◌++◌, codes}
 use Rattle.std.specs.Fmt.{decimal}
-use Rattle.timing_base.specs.Shifts.{Shift}
+use Rattle.timing_base.specs.Shifts.{Shift, unshifted}
 use Rattle.flow_page.specs.chart.Grid.{ns_name, scale_of_ns}
 
 -- the last three digits of a number
@@ -50,9 +50,9 @@ unfoldable pub span_text : ℕ → List ℕ
 span_text ns =
     if nat_lt ns 1000000 then micro_text ns ++ codes " &#181;s" else milli_text ns ++ codes " ms"
 
--- a capture timestamp as the file has it: without the seconds that were added
-abbrev pub file_time : (shift : Shift) (stamp : ℕ) → ℕ
-file_time shift stamp = stamp - shift * 1000000000
+-- a capture timestamp as the file has it, from the one after the shift
+abbrev pub file_time : Shift → (stamp : ℕ) → ℕ
+file_time shift stamp = unshifted shift stamp
 
 -- a capture timestamp in seconds of the epoch, with nine decimals
 unfoldable pub epoch_text : ℕ → List ℕ

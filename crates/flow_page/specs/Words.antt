@@ -1,5 +1,5 @@
--- The result of each sender type in words. Packets count from 0 and packet records from 1. Pass and fail have a sign and
--- a word. This project's own format.
+-- The result of each sender type in words. Packets count from 0 and packet records from 1. Pass and fail have a sign
+-- and a word. This project's own format.
 use Rattle.std.specs.Prelude.{ℕ, ℤ, pos, unsigned_abs, if◌then◌else◌, List, [], ◌++◌, codes}
 use Rattle.std.specs.Prelude.{Option, Some, None}
 use Rattle.std.specs.Fmt.{decimal, signed_decimal}

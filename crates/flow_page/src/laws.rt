@@ -1,6 +1,7 @@
 //! Texts of the page worked by hand. Each function does nothing: its clauses are what is proved.
 
 ghost use Rattle.std.specs.Prelude.{◌≡◌, ◌++◌, ◌∷◌, [], ℕ, codes, neg_ℤ, pos, true, false, Some, None};
+ghost use Rattle.timing_base.specs.Shifts.{no_shift};
 ghost use Rattle.timing_base.specs.declared.fail.Broken.TheVariants.{Bucket, Empty, Over};
 ghost use Rattle.timing_base.specs.declared.media.Kind.TheVariants.{N, NL, W};
 ghost use Rattle.sender_params.specs.Worked.{hd_25_interlaced, hd_50, hd_59_94};
@@ -28,20 +29,24 @@ ghost use Rattle.flow_page.specs.declared.shown.Curves.{Curves};
 ghost use Rattle.flow_page.specs.declared.shown.Region.{Region};
 ghost use Rattle.flow_page.specs.declared.timings.Timing.TheVariants.{First, Last, Latency, Offset};
 
-/// A capture timestamp as the file has it, without and with seconds that were added.
+/// A capture timestamp as the file has it: without a shift, with seconds that were added, and with a delay that was
+/// subtracted after them.
 #[tactic(auto, unfolding(crate::proofs::Numerals::numerals, crate::proofs::Numerals::times, crate::proofs::Numerals::rates))]
 pub fn epochs_by_hand()
-    ensures plain { epoch_text (file_time 0 1600000000001764000) ≡ codes "1600000000.001764000" }
-    ensures shift { epoch_text (file_time 37 1600000037000000009) ≡ codes "1600000000.000000009" }
+    ensures plain { epoch_text (file_time no_shift 1600000000001764000) ≡ codes "1600000000.001764000" }
+    ensures seconds { epoch_text (file_time (record { tai = 37; delay = 0 }) 1600000037000000009)
+        ≡ codes "1600000000.000000009" }
+    ensures delayed { epoch_text (file_time (record { tai = 37; delay = 999999999 }) 1600000036000000010)
+        ≡ codes "1600000000.000000009" }
 {}
 
 /// The result in words of a type that passes, and of one that fails.
 #[tactic(auto, unfolding(crate::proofs::Numerals::numerals, crate::proofs::Numerals::times, crate::proofs::Numerals::rates))]
 pub fn words_by_hand()
-    ensures pass { type_words kept (codes "frame") 0
+    ensures pass { type_words kept (codes "frame") no_shift
         ≡ codes "<li><span class=\"pass\">&#10003; pass</span> <b>N</b>: bucket 1 of 4, buffer 1 of 8; each packet "
         ++ codes "may come 0.444 &#181;s later.</li>\n" }
-    ensures fail { type_words late (codes "frame") 0
+    ensures fail { type_words late (codes "frame") no_shift
         ≡ codes "<li><span class=\"fail\">&#10007; fail</span> <b>N</b>: bucket 1 of 4, buffer 1 of 8; broken by 2 "
         ++ (codes "of 2 frames; 38 packets too late for the reads, first packet 1, at worst 759.556 &#181;s late. "
         ++ (codes "Packet 1, with which the verdict's fail ends, is record 3, capture timestamp "
@@ -152,7 +157,7 @@ pub fn tables_by_hand()
 /// The words on a type that fails in each way, all with different numbers.
 #[tactic(auto, unfolding(crate::proofs::Numerals::numerals, crate::proofs::Numerals::times, crate::proofs::Numerals::rates))]
 pub fn fails_by_hand()
-    ensures { type_words apart (codes "field") 0
+    ensures { type_words apart (codes "field") no_shift
         ≡ codes "<li><span class=\"fail\">&#10007; fail</span> <b>NL</b>: bucket 5 of 4, buffer 9 of 8; broken by 2 of 3 "
         ++ (codes "fields; after 11 packets the bucket is above its limit, first after packet 16; after 12 packets the "
         ++ (codes "buffer is above its limit, first after packet 17; 14 packets too late for the reads, first packet 18, "

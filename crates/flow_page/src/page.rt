@@ -23,7 +23,7 @@ use crate::timings::{add_steps_line, add_timing_figures, period_of};
 use crate::words::add_words;
 use flow_measure::{MeasuredFlow, MeasuredRun};
 use std::alloc::{AllocError as OutOfMemory, Global};
-use timing_base::{FileNote, Media, Session, Target};
+use timing_base::{FileNote, Media, Session, Shift, Target};
 use timing_report::group_name;
 
 /// Adds markup as it is.
@@ -46,8 +46,8 @@ fn add_run_heading(
     text: &mut String,
     run: u64,
     from: u64,
-    first: u64,
-    last: u64,
+    first: u128,
+    last: u128,
 ) -> Result<(), OutOfMemory>
     ensures { IfOk result (λ _. string_bytes text.new ≡ string_bytes text.old ++ run_heading run from first last) }
 {
@@ -58,13 +58,13 @@ fn add_run_heading(
     )
 }
 
-/// Adds the list of the results of all types, in words. `group` is "frame" or "field", `tai` the seconds that were
-/// added to capture timestamps.
+/// Adds the list of the results of all types, in words. `group` is "frame" or "field", `shift` that of the capture
+/// timestamps.
 fn add_words_list(
     text: &mut String,
     types: &[TypeShown],
     group: &'static str,
-    shift: u32,
+    shift: Shift,
 ) -> Result<(), OutOfMemory>
     ensures { IfOk result (λ _. string_bytes text.new ≡ string_bytes text.old ++ words_list types.now group.now shift) }
 {
@@ -121,7 +121,7 @@ fn add_flow_title(text: &mut String, media: &Media, flow: &MeasuredFlow) -> Resu
 }
 
 /// Adds the line that names the run that is shown, with the times of its packets.
-fn add_run_title(text: &mut String, shift: u32, shown: &ShownRun) -> Result<(), OutOfMemory>
+fn add_run_title(text: &mut String, shift: Shift, shown: &ShownRun) -> Result<(), OutOfMemory>
     ensures { IfOk result (λ _. string_bytes text.new ≡ string_bytes text.old
         ++ run_heading shown.now.run.run shown.now.run.«record»
         (file_time shift shown.now.first_at) (file_time shift shown.now.last_at)) }
@@ -136,7 +136,7 @@ fn add_types_told(
     text: &mut String,
     media: &Media,
     types: &[TypeShown],
-    shift: u32,
+    shift: Shift,
 ) -> Result<(), OutOfMemory>
     ensures { IfOk result (λ _. string_bytes text.new
         ≡ string_bytes text.old ++ words_list types.now (group_name media.now.interlaced) shift) }
@@ -157,7 +157,7 @@ fn add_steps(text: &mut String, media: &Media, shown: &ShownRun) -> Result<(), O
 fn add_shown(
     text: &mut String,
     alloc: Global,
-    shift: u32,
+    shift: Shift,
     media: &Media,
     flow: &MeasuredFlow,
     shown: &ShownRun,
@@ -179,7 +179,7 @@ fn add_shown(
 fn add_flow_part(
     text: &mut String,
     alloc: Global,
-    shift: u32,
+    shift: Shift,
     media: &Media,
     page: &FlowPage,
 ) -> Result<(), OutOfMemory>
@@ -195,7 +195,7 @@ fn add_flow_part(
 fn add_flow_parts(
     text: &mut String,
     alloc: Global,
-    shift: u32,
+    shift: Shift,
     session: &Session,
     flows: &[FlowPage],
 ) -> Result<(), OutOfMemory>
@@ -228,9 +228,9 @@ fn add_contents_part(text: &mut String, contents: &str) -> Result<(), OutOfMemor
     add_markup(text, "</pre></div>\n")
 }
 
-/// Returns the page of a capture. `name` is the name of the capture, `note` how it ends, and `tai` the number of
-/// seconds that were added to its timestamps. Each flow belongs to a media of the session, and `contents` is what
-/// `scan` prints for the capture. Returns `Err` if memory runs out.
+/// Returns the page of a capture. `name` is the name of the capture, `note` how it ends, and `shift` that of its
+/// timestamps, which the page shows as the capture has them. Each flow belongs to a media of the session, and
+/// `contents` is what `scan` prints for the capture. Returns `Err` if memory runs out.
 ///
 /// The page has no script and loads no other file. Numbers are drawn at the place of their value, rounded down to a
 /// tenth of an SVG unit. Characters of names that HTML would read as markup are escaped.
@@ -238,7 +238,7 @@ pub fn page_text(
     alloc: Global,
     name: &str,
     note: FileNote,
-    shift: u32,
+    shift: Shift,
     session: &Session,
     flows: &[FlowPage],
     contents: &str,

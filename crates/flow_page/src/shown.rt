@@ -57,11 +57,9 @@ pub struct Region {
 pub struct ShownRun {
     /// The run with its measurements.
     pub run: MeasuredRun,
-    /// The capture timestamp of its first judged packet, in nanoseconds, including the seconds that are added to get
-    /// TAI.
+    /// The capture timestamp of its first judged packet, in nanoseconds of TAI, after the shift of the flow.
     pub first_at: u64,
-    /// The capture timestamp of its last judged packet, in nanoseconds, including the seconds that are added to get
-    /// TAI.
+    /// The capture timestamp of its last judged packet, in nanoseconds of TAI, after the shift of the flow.
     pub last_at: u64,
     /// The columns over the run.
     pub curves: Curves,

@@ -5,6 +5,7 @@ ghost use Rattle.flow_page.specs.Times.{file_time};
 
 use crate::chart::{ns_name, scale_of_ns};
 use std::fmt;
+use timing_base::Shift;
 
 /// The last three digits of a number.
 #[derive(Clone, Copy)]
@@ -246,7 +247,7 @@ impl fmt::Display for SpanText {
 #[derive(Clone, Copy)]
 pub(crate) struct Epoch {
     /// Nanoseconds.
-    pub(crate) ns: u64,
+    pub(crate) ns: u128,
 }
 
 impl fmt::Display for Epoch {
@@ -258,13 +259,13 @@ impl fmt::Display for Epoch {
     #[tactic(auto, unfolding(crate::specs::Times::epoch_text))]
     fn fmt<W: fmt::Write>(&self, f: &mut fmt::Formatter<W>) -> fmt::Result {
         let milli = Three {
-            number: u128::from(self.ns / 1_000_000 % 1000),
+            number: self.ns / 1_000_000 % 1000,
         };
         let micro = Three {
-            number: u128::from(self.ns / 1000 % 1000),
+            number: self.ns / 1000 % 1000,
         };
         let nano = Three {
-            number: u128::from(self.ns % 1000),
+            number: self.ns % 1000,
         };
         write!(f, "{}.{milli}{micro}{nano}", self.ns / 1_000_000_000)
     }
@@ -291,9 +292,10 @@ impl fmt::Display for Thousandths {
     }
 }
 
-/// Returns a capture timestamp as the file has it, in nanoseconds: `stamp` less the `tai` seconds that were added.
-pub(crate) fn file_time(shift: u32, stamp: u64) -> u64
+/// Returns a capture timestamp as the file has it, in nanoseconds, from the one after the shift.
+pub(crate) fn file_time(shift: Shift, stamp: u64) -> u128
     ensures { result ≡ file_time shift stamp }
 {
-    stamp.saturating_sub(u64::from(shift) * 1_000_000_000)
+    let later = u128::from(stamp) + u128::from(shift.delay);
+    later.saturating_sub(u128::from(shift.tai) * 1_000_000_000)
 }

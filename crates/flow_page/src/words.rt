@@ -9,7 +9,7 @@ use crate::times::{Epoch, Minus, SpanText, file_time};
 use flow_measure::Place;
 use std::alloc::AllocError as OutOfMemory;
 use std::fmt;
-use timing_base::{FailProof, KindVerdict};
+use timing_base::{FailProof, KindVerdict, Shift};
 use timing_report::kind_name;
 
 /// Pass or fail, as a sign and a word.
@@ -156,7 +156,7 @@ impl fmt::Display for Late {
 #[derive(Clone, Copy)]
 struct Named {
     to: u64,
-    shift: u32,
+    shift: Shift,
     place: Option<Place>,
 }
 
@@ -211,7 +211,7 @@ struct Outcome {
     shown: TypeShown,
     /// "frame" or "field".
     group: &'static str,
-    shift: u32,
+    shift: Shift,
 }
 
 impl fmt::Display for Outcome {
@@ -297,7 +297,7 @@ impl fmt::Display for OverText {
 struct Breaks {
     shown: TypeShown,
     group: &'static str,
-    shift: u32,
+    shift: Shift,
     proof: FailProof,
 }
 
@@ -355,7 +355,7 @@ fn add_type_words(
     text: &mut String,
     shown: &TypeShown,
     group: &'static str,
-    shift: u32,
+    shift: Shift,
 ) -> Result<(), OutOfMemory>
     ensures { IfOk result (λ _. string_bytes text.new
         ≡ string_bytes text.old ++ type_words shown.now group.now shift) }
@@ -366,7 +366,11 @@ fn add_type_words(
     };
     let name = kind_name(shown.kind);
     let peaks = Peaks { shown };
-    let outcome = Outcome { shown, group, shift };
+    let outcome = Outcome {
+        shown,
+        group,
+        shift,
+    };
     writeln!(text, "<li>{sign} <b>{name}{peaks}{outcome}.</li>")
 }
 
@@ -375,7 +379,7 @@ pub(crate) fn add_words(
     text: &mut String,
     types: &[TypeShown],
     group: &'static str,
-    shift: u32,
+    shift: Shift,
 ) -> Result<(), OutOfMemory>
     ensures { IfOk result (λ _. string_bytes text.new
         ≡ string_bytes text.old ++ flat_map (λ t. type_words t group.now shift) types.now) }

@@ -1,8 +1,8 @@
 -- The rows of a judged run: each judged packet, or each judged frame or field, against the two models of SMPTE ST
 -- 2110-21 and the media clock of ST 2110-10. m is the video, n the packets per frame or field, and `number` that of the
 -- run. Runs and packet records count from 1, packets, frames and fields from 0. Capture timestamps are nanoseconds of
--- TAI, RTP timestamps ticks of 90 kHz, `tai` is in seconds, and levels are in packets. The choice of columns is this
--- project's own.
+-- TAI, after the shift of their flow, RTP timestamps ticks of 90 kHz, and levels are in packets. The choice of columns
+-- is this project's own.
 use Rattle.std.specs.Prelude.{◌≡◌, ◌+◌, ◌-◌, ◌*◌, ◌/◌, ◌%◌, ◌≤◌, ◌<◌, ◌==◌, ℕ, zero, suc, ℤ, pos, Bool, true, false}
 use Rattle.std.specs.Prelude.{List, [], ◌∷◌, ◌++◌, length, slice_index, Option, Some, None}
 use Rattle.timing_base.specs.Shifts.{Shift}
@@ -29,8 +29,8 @@ header_text true = group_header_text
 header_text false = packet_header_text
 
 -- the row of the judged packet after these
-pub record IsPacketRow (m : Media) (shift : Shift) (number n : ℕ) (before : List FlowPacket) (p : FlowPacket) (r : PacketRow)
-    : Type 0 where
+pub record IsPacketRow (m : Media) (shift : Shift) (number n : ℕ) (before : List FlowPacket) (p : FlowPacket)
+    (r : PacketRow) : Type 0 where
   pub run : r.run ≡ number
   pub packet : r.packet ≡ length before
   pub rec : r.rec ≡ p.rec
@@ -99,15 +99,16 @@ AddsGroup m shift number n packets true here =
 AddsGroup m shift number n packets false here = here ≡ []
 
 -- the text at the judged packet after these: its own row, or if frames are listed that of its frame or field
-abbrev pub Adds : (frames : Bool) → Media → (shift : Shift) (number n : ℕ) → (before : List FlowPacket) → FlowPacket → List ℕ
-    → Type 0
+abbrev pub Adds : (frames : Bool) → Media → (shift : Shift) (number n : ℕ) → (before : List FlowPacket) → FlowPacket
+    → List ℕ → Type 0
 Adds false m shift number n before p here =
     (r : PacketRow) × IsPacketRow m shift number n before p r × (here ≡ packet_row_text r)
 Adds true m shift number n before p here =
     AddsGroup m shift number n (before ++ p ∷ []) (ends_group n (length before)) here
 
 -- the rows of these judged packets of a run, after those before
-abbrev pub AreRows : (frames : Bool) → Media → (shift : Shift) (number n : ℕ) → (before packets : List FlowPacket) → List ℕ → Type 0
+abbrev pub AreRows : (frames : Bool) → Media → (shift : Shift) (number n : ℕ) → (before packets : List FlowPacket)
+    → List ℕ → Type 0
 AreRows frames m shift number n before [] text = text ≡ []
 AreRows frames m shift number n before (p ∷ packets) text =
     (here : List ℕ) × (rest : List ℕ) × (text ≡ here ++ rest) × Adds frames m shift number n before p here

@@ -1,4 +1,4 @@
--- The text of `Rows` for the judged runs of a flow. m is the video, `tai` is in seconds.
+-- The text of `Rows` for the judged runs of a flow. m is the video, `shift` that of the flow's capture timestamps.
 use Rattle.std.specs.Prelude.{◌≡◌, ℕ, Bool, List, [], ◌++◌, Option, Some, None}
 use Rattle.std.proofs.Common.{append-nil, refl, sym}
 use Rattle.timing_base.specs.Shifts.{Shift}
@@ -8,7 +8,8 @@ use Rattle.flow_measure.specs.rows.Rows.{AreRows, AreRowsOf}
 use Rattle.flow_measure.specs.declared.rows.rows.Rows.{Rows}
 
 -- the rows of the complete runs, and of the complete frames or fields of the current run
-abbrev pub AreRowsSoFar : (frames : Bool) → Media → (shift : Shift) → List JudgedPart → Option OpenPart → List ℕ → Type 0
+abbrev pub AreRowsSoFar : (frames : Bool) → Media → (shift : Shift) → List JudgedPart → Option OpenPart → List ℕ
+    → Type 0
 AreRowsSoFar frames m shift over None text = AreRowsOf frames m shift over text
 AreRowsSoFar frames m shift over (Some part) text =
     (past : List ℕ) × (here : List ℕ) × (text ≡ past ++ here) × AreRowsOf frames m shift over past

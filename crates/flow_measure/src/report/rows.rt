@@ -15,7 +15,7 @@ pub struct PacketRow {
     pub packet: u64,
     /// Its packet record, from 1.
     pub rec: u64,
-    /// Its capture timestamp in nanoseconds, including the seconds that are added to get TAI.
+    /// Its capture timestamp in nanoseconds of TAI, after the shift of its flow.
     pub stamp: u64,
     /// The number of its frame or field in the run, from 0.
     pub group: u64,
@@ -38,7 +38,7 @@ pub struct GroupRow {
     pub group: u64,
     /// The packet record of its first packet, from 1.
     pub rec: u64,
-    /// The capture timestamp of its first packet in nanoseconds, including the seconds that are added to get TAI.
+    /// The capture timestamp of its first packet in nanoseconds of TAI, after the shift of its flow.
     pub stamp: u64,
     /// Nanoseconds from the instant at which it begins to its first packet.
     pub first: i128,

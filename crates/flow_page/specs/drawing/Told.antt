@@ -1,5 +1,5 @@
 -- The drawing of the longest of the judged runs of a flow that are complete. Runs count from 1, packets from 0. Capture
--- timestamps are nanoseconds of TAI, with `tai` seconds added. The choice of the run is this project's own.
+-- timestamps are nanoseconds of TAI, after the shift of the flow. The choice of the run is this project's own.
 use Rattle.std.specs.Prelude.{◌≡◌, ◌-◌, ◌≤◌, ◌<◌, ℕ, All, List, [], ◌∷◌, ◌++◌, length, slice_index, Option, Some, None}
 use Rattle.timing_base.specs.Shifts.{Shift}
 use Rattle.timing_base.specs.Media.{Media}

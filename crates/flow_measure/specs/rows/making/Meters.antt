@@ -1,5 +1,5 @@
 -- The state of a `RowsMeter` after the packets of a run, and the text for the packets that it kept. m is the video, n
--- the packets per frame or field, and `tai` is in seconds.
+-- the packets per frame or field, and `shift` that of the capture timestamps.
 use Rattle.std.specs.Prelude.{◌≡◌, ℕ, ⊤, Bool, List, [], ◌∷◌, ◌++◌}
 use Rattle.timing_base.specs.Shifts.{Shift}
 use Rattle.timing_base.specs.Media.{Media}

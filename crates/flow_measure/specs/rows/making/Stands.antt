@@ -1,5 +1,5 @@
 -- The state of a `RowMaker` after the judged packets of a run that it was fed. m is the video, n the packets per frame
--- or field, `run` the number of the run, and `tai` is in seconds.
+-- or field, `run` the number of the run, and `shift` that of the capture timestamps.
 use Rattle.std.specs.Prelude.{◌≡◌, ◌<◌, ◌≤◌, ◌*◌, ◌^◌, ℕ, zero, suc, ℤ, pos, true, false, List, [], ◌∷◌, ◌++◌}
 use Rattle.std.specs.Prelude.{length, slice_index, Option, Some, None}
 use Rattle.timing_base.specs.Shifts.{Shift}
@@ -20,7 +20,8 @@ use Rattle.flow_measure.specs.declared.rows.maker.Kept.{Kept}
 use Rattle.flow_measure.specs.declared.rows.maker.RowMaker.{RowMaker}
 
 -- the kept values of the packet after these
-pub record IsKept (m : Media) (shift : Shift) (n : ℕ) (before : List FlowPacket) (p : FlowPacket) (kept : Kept) : Type 0 where
+pub record IsKept (m : Media) (shift : Shift) (n : ℕ) (before : List FlowPacket) (p : FlowPacket) (kept : Kept)
+    : Type 0 where
   pub packet_is : kept.packet ≡ told_of shift p
   pub few : length before < 2 ^ 41
   pub rising : NeverFall (stamps_of shift (before ++ p ∷ []))
