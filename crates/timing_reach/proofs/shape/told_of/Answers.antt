@@ -21,7 +21,7 @@ returns-in-Judged-clause-answers c =
     if-ok c.shape_kept.result
     (λ answer shape list items h.
     let run = run-kept m options list items c.args.kept c.in-Judged.judged c.in-Judged.is h in
-    subst (λ v. OnRun m (HasShape list options c.args.kind m items) v answer) (sym run.1) (shape list items run.0 run.2 h.packets))
+    subst (λ v. OnRun m (HasShape list options.shift c.args.kind m items) v answer) (sym run.1) (shape list items run.0 run.2 h.packets))
     c.shape_kept.ensures.shape
 
 pub returns : goal.returns
@@ -31,7 +31,7 @@ returns c =
     record {
       ends = if-ok c.not_judged.result (λ answer is. subst (λ (a : Answer). judged_ends false a.status ≡ true) (sym is) refl) c.not_judged.ensures;
       answers = if-ok c.not_judged.result
-          (λ answer is list items h. not-run m (HasShape list options c.args.kind m items) (judged (flow items m) m.pt options) answer
+          (λ answer is list items h. not-run m (HasShape list options.shift c.args.kind m items) (judged (flow items m) m.pt options) answer
           (λ j s. c.in_default.not-Judged j (h.verdict_is ∙ s)) (is ∙ ap (not_judged m) h.verdict_is))
           c.not_judged.ensures;
     }

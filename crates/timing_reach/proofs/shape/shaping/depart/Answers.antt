@@ -42,13 +42,13 @@ loop-preserved c =
     let low : c.loop.counter < c.args.count = search rules in
     record {
       few = omega (arith, c.leave.ensures.count, c.loop.invariant.few);
-      stamp = omega (arith, c.in_ok-departure.ensures.in_time, c.saturating_sub-left.ensures, c.leave.ensures.added);
-      can = skip-on c.loop.walk c.restamp.new.self c.pass.new.self c.saturating_sub-left.result c.args.count c.loop.counter low c.loop.invariant.can
+      stamp = c.captured-left.ensures.stamp;
+      can = skip-on c.loop.walk c.restamp.new.self c.pass.new.self c.captured-left.result c.args.count c.loop.counter low c.loop.invariant.can
           c.restamp.ensures.restamps c.pass.ensures.passes;
       departs = λ w head records stamps given before few are fit.
-          left-next w c.loop.leaver c.leave.new.self c.loop.walk c.restamp.new.self c.pass.new.self c.loop.left c.stamp.result c.saturating_sub-left.result
+          left-next w c.loop.leaver c.leave.new.self c.loop.walk c.restamp.new.self c.pass.new.self c.loop.left c.stamp.result c.captured-left.result
           head records stamps c.args.count c.loop.counter c.in_ok-departure.departure low few are fit c.stamp.ensures c.in_ok-departure.ensures.leaves
-          c.leave.ensures.added c.saturating_sub-left.ensures c.restamp.ensures.restamps c.pass.ensures.passes
+          c.leave.ensures.shift c.captured-left.ensures.is c.restamp.ensures.restamps c.pass.ensures.passes
           (c.loop.invariant.departs w head records stamps given before few are fit);
     }
 
