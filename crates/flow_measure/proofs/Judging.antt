@@ -1,6 +1,6 @@
 -- The numbers of a run that is judged, packet by packet, and of one that is over.
-use Rattle.std.proofs.Common.{◌≡◌, ◌<◌, ◌≤◌, ◌+◌, ◌*◌, ◌^◌, ◌++◌, ◌∷◌, [], ℕ, Bool, List, length, map, Option, Some, None, MatchOption, refl, ap, ◌∙◌, sym}
-use Rattle.std.proofs.Common.{subst, arith}
+use Rattle.std.proofs.Common.{◌≡◌, ◌*◌, ◌++◌, ◌∷◌, [], ℕ, Bool, List, length, map, Option, MatchOption, ◌∙◌, sym}
+use Rattle.std.proofs.Common.{subst}
 use Rattle.std.proofs.lemmas.List.{length-map, map-append}
 use Rattle.timing_base.specs.Shifts.{Shift}
 use Rattle.sender_params.specs.Ticks.{NeverFall}
@@ -8,14 +8,12 @@ use Rattle.timing_base.specs.Flows.{read_or_zeros}
 use Rattle.timing_base.specs.Judged.{stamp_of}
 use Rattle.timing_base.specs.Media.{Media}
 use Rattle.timing_base.specs.Verdicts.{Judged}
-use Rattle.timing_base.specs.declared.media.Kind.TheVariants.{N, NL, W}
 use Rattle.timing_base.specs.declared.packet.FlowPacket.{FlowPacket}
 use Rattle.timing_base.specs.declared.row.KindVerdict.{KindVerdict}
 use Rattle.timing_base.specs.declared.row.KindVerdict.TheVariants.{Fail, Pass}
 use Rattle.run_meter.specs.Levels.{IsLevel}
 use Rattle.run_meter.specs.Runs.{IsJudgedOf, JudgedPart, NameFirst, NamesFirst, RunOf, part_of, stamps_of, told_of}
 use Rattle.run_meter.specs.declared.level.Level.{Level}
-use Rattle.run_meter.specs.declared.run.RunHead.{RunHead}
 use Rattle.run_meter.specs.declared.run.RunPacket.{RunPacket}
 use Rattle.flow_measure.specs.First.{IsFirst}
 use Rattle.flow_measure.specs.Measured.{AreMeasured, HasNumbers, IsMeasuredRun, named_by}

@@ -2,6 +2,7 @@
 
 ghost use Rattle.std.specs.Prelude.{◌≡◌, ◌+◌, ◌*◌, [], true, false, None, Some};
 ghost use Rattle.timing_base.specs.Examples.{sent};
+ghost use Rattle.timing_base.specs.Shifts.{no_shift};
 ghost use Rattle.sender_params.specs.Worked.{hd_50};
 ghost use Rattle.flow_measure.specs.report.Examples.{plain_packet};
 ghost use Rattle.flow_measure.specs.rows.Rows.{IsPacketRow, ends_group, step_before, step_from};
@@ -9,7 +10,7 @@ ghost use Rattle.flow_measure.specs.rows.Rows.{IsPacketRow, ends_group, step_bef
 /// A row of 1080p at 50 frames per second with 20 packets per frame. The first packet arrives 764,000 ns after the
 /// frame begins. The bucket then holds 1 packet. No read is due yet, gapped or linear, so the buffer holds 1 packet.
 pub fn first_of_a_run()
-    ensures row { IsPacketRow hd_50 0 1 20 [] (sent 2 1600000000000764000 1 1800 false) plain_packet }
+    ensures row { IsPacketRow hd_50 no_shift 1 20 [] (sent 2 1600000000000764000 1 1800 false) plain_packet }
 {}
 
 /// The last packet of a frame and the steps of RTP timestamps. Of 20 packets per frame, the packet after 19 ends the

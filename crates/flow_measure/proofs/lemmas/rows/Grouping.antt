@@ -19,7 +19,6 @@ use Rattle.timing_base.specs.Media.{Media}
 use Rattle.timing_base.specs.declared.packet.FlowPacket.{FlowPacket}
 use Rattle.vrx_buffer.specs.Occupancy.{IsOccupancy}
 use Rattle.run_meter.specs.Runs.{stamps_of}
-use Rattle.run_meter.specs.declared.level.Level.{Level}
 use Rattle.run_meter.specs.declared.run.RunPacket.{RunPacket}
 use Rattle.flow_measure.specs.Frames.{after_start, timestamp_latency, timestamp_offset, timestamp_step}
 use Rattle.flow_measure.specs.Groups.{firsts_of}

@@ -1,13 +1,13 @@
 -- The row of a packet or of a group is put behind a text.
 use Rattle.std.proofs.Common.{◌≡◌, ◌≤◌, ◌<◌, ◌^◌, ◌++◌, ◌∷◌, [], ℕ, Bool, true, false, List, length, refl, sym, ap, ◌∙◌, subst, arith}
-use Rattle.std.proofs.Common.{◌+◌, drop, get_or, append_assoc, append-nil, Option, Some, None}
+use Rattle.std.proofs.Common.{◌+◌, drop, get_or, append_assoc, append-nil, Some, None}
 use Rattle.std.specs.Prelude.{IfOk, Result, Ok, Err, if◌then◌else◌, is_ok}
 use Rattle.std.proofs.lemmas.List.{at_drop_all, drop_more}
 use Rattle.timing_base.specs.Shifts.{Shift}
 use Rattle.timing_base.specs.Media.{Media}
 use Rattle.timing_base.specs.Verdicts.{Judged}
 use Rattle.timing_base.specs.declared.packet.FlowPacket.{FlowPacket}
-use Rattle.run_meter.specs.Runs.{JudgedPart, OpenPart, RunOf, part_of}
+use Rattle.run_meter.specs.Runs.{JudgedPart, RunOf, part_of}
 use Rattle.flow_measure.specs.report.Rows.{group_row_text, packet_row_text}
 use Rattle.flow_measure.specs.declared.report.rows.GroupRow.{GroupRow}
 use Rattle.flow_measure.specs.declared.report.rows.PacketRow.{PacketRow}

@@ -1,6 +1,6 @@
-use Rattle.std.proofs.Common.{◌≡◌, ◌++◌, ◌∷◌, [], Some, None, refl, sym, subst, arith}
+use Rattle.std.proofs.Common.{◌++◌, ◌∷◌, [], Some, None, refl, sym, subst, arith}
 use Rattle.run_meter.specs.Runs.{part_of}
-use Rattle.flow_measure.specs.Measured.{AreMeasured, HasNumbers, IsMeasuredRun}
+use Rattle.flow_measure.specs.Measured.{AreMeasured, HasNumbers}
 use Rattle.flow_measure.proofs.Judging.{Finishes, finished, measured-more}
 use Rattle.flow_measure.proofs.numbers_meter.NumbersMeterRunMeter.close.Goals as goal
 

@@ -1,8 +1,4 @@
-use Rattle.std.proofs.Common.{length, sym, subst, ◌++◌, ◌∷◌, []}
-use Rattle.run_meter.specs.Levels.{IsLevel}
-use Rattle.run_meter.specs.Runs.{stamps_of}
-use Rattle.flow_measure.specs.Metered.{Measures}
-use Rattle.flow_measure.specs.Packets.{records_of, timestamps_of}
+use Rattle.std.proofs.Common.{sym, subst}
 use Rattle.flow_measure.proofs.Judging.{TakesPacket, fed-packet}
 use Rattle.flow_measure.proofs.numbers_meter.NumbersMeterRunMeter.feed.Goals as goal
 

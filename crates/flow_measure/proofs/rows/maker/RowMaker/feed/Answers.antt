@@ -1,4 +1,4 @@
-use Rattle.std.proofs.Common.{◌≡◌, ◌+◌, ◌∙◌, FitsSigned, ap, refl, rules, arith}
+use Rattle.std.proofs.Common.{◌≡◌, ◌∙◌, FitsSigned, ap, refl, rules, arith}
 use Rattle.std.proofs.lemmas.Int.{to_z-of_z}
 use Rattle.std.specs.Int.{w128}
 use Rattle.run_meter.specs.declared.run.RunPacket.{RunPacket}

@@ -1,6 +1,5 @@
-use Rattle.std.proofs.Common.{[], ◌++◌, append-nil, sym, subst}
+use Rattle.std.proofs.Common.{[], append-nil, sym, subst}
 use Rattle.std.specs.Prelude.{Some}
-use Rattle.run_meter.specs.Runs.{OpenPart}
 use Rattle.flow_measure.specs.rows.Told.{Tells}
 use Rattle.flow_measure.specs.rows.making.Stands.{StandsFor}
 use Rattle.flow_measure.proofs.lemmas.rows.Rowing.{kept-none, puts-same, told-more}
