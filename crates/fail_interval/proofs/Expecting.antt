@@ -107,7 +107,7 @@ expected-none (Refused rec fault) not = refl
 expected-none Spent not = refl
 
 -- the packet that goes on in a flow without one
-pub expected-going : {M : Type 0} (state : State M) (flow : Flow M) (expected : Option Rtp) → state ≡ Going flow → expected ≡ flow_expects flow → expected ≡ state_expects state
+expected-going : {M : Type 0} (state : State M) (flow : Flow M) (expected : Option Rtp) → state ≡ Going flow → expected ≡ flow_expects flow → expected ≡ state_expects state
 expected-going state flow expected e is = is ∙ sym (ap state_expects e)
 
 -- after it the next one
@@ -126,3 +126,19 @@ own-after counting (Some p) = ap (λ n. Some (with_number n p)) (after-number p.
 pub own-next : {M : Type 0} (at : ℕ) (counting : Counting) (old new : State M) → GoesAsExpected old new at
     → option_map (own_of counting) (state_expects new) ≡ after (option_map (own_of counting) (state_expects old))
 own-next at counting old new went = ap (option_map (own_of counting)) (expected-next at old new went) ∙ own-after counting (state_expects old)
+
+-- what a judge returns of a flow that goes on
+pub some-expected : {M : Type 0} (judge : FlowJudge M) (flow : Flow M) (expected : Option Rtp) (p own : Rtp)
+    → judge.state ≡ Going flow → expected ≡ flow_expects flow → expected ≡ Some p → own ≡ own_of judge.counting p
+    → Some own ≡ expected_of judge
+some-expected judge flow expected p own e is some own_is =
+    ap (λ (r : Rtp). Some r) own_is ∙ ap (option_map (own_of judge.counting)) (sym some ∙ expected-going judge.state flow expected e is)
+
+pub none-expected : {M : Type 0} (judge : FlowJudge M) (flow : Flow M) (expected : Option Rtp)
+    → judge.state ≡ Going flow → expected ≡ flow_expects flow → expected ≡ None
+    → None ≡ expected_of judge
+none-expected judge flow expected e is none = ap (option_map (own_of judge.counting)) (sym none ∙ expected-going judge.state flow expected e is)
+
+-- and of one that doesn't
+pub nothing-expected : {M : Type 0} (judge : FlowJudge M) → ((flow : Flow M) → judge.state ≡ Going flow → ⊥) → None ≡ expected_of judge
+nothing-expected judge not = ap (option_map (own_of judge.counting)) (expected-none judge.state not)

@@ -1,7 +1,7 @@
 -- The output of the meters of a judge's runs tells of the packets that the state of the judge was fed.
 use Rattle.std.proofs.Common.{◌≡◌, ◌<◌, ◌+◌, ◌^◌, ℕ, zero, suc, List, [], ◌∷◌, ◌++◌, length, Option, Some, None, Result, Ok, Err, refl, arith, ◌∙◌}
 use Rattle.std.proofs.Common.{sym, subst}
-use Rattle.std.specs.Prelude.{IsErr, IsOk, OnOk}
+use Rattle.std.specs.Prelude.{IsErr, OnOk}
 use Rattle.std.proofs.lemmas.List.{append-nil}
 use Rattle.timing_base.specs.Shifts.{FlowOptions, Shift}
 use Rattle.timing_base.specs.Numbered.{numbered}
@@ -14,7 +14,7 @@ use Rattle.timing_base.specs.declared.packet.PacketFault.{PacketFault}
 use Rattle.timing_base.specs.declared.row.Run.{Run}
 use Rattle.timing_base.proofs.FirstFaults.{fault-kept}
 use Rattle.run_meter.specs.Runs.{JudgedPart, OpenPart}
-use Rattle.fail_interval.specs.Flowing.{CanGoOn, EndsBy, OpensAt, StandsFor as FlowStandsFor, has_fault}
+use Rattle.fail_interval.specs.Flowing.{EndsBy, OpensAt, StandsFor as FlowStandsFor, has_fault}
 use Rattle.fail_interval.specs.Goings.{GoesBy, Refuses}
 use Rattle.fail_interval.specs.Measured.{JudgeTells, StateTells, StateTellsTaken, TellsEnd, TellsSoFar}
 use Rattle.fail_interval.specs.Metered.{Standing, Telling}

@@ -1,11 +1,12 @@
 -- A judge is fed one packet, by its judged number.
-use Rattle.std.proofs.Common.{◌≡◌, ◌<◌, ◌+◌, ◌-◌, ◌%◌, ◌^◌, ℕ, Bool, true, false, List, [], ◌∷◌, ◌++◌, length, length-append, Option, Some, None, Ok, Err, Result}
+use Rattle.std.proofs.Common.{◌≡◌, ◌<◌, ◌+◌, ◌^◌, ℕ, Bool, true, false, List, [], ◌∷◌, ◌++◌, length, length-append, Option, Some, None, Ok, Err, Result}
 use Rattle.std.proofs.Common.{refl, arith, ap, ◌∙◌, sym, subst}
-use Rattle.std.specs.Prelude.{IsErr, IsOk, OnErr, OnOk}
+use Rattle.std.specs.Prelude.{OnOk}
+use Rattle.std.proofs.lemmas.List.Elements.{All-nil}
 use Rattle.timing_base.specs.Captures.{IsStamp}
-use Rattle.timing_base.specs.Flows.{first_fault, first_fault_below, rtp}
+use Rattle.timing_base.specs.Flows.{first_fault, rtp}
 use Rattle.timing_base.specs.Media.{Media}
-use Rattle.timing_base.specs.Numbered.{counted, last_counted, numbered}
+use Rattle.timing_base.specs.Numbered.{counted, numbered}
 use Rattle.timing_base.specs.Shifts.{FlowOptions, Shift}
 use Rattle.timing_base.specs.declared.key.FlowKey.{FlowKey}
 use Rattle.timing_base.specs.declared.packet.FlowPacket.{FlowPacket}
@@ -15,12 +16,13 @@ use Rattle.timing_base.specs.declared.row.Row.{Row}
 use Rattle.timing_base.specs.declared.row.Verdict.{Verdict}
 use Rattle.timing_base.proofs.FirstFaults.{fault-kept, no_fault-at}
 use Rattle.timing_base.proofs.Numberings.{length-numbered, stamped-numbered}
-use Rattle.frame_group.specs.Expected.{after, expected_by_options, going_on, next_packet, raise_after, with_number}
+use Rattle.frame_group.specs.Expected.{after, expected_by_options, going_on, next_packet, raise_after, raise_of, with_number}
 use Rattle.fail_interval.specs.Counting.{Counts}
+use Rattle.fail_interval.specs.Flowing.{StandsFor as FlowStandsFor}
 use Rattle.fail_interval.specs.Goings.{CountsOn, GoesAsExpected, StateTakes}
-use Rattle.fail_interval.specs.Measured.{JudgeTells, StateTells, StateTellsTaken, TellsGoingOn, TellsSoFar, TellsTaken}
+use Rattle.fail_interval.specs.Measured.{JudgeTells, StateTells, StateTellsTaken, TellsGoingOn, TellsSoFar}
 use Rattle.fail_interval.specs.Metered.{Standing, Telling}
-use Rattle.fail_interval.specs.Row.{row, verdict_of}
+use Rattle.fail_interval.specs.Row.{row}
 use Rattle.fail_interval.specs.Stands.{StandsFor, Takes, TakesExpected}
 use Rattle.fail_interval.specs.States.{IsAt, IsKnown, IsRefused, StandsFor as StateStandsFor}
 use Rattle.fail_interval.specs.Taken.{IsExpected}
@@ -34,7 +36,7 @@ use Rattle.fail_interval.proofs.Feeding.{stamped-more, unread-fault}
 use Rattle.fail_interval.proofs.Flows.{packet-here}
 use Rattle.fail_interval.proofs.JudgeTold.{ended-tells, on_ok, same-tells, so_far-tells}
 use Rattle.fail_interval.proofs.Judging.{at-flow, refused-more, stands-expected, took-expected}
-use Rattle.fail_interval.proofs.Numbered.{judged_next, last-counted, last-push, numbered-going, numbered-next, raise-going, raise-none, raise-plain, raise-push}
+use Rattle.fail_interval.proofs.Numbered.{judged_next, last-counted, last-push, numbered-going, numbered-next, numbered-none, raise-going, raise-none, raise-plain, raise-push}
 use Rattle.fail_interval.proofs.Rows.{no_fault}
 
 -- a packet as it was fed
@@ -57,7 +59,19 @@ as-state m key options judge packets s = record {
 
 -- before the first packet
 pub counts-none : (pt : ℕ) (seq16 : Bool) (counting : Counting) → counting.seq16 ≡ seq16 → counting.raise ≡ 0 → Counts pt seq16 [] counting
-counts-none pt seq16 counting is none = record { seq16_is = is; raise_is = λ _. none ∙ sym (raise-none seq16); few = omega arith }
+counts-none pt seq16 counting is none = record { seq16_is = is; raise_is = λ _. none ∙ sym (raise-none seq16); few = λ _. omega arith }
+
+pub stands-none : {M : Type 0} (m : Media) (key : FlowKey) (options : FlowOptions) (counting : Counting) (flow : Flow M) (known : ∥ IsKnown 0 (Going flow) ∥₁)
+    → counting.seq16 ≡ options.seq16 → counting.raise ≡ 0
+    → flow.media ≡ m → flow.shift ≡ options.shift → FlowStandsFor flow []
+    → StandsFor m key options (judge_by key 0 counting (Going flow) known) []
+stands-none m key options counting flow known is none media shift stands = record {
+  key_is = refl;
+  fed = refl;
+  counts = counts-none m.pt options.seq16 counting is none;
+  stamped = All-nil (λ (p : FlowPacket). IsStamp p.at);
+  state = subst (λ (l : List FlowPacket). IsAt m options.shift l (Going flow)) (sym (numbered-none options.seq16)) (media, shift, stands);
+}
 
 -- a flow that goes on has no fault
 going-sound : {M : Type 0} (m : Media) (shift : Shift) (packets : List FlowPacket) (state : State M) (flow : Flow M) → state ≡ Going flow
@@ -129,7 +143,7 @@ read-goes judge counting rec at p q c =
             (subst (λ (l : List FlowPacket). first_fault l m.pt ≡ None) (numbered-next options.seq16 packets next) none) in
             raise-case options.seq16 packets judge.counting counting rec at p q (λ e. (c.plain (s.counts.seq16_is ∙ e)).1) (λ e. c.raise (s.counts.seq16_is ∙ e))
             (s.counts.raise_is sound) (goes m key options packets s sound);
-        few = omega (arith, last-push packets next, c.few);
+        few = λ e. omega (arith, last-push packets next, c.few (s.counts.seq16_is ∙ e));
       };
     }
 
@@ -160,7 +174,7 @@ unread-goes judge rec at fault = record {
     raise_is = λ none.
         absurd (unread-sound (numbered options.seq16 packets) m.pt rec at fault
         (subst (λ (l : List FlowPacket). first_fault l m.pt ≡ None) (unread-numbered options.seq16 packets rec at fault) none));
-    few = omega (arith, last-push packets (fed_packet rec at (Err fault)));
+    few = λ _. omega (arith, last-push packets (fed_packet rec at (Err fault)));
   };
 }
 
@@ -251,12 +265,14 @@ tells-case stands tells past m key options result judge Spent counting state pac
 
 -- and the output of its meters tells of it
 pub tells-more : {M Out T E : Type 0} {Past : Type 0} (stands : Standing M) (tells : Telling Past Out) (result : Result T E) (judge : FlowJudge M) (counting : Counting)
-    (state : State M) (known : ∥ IsKnown (judge.fed + 1) state ∥₁) (p q : FlowPacket) (before after : Out)
+    (state : State M) (p q : FlowPacket) (before after : Out)
     → NumbersGoOn judge counting p q
     → StateTakes judge.fed judge.state state q result
     → StateTellsTaken stands tells judge.fed judge.state state before after q result
-    → TellsTaken stands tells judge (judge_by judge.key (judge.fed + 1) counting state known) before after p result
-tells-more stands tells result judge counting state known p q before after goes takes told = λ past m key options packets s t.
+    → (past : Past) (m : Media) (key : FlowKey) (options : FlowOptions) (packets : List FlowPacket) → StandsFor m key options judge packets
+    → JudgeTells stands tells past m options packets judge before
+    → OnOk result (StateTells stands tells past m options.shift (numbered options.seq16 (packets ++ p ∷ [])) state after)
+tells-more stands tells result judge counting state p q before after goes takes told past m key options packets s t =
     tells-case stands tells past m key options result judge judge.state counting state packets p q before after refl goes takes told s t
 
 -- the packet that the judge took is the one expected
@@ -283,7 +299,7 @@ judge-more m key options rec at judge new known packets went few stamp s =
     record {
       seq16_is = s.counts.seq16_is;
       raise_is = λ _. s.counts.raise_is sound ∙ sym (raise-going options.seq16 packets m.pt rec at some sound s.counts.few);
-      few = omega (arith, last-push packets (next_packet packets m.pt rec at));
+      few = λ _. omega (arith, last-push packets (next_packet packets m.pt rec at));
     }
     (subst (λ (l : List FlowPacket). IsAt m options.shift l new) (sym goes)
     (stands-expected m options.shift judge.fed rec at judge.state new all went few stamp inner))

@@ -1,10 +1,11 @@
 -- The state of a judge is fed one packet, and gives the verdict.
-use Rattle.std.proofs.Common.{◌≡◌, ◌<◌, ◌+◌, ◌^◌, ℕ, List, [], ◌∷◌, ◌++◌, length, length-append, Some, Ok, Err, Result, arith, ap, ◌∙◌, refl, sym, subst}
-use Rattle.std.specs.Prelude.{IsErr, IsOk, OnErr, OnOk}
+use Rattle.std.proofs.Common.{◌≡◌, ◌<◌, ◌+◌, ◌^◌, ℕ, List, [], ◌∷◌, ◌++◌, length, length-append, None, Some, Ok, Err, Result, arith, ap, ◌∙◌, refl, sym, subst}
+use Rattle.std.specs.Prelude.{IsErr, IsOk}
 use Rattle.std.proofs.Math.Logic.{∥∥₁_map}
+use Rattle.std.proofs.lemmas.List.{append-nil}
 use Rattle.timing_base.specs.Shifts.{Shift}
 use Rattle.timing_base.specs.Captures.{IsStamp}
-use Rattle.timing_base.specs.Flows.{first_fault_below, packet}
+use Rattle.timing_base.specs.Flows.{first_fault, first_fault_below, packet}
 use Rattle.timing_base.specs.Judged.{judged_as_numbered, refusal}
 use Rattle.timing_base.specs.Media.{Media}
 use Rattle.timing_base.specs.declared.packet.FlowPacket.{FlowPacket}
@@ -270,3 +271,15 @@ pub verdict-refused : {M : Type 0} (m : Media) (shift : Shift) (rec : ℕ) (faul
 verdict-refused m shift rec fault state verdict packets e says s =
     let at : IsRefused m packets rec fault = subst (IsAt m shift packets) e s in
     says m ∙ sym (ap (verdict_of m) (refused-verdict m shift packets rec fault at))
+
+-- a flow that doesn't go on has a fault
+pub not-sound : {M : Type 0} (m : Media) (shift : Shift) (packets : List FlowPacket) (state : State M) → ((flow : Flow M) → state ≡ Going flow → ⊥)
+    → IsAt m shift packets state
+    → first_fault packets m.pt ≡ None → ⊥
+not-sound m shift packets (Going flow) not is none = not flow refl
+not-sound m shift packets (Refused rec fault) not is none =
+    let first : first_fault packets m.pt ≡ Some (record { index = is.index; fault = fault }) =
+    subst (λ (all : List FlowPacket). first_fault_below all m.pt (length packets) ≡ Some (record { index = is.index; fault = fault })) (append-nil packets)
+    (is.first []) in
+    cc
+not-sound m shift packets Spent not is none = is

@@ -1,6 +1,6 @@
 -- The judged numbers of a flow's packets, one packet on.
 use Rattle.std.proofs.Common.{◌≡◌, ◌<◌, ◌+◌, ◌-◌, ◌%◌, ◌^◌, ℕ, zero, suc, Bool, true, false, List, [], ◌∷◌, ◌++◌, length, length-append, Option, Some, None}
-use Rattle.std.proofs.Common.{Result, Ok, Err, refl, arith, ap, ◌∙◌, sym, subst}
+use Rattle.std.proofs.Common.{Result, Ok, Err, refl, arith, ap, ◌∙◌, sym}
 use Rattle.std.specs.Prelude.{◌==◌, if◌then◌else◌, IsOk}
 use Rattle.std.proofs.lemmas.Bool.Decides.{nat_tests}
 use Rattle.timing_base.specs.Flows.{first_fault, first_fault_below, first_of, next_number, packet, read_or_zeros, reading_fault, rtp}
@@ -54,10 +54,6 @@ few-from : (before : Option ℕ) (packets : List FlowPacket) (i : ℕ) → (rtp 
 few-from before [] i = omega arith
 few-from before (p ∷ ps) zero = few-case before p.rtp
 few-from before (p ∷ ps) (suc i) = few-from (number_after before (counted_rtp before p.rtp)) ps i
-
-numbered-few : (seq16 : Bool) (packets : List FlowPacket) (i : ℕ) → (rtp packets i).number < 2 ^ 32 → (rtp (numbered seq16 packets) i).number < 2 ^ 32
-numbered-few false packets i few = few
-numbered-few true packets i few = few-from None packets i
 
 -- a packet without a fault was read
 first-none : (a b : Option PacketFault) → first_of a b ≡ None → a ≡ None
@@ -175,25 +171,34 @@ lowered n own few less = omega (arith, few, less)
 raised : (n own : ℕ) → n < 2 ^ 32 → own < 2 ^ 32 → raise_of (next_number n) (next_number own) ≡ raise_of n own
 raised n own few less = omega (arith, few, less)
 
+lowered-plain : (own : ℕ) → (next_number own + 2 ^ 32 - raise_of own own) % 2 ^ 32 ≡ next_number own
+lowered-plain own = omega arith
+
 -- the number of the packet that goes on, as it stands in the bytes
-pub lowered-going : (seq16 : Bool) (packets : List FlowPacket) → (rtp packets (length packets - 1)).number < 2 ^ 32
+pub lowered-going : (seq16 : Bool) (packets : List FlowPacket) → (seq16 ≡ true → (rtp packets (length packets - 1)).number < 2 ^ 32)
     → (next_number (rtp (numbered seq16 packets) (length packets - 1)).number + 2 ^ 32 - raise_after seq16 packets) % 2 ^ 32
     ≡ next_number (rtp packets (length packets - 1)).number
-lowered-going seq16 packets few = lowered _ _ (numbered-few seq16 packets (length packets - 1) few) few
-
--- the raise stays
-pub raise-going : (seq16 : Bool) (packets : List FlowPacket) (pt rec at : ℕ) → 0 < length packets → first_fault (numbered seq16 packets) pt ≡ None
-    → (rtp packets (length packets - 1)).number < 2 ^ 32
-    → raise_after seq16 (packets ++ next_packet packets pt rec at ∷ []) ≡ raise_after seq16 packets
-raise-going seq16 packets pt rec at some none few =
-    raise-push seq16 packets (next_packet packets pt rec at) (next_packet (numbered seq16 packets) pt rec at)
-    (numbered-going seq16 packets pt rec at some none)
-    ∙ (ap (λ (r : Rtp). raise_of r.number (next_number (rtp packets (length packets - 1)).number)) (going-alike seq16 packets pt)
-    ∙ raised _ _ (numbered-few seq16 packets (length packets - 1) few) few)
+lowered-going false packets few = lowered-plain (rtp packets (length packets - 1)).number
+lowered-going true packets few = lowered _ _ (few-from None packets (length packets - 1)) (few refl)
 
 -- numbers that aren't counted aren't raised
 pub raise-plain : (packets : List FlowPacket) → raise_after false packets ≡ 0
 raise-plain packets = omega arith
+
+-- the raise stays
+pub raise-going : (seq16 : Bool) (packets : List FlowPacket) (pt rec at : ℕ) → 0 < length packets → first_fault (numbered seq16 packets) pt ≡ None
+    → (seq16 ≡ true → (rtp packets (length packets - 1)).number < 2 ^ 32)
+    → raise_after seq16 (packets ++ next_packet packets pt rec at ∷ []) ≡ raise_after seq16 packets
+raise-going false packets pt rec at some none few = raise-plain (packets ++ next_packet packets pt rec at ∷ []) ∙ sym (raise-plain packets)
+raise-going true packets pt rec at some none few =
+    raise-push true packets (next_packet packets pt rec at) (next_packet (numbered true packets) pt rec at)
+    (numbered-going true packets pt rec at some none)
+    ∙ (ap (λ (r : Rtp). raise_of r.number (next_number (rtp packets (length packets - 1)).number)) (going-alike true packets pt)
+    ∙ raised _ _ (few-from None packets (length packets - 1)) (few refl))
+
+pub numbered-none : (seq16 : Bool) → numbered seq16 [] ≡ []
+numbered-none false = refl
+numbered-none true = refl
 
 -- nor that before the first packet
 pub raise-none : (seq16 : Bool) → raise_after seq16 [] ≡ 0

@@ -1,5 +1,5 @@
 -- The numbers by which a judge takes its packets: those in their bytes, or counted ones (`--seq16`).
-use Rattle.std.specs.Prelude.{◌≡◌, ◌<◌, ◌+◌, ◌-◌, ◌%◌, ◌^◌, ℕ, Bool, List, length, None}
+use Rattle.std.specs.Prelude.{◌≡◌, ◌<◌, ◌+◌, ◌-◌, ◌%◌, ◌^◌, ℕ, Bool, true, List, length, None}
 use Rattle.frame_group.specs.Expected.{raise_after, with_number}
 use Rattle.timing_base.specs.Flows.{first_fault, rtp}
 use Rattle.timing_base.specs.Numbered.{numbered}
@@ -17,4 +17,4 @@ pub record Counts (pt : ℕ) (seq16 : Bool) (packets : List FlowPacket) (countin
   -- as long as no packet has a fault
   pub raise_is : first_fault (numbered seq16 packets) pt ≡ None → counting.raise ≡ raise_after seq16 packets
   -- a packet number has 32 bits
-  pub few : (rtp packets (length packets - 1)).number < 2 ^ 32
+  pub few : seq16 ≡ true → (rtp packets (length packets - 1)).number < 2 ^ 32

@@ -59,4 +59,4 @@ pub record CountsOn {M : Type 0} (old new : Counting) (state : State M) (p q : R
   pub counts : old.seq16 ≡ true → (m : Media) (shift : Shift) (packets : List FlowPacket) → IsAt m shift packets state
       → first_fault packets m.pt ≡ None → q ≡ with_number (counted (last_number_of packets) p.number) p
   pub raise : old.seq16 ≡ true → new.raise ≡ raise_of q.number p.number
-  pub few : p.number < 2 ^ 32
+  pub few : old.seq16 ≡ true → p.number < 2 ^ 32

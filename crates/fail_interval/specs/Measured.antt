@@ -1,6 +1,6 @@
 -- The output of the meters of a flow's runs, by the packets that the flow's judge was fed. Packets count from 0, runs
 -- from 1.
-use Rattle.std.specs.Prelude.{◌≡◌, ◌+◌, ℕ, ⊤, List, [], ◌∷◌, ◌++◌, length, Option, Some, None, Result, OnOk}
+use Rattle.std.specs.Prelude.{◌≡◌, ℕ, ⊤, List, [], ◌∷◌, ◌++◌, length, Option, Some, None, Result, OnOk}
 use Rattle.timing_base.specs.Numbered.{numbered}
 use Rattle.timing_base.specs.Shifts.{FlowOptions, Shift}
 use Rattle.frame_group.specs.Expected.{next_packet}

@@ -1,5 +1,5 @@
 -- The result of a flow, by its packets. This project's profile.
-use Rattle.std.specs.Prelude.{ℕ, true, false, List, [], ◌∷◌, length, map}
+use Rattle.std.specs.Prelude.{true, false, List, [], ◌∷◌, length, map}
 use Rattle.timing_base.specs.Shifts.{FlowOptions}
 use Rattle.timing_base.specs.Judged.{FlowRun, FlowVerdict, JudgedRun, RunOutcome, absent, gap, in_one_run, in_runs}
 use Rattle.timing_base.specs.Judged.{judged, no_whole_frame, refused, whole_frames}

@@ -35,6 +35,7 @@ impl Counting {
         ensures seq16 { self.new.seq16 ≡ self.old.seq16 }
         ensures counted { result ≡ with_number (counted last rtp.number) rtp }
         ensures raise { self.new.raise ≡ raise_of result.number rtp.number }
+        ensures few { rtp.number < 2 ^ 32 }
     {
         let number = counted(last, rtp.number);
         self.raise = number.wrapping_sub(rtp.number);

@@ -30,7 +30,7 @@ enum State<M: Drop> {
 
 impl<M: RunMeter> State<M> {
     ghost use Rattle.fail_interval.specs.Flowing.{CanGoOn};
-    ghost use Rattle.fail_interval.specs.Goings.{GoesAsExpected, GoesBy, GoesOn, Refuses, StateTakes};
+    ghost use Rattle.fail_interval.specs.Goings.{CountsOn, GoesAsExpected, GoesBy, GoesOn, Refuses, StateTakes};
     ghost use Rattle.fail_interval.specs.Measured.{StateTellsTaken};
     ghost use Rattle.fail_interval.specs.States.{IsAt};
     ghost use Rattle.fail_interval.specs.Telling.{TellsExpected, TellsTook};
@@ -46,6 +46,17 @@ impl<M: RunMeter> State<M> {
             State::Going(flow) => flow.last_number(),
             _ => None,
         }
+    }
+
+    /// Returns the next packet with its judged number.
+    #[inline(always)]
+    fn count(&self, counting: &mut Counting, rtp: Rtp) -> Rtp
+        ensures { CountsOn counting.old counting.new self.now rtp result }
+    {
+        if !counting.seq16 {
+            return rtp;
+        }
+        counting.count(self.last_number(), rtp)
     }
 
     /// Takes the expected packet, captured at `at` in nanoseconds, if it continues a judged run and has no fault.
@@ -217,7 +228,6 @@ pub struct FlowJudge<M: Drop> {
 impl<M: RunMeter> FlowJudge<M> {
     ghost use Rattle.fail_interval.specs.Stands.{IsSpent, StandsFor, Takes, TakesExpected, count_fed, expected_of};
     ghost use Rattle.fail_interval.specs.Measured.{JudgeTells, TellsGoingOn, TellsOfAll, TellsTaken};
-    ghost use Rattle.fail_interval.specs.Goings.{CountsOn};
 
     /// Returns the judge of the flow with this key, this media and these options, before the first packet. The shift
     /// changes the capture timestamps of judged packets, but not those in a reported fault.
@@ -349,23 +359,9 @@ impl<M: RunMeter> FlowJudge<M> {
           rtp = Ok rtp;
         }) result }
     {
-        let judged = self.count(rtp);
+        let judged = self.state.count(&mut self.counting, rtp);
         self.fed += 1;
         self.state.feed(rec, at, judged, out)
-    }
-
-    /// Returns the next packet with its judged number.
-    #[inline(always)]
-    fn count(&mut self, rtp: Rtp) -> Rtp
-        ensures key { self.new.key ≡ self.old.key }
-        ensures fed { self.new.fed ≡ self.old.fed }
-        ensures state { self.new.state ≡ self.old.state }
-        ensures counts { CountsOn self.old.counting self.new.counting self.old.state rtp result }
-    {
-        if !self.counting.seq16 {
-            return rtp;
-        }
-        self.counting.count(self.state.last_number(), rtp)
     }
 
     /// Takes the next packet, which couldn't be parsed: that is its fault.

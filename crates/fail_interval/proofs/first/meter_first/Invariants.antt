@@ -1,4 +1,4 @@
-use Rattle.std.proofs.Common.{◌≡◌, [], ℕ, List, slice_index, take}
+use Rattle.std.proofs.Common.{◌≡◌, [], List, slice_index, take}
 use Rattle.timing_base.specs.Shifts.{Shift}
 use Rattle.timing_base.specs.declared.packet.FlowPacket.{FlowPacket}
 use Rattle.run_meter.specs.Runs.{RunOf}

@@ -1,4 +1,4 @@
-use Rattle.std.proofs.Common.{◌≡◌, ◌+◌, ◌∙◌, ap, arith, None, Some, length, refl}
+use Rattle.std.proofs.Common.{◌≡◌, ◌+◌, ◌∙◌, ap, None, Some, length, refl}
 use Rattle.frame_group.specs.Expected.{after, going_on, next_of}
 use Rattle.frame_group.proofs.Expecting.{expected-is}
 use Rattle.run_meter.specs.declared.run.RunHead.{RunHead}

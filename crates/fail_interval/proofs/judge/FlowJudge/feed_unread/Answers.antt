@@ -20,7 +20,7 @@ returns-clause-takes g c =
 
 pub returns-clause-tells : goal.returns-clause-tells
 returns-clause-tells g c = λ out.
-    tells-more g.M.RunMeter.stands g.M.RunMeter.tells _ c.args.self.now c.args.self.now.counting _ _ _
+    tells-more g.M.RunMeter.stands g.M.RunMeter.tells _ c.args.self.now c.args.self.now.counting _ _
     (record { rec = c.args.rec; at = c.args.at; rtp = Err c.args.fault }) out out
     (unread-goes c.args.self.now c.args.rec c.args.at c.args.fault)
     (refuses _ c.args.self.now.fed c.args.rec c.args.at (Err c.args.fault) c.args.fault c.args.self.now.state _ c.refuse.ensures c.requires.few c.requires.stamp

@@ -1,6 +1,6 @@
 use Rattle.std.proofs.Common.{Ok, ap, ◌∙◌, refl}
-use Rattle.fail_interval.proofs.JudgeTold.{ended-taken, refused-taken, spent-taken, went-taken}
-use Rattle.fail_interval.proofs.Judging.{going-more, refused-before, refused-now, spent-case}
+use Rattle.fail_interval.proofs.JudgeTold.{ended-taken, refused-taken, went-taken}
+use Rattle.fail_interval.proofs.Judging.{going-more, refused-before, refused-now}
 use Rattle.fail_interval.proofs.judge.State.feed_other.Goals as goal
 
 pub feed-step-requires : goal.feed-step-requires
