@@ -20,7 +20,8 @@ use Rattle.fail_interval.specs.Stands.{StandsFor, count_fed}
 use Rattle.fail_interval.specs.Taken.{HasRows}
 
 -- the judges of media and of one more
-judges-append : (options : FlowOptions) (file number : ℕ) (ms : List Media) (fs : List (MediaFlow Judging)) (items : List Record) (m : Media) (f : MediaFlow Judging)
+judges-append : (options : FlowOptions) (file number : ℕ) (ms : List Media) (fs : List (MediaFlow Judging)) (items : List Record) (m : Media)
+    (f : MediaFlow Judging)
     → AreJudgesOf options file number ms fs items
     → IsJudgeOf m file (number + length ms) options f items → AreJudgesOf options file number (ms ++ m ∷ []) (fs ++ f ∷ []) items
 judges-append options file number [] [] items m f h is = (subst (λ (n : ℕ). IsJudgeOf m file n options f items) (omega arith) is, tt)
@@ -31,7 +32,8 @@ judges-append options file number (l ∷ ms) (g ∷ fs) items m f h is =
     (h.0, judges-append options file (number + 1) ms fs items m f h.1 (subst (λ (n : ℕ). IsJudgeOf m file n options f items) far is))
 
 -- the judges of the first media, and that of the next one
-pub judges-more : (options : FlowOptions) (file n : ℕ) (media : List Media) (fs more : List (MediaFlow Judging)) (items : List Record) (m : Media) (f : MediaFlow Judging)
+pub judges-more : (options : FlowOptions) (file n : ℕ) (media : List Media) (fs more : List (MediaFlow Judging)) (items : List Record) (m : Media)
+    (f : MediaFlow Judging)
     → n < length media
     → get_or media n m ≡ m
     → AreJudgesOf options file 0 (take n media) fs items → IsJudgeOf m file n options f items → more ≡ fs ++ f ∷ []
@@ -59,7 +61,8 @@ judge-fed m file number options f g items more takes h = record {
 }
 
 -- and so do all
-pub judges-fed : (options : FlowOptions) (file number : ℕ) (ms : List Media) (fs gs : List (MediaFlow Judging)) (items more : List Record) → TakesAll TakesFlowOf fs gs more
+pub judges-fed : (options : FlowOptions) (file number : ℕ) (ms : List Media) (fs gs : List (MediaFlow Judging)) (items more : List Record)
+    → TakesAll TakesFlowOf fs gs more
     → AreJudgesOf options file number ms fs items
     → AreJudgesOf options file number ms gs (items ++ more)
 judges-fed options file number [] [] [] items more takes h = tt
@@ -128,7 +131,8 @@ rows-more options file media items before rows more f left later r e pushed is h
     (subst (λ (l : List (MediaFlow Judging)). AreJudgesOf options file h.number h.rest l items) e h.stands)
 
 -- all rows
-pub rows-all : (options : FlowOptions) (file : ℕ) (media : List Media) (items : List Record) (before rows : List Row) (left : List (MediaFlow Judging)) → length left ≡ 0
+pub rows-all : (options : FlowOptions) (file : ℕ) (media : List Media) (items : List Record) (before rows : List Row) (left : List (MediaFlow Judging))
+    → length left ≡ 0
     → HasRows options file media items before rows left → rows ≡ before ++ rows_of options file media items
 rows-all options file media items before rows [] e h = rows-none options file media items before rows h.number h.rest h.whole h.stands
 rows-all options file media items before rows (f ∷ fs) e h = absurd (omega arith)

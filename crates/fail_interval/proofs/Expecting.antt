@@ -1,5 +1,6 @@
 -- The packet that a judge expects next.
-use Rattle.std.proofs.Common.{◌≡◌, ◌<◌, ◌+◌, ◌-◌, ◌%◌, ◌^◌, ℕ, Bool, true, false, List, [], length, Some, None, Option, ap, sym, ◌∙◌, refl, subst, append-nil, arith}
+use Rattle.std.proofs.Common.{◌≡◌, ◌<◌, ◌+◌, ◌-◌, ◌%◌, ◌^◌, ℕ, Bool, true, false, List, [], length, Some, None, Option, ap, sym, ◌∙◌, refl, subst, append-nil}
+use Rattle.std.proofs.Common.{arith}
 use Rattle.std.specs.Prelude.{is_some, ◌||◌, ◌==◌, if◌then◌else◌, option_map}
 use Rattle.std.proofs.lemmas.Bool.Decides.{nat_tests}
 use Rattle.timing_base.specs.Numbered.{numbered}
@@ -107,7 +108,8 @@ expected-none (Refused rec fault) not = refl
 expected-none Spent not = refl
 
 -- the packet that goes on in a flow without one
-expected-going : {M : Type 0} (state : State M) (flow : Flow M) (expected : Option Rtp) → state ≡ Going flow → expected ≡ flow_expects flow → expected ≡ state_expects state
+expected-going : {M : Type 0} (state : State M) (flow : Flow M) (expected : Option Rtp) → state ≡ Going flow → expected ≡ flow_expects flow
+    → expected ≡ state_expects state
 expected-going state flow expected e is = is ∙ sym (ap state_expects e)
 
 -- after it the next one
@@ -133,11 +135,6 @@ pub some-expected : {M : Type 0} (judge : FlowJudge M) (flow : Flow M) (expected
     → Some own ≡ expected_of judge
 some-expected judge flow expected p own e is some own_is =
     ap (λ (r : Rtp). Some r) own_is ∙ ap (option_map (own_of judge.counting)) (sym some ∙ expected-going judge.state flow expected e is)
-
-pub none-expected : {M : Type 0} (judge : FlowJudge M) (flow : Flow M) (expected : Option Rtp)
-    → judge.state ≡ Going flow → expected ≡ flow_expects flow → expected ≡ None
-    → None ≡ expected_of judge
-none-expected judge flow expected e is none = ap (option_map (own_of judge.counting)) (sym none ∙ expected-going judge.state flow expected e is)
 
 -- and of one that doesn't
 pub nothing-expected : {M : Type 0} (judge : FlowJudge M) → ((flow : Flow M) → judge.state ≡ Going flow → ⊥) → None ≡ expected_of judge

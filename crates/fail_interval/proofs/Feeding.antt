@@ -136,7 +136,8 @@ with_parts flow grouper open_run = record {
 }
 
 -- the open run goes on with the packet
-pub goes_on : {M : Type 0} (flow : Flow M) (packets : List FlowPacket) (rec_number at stamp : ℕ) (seen : Rtp) (cut : Option ℕ) (grouper : Grouper) (open_run : OpenRun M)
+pub goes_on : {M : Type 0} (flow : Flow M) (packets : List FlowPacket) (rec_number at stamp : ℕ) (seen : Rtp) (cut : Option ℕ) (grouper : Grouper)
+    (open_run : OpenRun M)
     (judge : RunJudge M)
     → stamp ≡ shifted flow.shift at → flow.open ≡ Some open_run → cut ≡ None
     → IsAnswered packets (read_packet rec_number at seen) flow.media.pt cut
@@ -166,7 +167,8 @@ goes_on {M} flow packets rec_number at stamp seen cut grouper open_run judge tim
       room = c.stands.room;
     }
 
-pub starts-case : {M : Type 0} (packets : List FlowPacket) (i : ℕ) (open_run : Option (OpenRun M)) → ((run : OpenRun M) → open_run ≡ Some run → is_cut packets i ≡ true)
+pub starts-case : {M : Type 0} (packets : List FlowPacket) (i : ℕ) (open_run : Option (OpenRun M))
+    → ((run : OpenRun M) → open_run ≡ Some run → is_cut packets i ≡ true)
     → StartsAt packets i open_run
 starts-case packets i None h = tt
 starts-case packets i (Some run) h = h run refl
@@ -251,7 +253,8 @@ pub take-known : {M : Type 0} (flow : Flow M) (rec_number at stamp : ℕ) (seen 
     → Known flow at
     → ∥ ((so_far : SoFar) × CanTake flow.media open_run.judge so_far stamp seen.marker) ∥₁
 take-known flow rec_number at stamp seen cut open_run timed e none answer known =
-    ∥∥₁_map known (λ (packets, c). (c.stands.so_far, can_take flow packets rec_number at stamp seen cut open_run timed c e none (answer packets c.stands.grouper)))
+    ∥∥₁_map known (λ (packets, c).
+    (c.stands.so_far, can_take flow packets rec_number at stamp seen cut open_run timed c e none (answer packets c.stands.grouper)))
 
 -- or the one expected
 pub expected-known : {M : Type 0} (flow : Flow M) (at stamp : ℕ) (open_run : OpenRun M) → stamp ≡ shifted flow.shift at → flow.open ≡ Some open_run

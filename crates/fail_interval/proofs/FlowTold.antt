@@ -40,7 +40,8 @@ told-is packets shift i told seen next timestamp =
     told-same _ _ _ _ _ _ (sym next.rec) (sym next.stamp) (timestamp ∙ sym (ap (λ r. (read_or_zeros r).timestamp) next.reading))
 
 -- what is told of the open run, by its place in the flow
-of-by : {M Out Past : Type 0} (stands : Standing M) (tells : Telling Past Out) (past : Past) (m : Media) (shift : Shift) (packets : List FlowPacket) (places : List ℕ)
+of-by : {M Out Past : Type 0} (stands : Standing M) (tells : Telling Past Out) (past : Past) (m : Media) (shift : Shift) (packets : List FlowPacket)
+    (places : List ℕ)
     (n number : ℕ) (so_far : SoFar) (open_run : OpenRun M) (out : Out)
     → n ≤ length packets → number ≡ length places + 1
     → so_far ≡ so_far_at packets shift (last_place (0 ∷ places)) n
@@ -57,14 +58,16 @@ of-by stands tells past m shift packets places n number so_far open_run out with
           (sym (open-is m packets shift places n open_run.judge so_far within is s)) t.out_tells;
     }
 
-by-of : {M Out Past : Type 0} (stands : Standing M) (tells : Telling Past Out) (past : Past) (m : Media) (shift : Shift) (packets : List FlowPacket) (places : List ℕ)
+by-of : {M Out Past : Type 0} (stands : Standing M) (tells : Telling Past Out) (past : Past) (m : Media) (shift : Shift) (packets : List FlowPacket)
+    (places : List ℕ)
     (n number : ℕ) (so_far : SoFar) (open_run : OpenRun M) (out : Out) (fed committed : List FlowPacket)
     → n ≤ length packets → number ≡ length places + 1
     → so_far ≡ so_far_at packets shift (last_place (0 ∷ places)) n
     → RunStandsFor m open_run.judge so_far
     → behind_first packets n (markers packets (last_place (0 ∷ places)) n) ≡ fed
     → judged_packets packets (last_place (0 ∷ places)) n ≡ committed
-    → TellsOf stands tells past m shift number (packet packets (last_place (0 ∷ places))) (parts_over m packets shift 1 0 places) open_run.judge out fed committed
+    → TellsOf stands tells past m shift number (packet packets (last_place (0 ∷ places)))
+    (parts_over m packets shift 1 0 places) open_run.judge out fed committed
     → TellsBy stands tells past m shift packets places n open_run out
 by-of stands tells past m shift packets places n number so_far open_run out fed committed within count is s fed_is committed_is t =
     let from = last_place (0 ∷ places) in
@@ -86,7 +89,8 @@ abbrev pub Taken : {M Out Past : Type 0} → Standing M → Telling Past Out →
 Taken {M} {Out} {Past} stands tells m old new before after head told marker =
     TellsNext {M = M} {Out = Out} {Past = Past} {T = Unit {0}} {E = Unit {0}} stands tells m old new before after head told marker (Ok tt)
 
-marker-is : (packets : List FlowPacket) (shift : Shift) (i rec_number at : ℕ) (seen : Rtp) → ComesNext packets shift i rec_number at seen → has_marker packets i ≡ seen.marker
+marker-is : (packets : List FlowPacket) (shift : Shift) (i rec_number at : ℕ) (seen : Rtp) → ComesNext packets shift i rec_number at seen
+    → has_marker packets i ≡ seen.marker
 marker-is packets shift i rec_number at seen next = ap (λ r. (read_or_zeros r).marker) next.reading
 
 -- what a run has come to, one packet on
@@ -98,7 +102,8 @@ more-is packets shift from i rec_number at seen next order =
     ∙ ap (so_far_next (so_far_at packets shift from i) at) (marker-is packets shift i rec_number at seen next)))
 
 -- the open run goes on with packet i
-pub goes_on-told : {M Out Past : Type 0} (stands : Standing M) (tells : Telling Past Out) (past : Past) (m : Media) (packets : List FlowPacket) (shift : Shift) (i : ℕ)
+pub goes_on-told : {M Out Past : Type 0} (stands : Standing M) (tells : Telling Past Out) (past : Past) (m : Media) (packets : List FlowPacket) (shift : Shift)
+    (i : ℕ)
     (seen : Rtp) (so_far : SoFar) (done : List Run) (open_run : OpenRun M) (judge : RunJudge M) (head : RunHead) (told : RunPacket) (before after : Out)
     → ComesNext packets shift i told.rec told.at seen → told.timestamp ≡ seen.timestamp
     → is_cut packets i ≡ false
@@ -184,7 +189,8 @@ fresh-is packets shift i rec_number at seen next =
     ap (λ so_far. so_far_next so_far at seen.marker) (sym (so_far_at-start packets shift i)) ∙ more-is packets shift i i rec_number at seen next (omega arith)
 
 -- the run starts with packet i
-starts-told : {M Out Past : Type 0} (stands : Standing M) (tells : Telling Past Out) (past : Past) (m : Media) (packets : List FlowPacket) (shift : Shift) (i : ℕ)
+starts-told : {M Out Past : Type 0} (stands : Standing M) (tells : Telling Past Out) (past : Past) (m : Media) (packets : List FlowPacket) (shift : Shift)
+    (i : ℕ)
     (seen : Rtp)
     (places : List ℕ) (run : OpenRun M) (head : RunHead) (told : RunPacket) (mid after : Out)
     → ComesNext packets shift i told.rec told.at seen → told.timestamp ≡ seen.timestamp
@@ -221,7 +227,8 @@ starts-told stands tells past m packets shift i seen places run head told mid af
     fed_is committed_is now
 
 -- the open run is over
-over-told : {M Out Past : Type 0} (stands : Standing M) (tells : Telling Past Out) (past : Past) (m : Media) (packets : List FlowPacket) (shift : Shift) (i pt : ℕ)
+over-told : {M Out Past : Type 0} (stands : Standing M) (tells : Telling Past Out) (past : Past) (m : Media) (packets : List FlowPacket) (shift : Shift)
+    (i pt : ℕ)
     (places : List ℕ) (so_far : SoFar) (done : List Run) (open_run : OpenRun M) (before mid : Out)
     → i ≤ length packets
     → IsSized i (markers packets (last_place (0 ∷ places)) i)
@@ -240,7 +247,8 @@ over-told stands tells past m packets shift i pt places so_far done open_run bef
     (closes past m shift (length places + 1) (packet packets from) over so_far _ _ o.judge whole was)
 
 -- what starts with packet i
-pub begins-told : {M Out Past : Type 0} (stands : Standing M) (tells : Telling Past Out) (past : Past) (m : Media) (packets : List FlowPacket) (shift : Shift) (i pt : ℕ)
+pub begins-told : {M Out Past : Type 0} (stands : Standing M) (tells : Telling Past Out) (past : Past) (m : Media) (packets : List FlowPacket) (shift : Shift)
+    (i pt : ℕ)
     (seen : Rtp) (so_far : SoFar) (done new : List Run) (open_run : Option (OpenRun M)) (run : OpenRun M) (head : RunHead) (told : RunPacket)
     (before mid after : Out)
     → ComesNext packets shift i told.rec told.at seen → told.timestamp ≡ seen.timestamp
@@ -293,7 +301,8 @@ pub begins-told-as : {M Out Past : Type 0} (stands : Standing M) (tells : Tellin
     → IsClosed m done open_run new
     → TellsClosed stands tells open_run before mid
     → RunStandsFor more_m run.judge (so_far_next (in_head 0) told.at marker)
-    → ((past : Past) (shift : Shift) (first : FlowPacket) (over : List JudgedPart) → told ≡ told_of shift first → Heads first head → tells past mid more_m shift over None
+    → ((past : Past) (shift : Shift) (first : FlowPacket) (over : List JudgedPart) → told ≡ told_of shift first → Heads first head
+    → tells past mid more_m shift over None
     → TellsOf stands tells past more_m shift head.run first over run.judge after [] [])
     → TellsAt stands tells past m shift packets i open_run before
     → TellsAt stands tells past more_m more_shift packets (i + 1) (Some run) after

@@ -59,7 +59,8 @@ abbrev pub with_judge : {M : Type 0} → OpenRun M → RunJudge M → OpenRun M
 with_judge open_run judge = record { rec = open_run.rec; number = open_run.number; expected = open_run.expected; judge = judge }
 
 -- the marker of the packet that comes next
-marker-is : (packets : List FlowPacket) (shift : Shift) (i rec_number at : ℕ) (seen : Rtp) → ComesNext packets shift i rec_number at seen → has_marker packets i ≡ seen.marker
+marker-is : (packets : List FlowPacket) (shift : Shift) (i rec_number at : ℕ) (seen : Rtp) → ComesNext packets shift i rec_number at seen
+    → has_marker packets i ≡ seen.marker
 marker-is packets shift i rec_number at seen next = ap (λ r. (read_or_zeros r).marker) next.reading
 
 -- what the run has come to with it
@@ -82,7 +83,8 @@ goes_on-so_far packets shift i rec_number at seen so_far next e is =
     ∙ ap (λ places. so_far_at packets shift (last_place (0 ∷ places)) (i + 1)) (sym (cuts-other packets i e)))
 
 -- packet i goes on with the open run
-pub goes_on-next : {M : Type 0} (m : Media) (packets : List FlowPacket) (shift : Shift) (i rec_number at : ℕ) (seen : Rtp) (so_far : SoFar) (done : List Run) (open_run : OpenRun M)
+pub goes_on-next : {M : Type 0} (m : Media) (packets : List FlowPacket) (shift : Shift) (i rec_number at : ℕ) (seen : Rtp) (so_far : SoFar) (done : List Run)
+    (open_run : OpenRun M)
     (judge : RunJudge M)
     → ComesNext packets shift i rec_number at seen → is_cut packets i ≡ false → IsOpen m shift packets i (cuts packets i) so_far done open_run
     → RunStandsFor m judge (so_far_next so_far at seen.marker)
@@ -103,7 +105,8 @@ goes_on-next m packets shift i rec_number at seen so_far done open_run judge nex
     }
 
 -- the run that starts with packet i
-started : {M : Type 0} (m : Media) (packets : List FlowPacket) (shift : Shift) (i rec_number at : ℕ) (seen : Rtp) (places : List ℕ) (expected : Option ℕ) (done : List Run)
+started : {M : Type 0} (m : Media) (packets : List FlowPacket) (shift : Shift) (i rec_number at : ℕ) (seen : Rtp) (places : List ℕ) (expected : Option ℕ)
+    (done : List Run)
     (judge : RunJudge M)
     → ComesNext packets shift i rec_number at seen → last_place (0 ∷ places) ≡ i → expected ≡ expected_at packets i
     → RunStandsFor m judge (so_far_next (in_head 0) at seen.marker)
@@ -138,7 +141,8 @@ expects-at packets i expected e f =
     ∙ sym (ap (λ b. if b then None else Some (expected_number packets i)) (cut-later i _ e)))
 
 -- the first packet of a flow starts a run
-pub first-next : {M : Type 0} (m : Media) (packets : List FlowPacket) (shift : Shift) (i rec_number at : ℕ) (seen : Rtp) (expected : Option ℕ) (so_far : SoFar) (done : List Run)
+pub first-next : {M : Type 0} (m : Media) (packets : List FlowPacket) (shift : Shift) (i rec_number at : ℕ) (seen : Rtp) (expected : Option ℕ) (so_far : SoFar)
+    (done : List Run)
     (judge : RunJudge M)
     → ComesNext packets shift i rec_number at seen → expected ≡ cut_at packets i
     → RunStandsFor m judge (so_far_next (in_head 0) at seen.marker)
@@ -162,7 +166,8 @@ run-same : (a b : ℕ) (c d : ℕ) (e f : Option ℕ) (v w : RunVerdict) → a �
 run-same a b c d e f v w p q r s = cc
 
 -- a cut ends the open run and starts the next
-pub cut-next : {M : Type 0} (m : Media) (packets : List FlowPacket) (shift : Shift) (i rec_number at : ℕ) (seen : Rtp) (expected : Option ℕ) (so_far : SoFar) (done : List Run)
+pub cut-next : {M : Type 0} (m : Media) (packets : List FlowPacket) (shift : Shift) (i rec_number at : ℕ) (seen : Rtp) (expected : Option ℕ) (so_far : SoFar)
+    (done : List Run)
     (open_run : OpenRun M) (verdict : RunVerdict) (judge : RunJudge M)
     → ComesNext packets shift i rec_number at seen → expected ≡ cut_at packets i
     → RunStandsFor m judge (so_far_next (in_head 0) at seen.marker)
@@ -199,7 +204,8 @@ open-same : {M : Type 0} (a b c d : ℕ) (e f : Option ℕ) (judge : RunJudge M)
 open-same a b c d e f judge p q r = cc
 
 -- what starts with packet i
-pub begins-next : {M : Type 0} (m : Media) (packets : List FlowPacket) (shift : Shift) (i rec_number at : ℕ) (seen : Rtp) (expected : Option ℕ) (so_far : SoFar) (done new : List Run)
+pub begins-next : {M : Type 0} (m : Media) (packets : List FlowPacket) (shift : Shift) (i rec_number at : ℕ) (seen : Rtp) (expected : Option ℕ) (so_far : SoFar)
+    (done new : List Run)
     (open_run : Option (OpenRun M)) (run : OpenRun M)
     → ComesNext packets shift i rec_number at seen → expected ≡ cut_at packets i → StartsAt packets i open_run
     → run.rec ≡ rec_number → run.number ≡ seen.number → run.expected ≡ expected
@@ -220,7 +226,8 @@ begins-next m packets shift i rec_number at seen expected so_far done new (Some 
     (cut-next m packets shift i rec_number at seen expected so_far done open_run _ run.judge next expects stands refl starts o))
 
 -- what starts with packet i, where the media, the shift and the marker are known by equations
-pub begins-as : {M : Type 0} (m more_m : Media) (packets : List FlowPacket) (shift more_shift : Shift) (i rec_number at : ℕ) (seen : Rtp) (marker : Bool) (expected : Option ℕ)
+pub begins-as : {M : Type 0} (m more_m : Media) (packets : List FlowPacket) (shift more_shift : Shift) (i rec_number at : ℕ) (seen : Rtp) (marker : Bool)
+    (expected : Option ℕ)
     (so_far : SoFar) (done new : List Run) (open_run : Option (OpenRun M)) (run : OpenRun M)
     → more_m ≡ m → more_shift ≡ shift
     → ComesNext packets shift i rec_number at seen → expected ≡ cut_at packets i → StartsAt packets i open_run
@@ -230,7 +237,8 @@ pub begins-as : {M : Type 0} (m more_m : Media) (packets : List FlowPacket) (shi
     → IsClosed m done open_run new
     → OpensAt m shift packets i so_far done open_run
     → OpensAt more_m more_shift packets (i + 1) (so_far_next (in_head 0) at seen.marker) new (Some run)
-begins-as m more_m packets shift more_shift i rec_number at seen marker expected so_far done new open_run run e f next expects starts rec number expects_run marked
+begins-as m more_m packets shift more_shift i rec_number at seen marker expected so_far done new open_run run e f next expects starts rec number expects_run
+    marked
     stood closed o =
     let stands = subst (λ b. RunStandsFor more_m run.judge (so_far_next (in_head 0) at b)) marked stood in
     subst (λ k. OpensAt k more_shift packets (i + 1) (so_far_next (in_head 0) at seen.marker) new (Some run)) (sym e)

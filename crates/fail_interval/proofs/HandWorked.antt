@@ -52,4 +52,5 @@ file-rows options a b e f =
     let first = rows-by options 0 a b first_capture (packet_at 4 130 ∷ packet_at 5 140 ∷ []) (packet_at 1 100 ∷ []) (first-flow a e) (first-next b f) in
     let second = rows-by options 1 a b second_capture [] (packet_at 1 200 ∷ []) (second-flow a e) (second-next b f) in
     ap (λ (l : List Row). l ++ (rows_of options 1 (a ∷ b ∷ []) second_capture ++ [])) first
-    ∙ ap (λ (l : List Row). row (packet_at 4 130 ∷ packet_at 5 140 ∷ []) (key_of 0 0) a options ∷ row (packet_at 1 100 ∷ []) (key_of 0 1) b options ∷ (l ++ [])) second
+    ∙ ap (λ (l : List Row). row (packet_at 4 130 ∷ packet_at 5 140 ∷ []) (key_of 0 0) a options ∷ row (packet_at 1 100 ∷ []) (key_of 0 1) b options ∷ (l ++ []))
+    second

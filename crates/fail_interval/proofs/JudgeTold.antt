@@ -43,7 +43,8 @@ at-before stands tells past m shift packets (suc n) so_far done None out o t = a
 at-before stands tells past m shift packets n so_far done (Some open_run) out o t = t.out_tells
 
 -- of a flow whose media and shift are known by equations
-flow-as : {M Out Past : Type 0} (stands : Standing M) (tells : Telling Past Out) (past : Past) (flow : Flow M) (m : Media) (shift : Shift) (packets : List FlowPacket)
+flow-as : {M Out Past : Type 0} (stands : Standing M) (tells : Telling Past Out) (past : Past) (flow : Flow M) (m : Media) (shift : Shift)
+    (packets : List FlowPacket)
     (out : Out)
     → flow.media ≡ m → flow.shift ≡ shift
     → Tells stands tells past m shift packets flow.open out → FlowTells stands tells past flow packets out
@@ -51,7 +52,8 @@ flow-as stands tells past flow m shift packets out media same t =
     subst (λ k. Tells stands tells past k flow.shift packets flow.open out) (sym media)
     (subst (λ s. Tells stands tells past m s packets flow.open out) (sym same) t)
 
-as-flow : {M Out Past : Type 0} (stands : Standing M) (tells : Telling Past Out) (past : Past) (flow : Flow M) (m : Media) (shift : Shift) (packets : List FlowPacket)
+as-flow : {M Out Past : Type 0} (stands : Standing M) (tells : Telling Past Out) (past : Past) (flow : Flow M) (m : Media) (shift : Shift)
+    (packets : List FlowPacket)
     (out : Out)
     → flow.media ≡ m → flow.shift ≡ shift
     → FlowTells stands tells past flow packets out → Tells stands tells past m shift packets flow.open out
@@ -231,7 +233,8 @@ went-taken stands tells fed old new p before after result went few stamp =
     (λ past m shift packets s t. on_ok result (went-tells stands tells past m shift fed old new packets p before after went few stamp s t))
 
 -- the flow ends with this packet's fault
-pub refused-taken : {M Out T E : Type 0} {Past : Type 0} (stands : Standing M) (tells : Telling Past Out) (rec : ℕ) (fault : PacketFault) (fed : ℕ) (old new : State M)
+pub refused-taken : {M Out T E : Type 0} {Past : Type 0} (stands : Standing M) (tells : Telling Past Out) (rec : ℕ) (fault : PacketFault) (fed : ℕ)
+    (old new : State M)
     (flow : Flow M) (p : FlowPacket) (before after : Out) (result : Result T E)
     → old ≡ Going flow → new ≡ Refused rec fault → after ≡ before
     → EndsBy flow p fault
@@ -244,7 +247,8 @@ refused-taken stands tells rec fault fed old new flow p before after result e en
     (same-tells stands tells past m shift packets old old before after refl same t)))
 
 -- it ended before
-pub ended-taken : {M Out T E : Type 0} {Past : Type 0} (stands : Standing M) (tells : Telling Past Out) (rec : ℕ) (fault : PacketFault) (fed : ℕ) (old new : State M)
+pub ended-taken : {M Out T E : Type 0} {Past : Type 0} (stands : Standing M) (tells : Telling Past Out) (rec : ℕ) (fault : PacketFault) (fed : ℕ)
+    (old new : State M)
     (p : FlowPacket) (out : Out) (result : Result T E)
     → old ≡ Refused rec fault → new ≡ Refused rec fault
     → StateTellsTaken stands tells fed old new out out p result
@@ -265,7 +269,8 @@ spent-taken stands tells fed old new p before after result err not = record {
 }
 
 -- a packet that ends each flow by its fault
-pub refuses-taken : {M Out T E : Type 0} {Past : Type 0} (stands : Standing M) (tells : Telling Past Out) (rec : ℕ) (fault : PacketFault) (fed : ℕ) (old new : State M)
+pub refuses-taken : {M Out T E : Type 0} {Past : Type 0} (stands : Standing M) (tells : Telling Past Out) (rec : ℕ) (fault : PacketFault) (fed : ℕ)
+    (old new : State M)
     (p : FlowPacket) (out : Out) (result : Result T E)
     → Refuses old new rec fault result
     → ((flow : Flow M) → EndsBy flow p fault)

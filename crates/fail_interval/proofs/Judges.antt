@@ -36,7 +36,8 @@ use Rattle.fail_interval.proofs.Feeding.{stamped-more, unread-fault}
 use Rattle.fail_interval.proofs.Flows.{packet-here}
 use Rattle.fail_interval.proofs.JudgeTold.{ended-tells, on_ok, same-tells, so_far-tells}
 use Rattle.fail_interval.proofs.Judging.{at-flow, refused-more, stands-expected, took-expected}
-use Rattle.fail_interval.proofs.Numbered.{judged_next, last-counted, last-push, numbered-going, numbered-next, numbered-none, raise-going, raise-none, raise-plain, raise-push}
+use Rattle.fail_interval.proofs.Numbered.{judged_next, last-counted, last-push, numbered-going, numbered-next, numbered-none, raise-going, raise-none}
+use Rattle.fail_interval.proofs.Numbered.{raise-plain, raise-push}
 use Rattle.fail_interval.proofs.Rows.{no_fault}
 
 -- a packet as it was fed
@@ -93,7 +94,8 @@ sound-case m shift packets p (Refused rec fault) is none =
 sound-case m shift packets p Spent is none = absurd is
 
 -- packet q is packet p with its judged number
-judged-case : {M : Type 0} (seq16 : Bool) (m : Media) (shift : Shift) (packets : List FlowPacket) (old new : Counting) (state : State M) (rec at : ℕ) (p q : Rtp)
+judged-case : {M : Type 0} (seq16 : Bool) (m : Media) (shift : Shift) (packets : List FlowPacket) (old new : Counting) (state : State M) (rec at : ℕ)
+    (p q : Rtp)
     → old.seq16 ≡ seq16 → CountsOn old new state p q → IsAt m shift (numbered seq16 packets) state
     → first_fault (numbered seq16 packets) m.pt ≡ None
     → fed_packet rec at (Ok q) ≡ judged_next seq16 packets (fed_packet rec at (Ok p))
@@ -141,7 +143,8 @@ read-goes judge counting rec at p q c =
             let sound : first_fault all m.pt ≡ None =
             sound-case m options.shift all (judged_next options.seq16 packets next) judge.state s.state
             (subst (λ (l : List FlowPacket). first_fault l m.pt ≡ None) (numbered-next options.seq16 packets next) none) in
-            raise-case options.seq16 packets judge.counting counting rec at p q (λ e. (c.plain (s.counts.seq16_is ∙ e)).1) (λ e. c.raise (s.counts.seq16_is ∙ e))
+            raise-case options.seq16 packets judge.counting counting rec at p q (λ e. (c.plain (s.counts.seq16_is ∙ e)).1)
+            (λ e. c.raise (s.counts.seq16_is ∙ e))
             (s.counts.raise_is sound) (goes m key options packets s sound);
         few = λ e. omega (arith, last-push packets next, c.few (s.counts.seq16_is ∙ e));
       };
@@ -197,7 +200,8 @@ on_ok-map : {T E X Y : Type 0} (result : Result T E) → (X → Y) → OnOk resu
 on_ok-map (Ok value) f x = f x
 on_ok-map (Err cause) f x = tt
 
-takes-case : {M T E : Type 0} (m : Media) (key : FlowKey) (options : FlowOptions) (result : Result T E) (judge : FlowJudge M) (was : State M) (counting : Counting)
+takes-case : {M T E : Type 0} (m : Media) (key : FlowKey) (options : FlowOptions) (result : Result T E) (judge : FlowJudge M) (was : State M)
+    (counting : Counting)
     (state : State M) (known : ∥ IsKnown (judge.fed + 1) state ∥₁) (packets : List FlowPacket) (p q : FlowPacket)
     → judge.state ≡ was
     → NumbersGoOn judge counting p q
@@ -224,7 +228,8 @@ takes-case m key options result judge Spent counting state known packets p q e g
     let at : ⊥ = subst (IsAt m options.shift (numbered options.seq16 packets)) e s.state in absurd at
 
 -- the judge took the packet
-pub takes-more : {M T E : Type 0} (result : Result T E) (judge : FlowJudge M) (counting : Counting) (state : State M) (known : ∥ IsKnown (judge.fed + 1) state ∥₁)
+pub takes-more : {M T E : Type 0} (result : Result T E) (judge : FlowJudge M) (counting : Counting) (state : State M)
+    (known : ∥ IsKnown (judge.fed + 1) state ∥₁)
     (p q : FlowPacket)
     → NumbersGoOn judge counting p q
     → StateTakes judge.fed judge.state state q result
@@ -238,7 +243,8 @@ takes-more result judge counting state known p q goes takes stamp = record {
 }
 
 tells-case : {M Out Past T E : Type 0} (stands : Standing M) (tells : Telling Past Out) (past : Past) (m : Media) (key : FlowKey) (options : FlowOptions)
-    (result : Result T E) (judge : FlowJudge M) (was : State M) (counting : Counting) (state : State M) (packets : List FlowPacket) (p q : FlowPacket) (before after : Out)
+    (result : Result T E) (judge : FlowJudge M) (was : State M) (counting : Counting) (state : State M) (packets : List FlowPacket) (p q : FlowPacket)
+    (before after : Out)
     → judge.state ≡ was
     → NumbersGoOn judge counting p q
     → StateTakes judge.fed judge.state state q result
@@ -264,7 +270,8 @@ tells-case stands tells past m key options result judge Spent counting state pac
     let at : ⊥ = subst (IsAt m options.shift (numbered options.seq16 packets)) e s.state in absurd at
 
 -- and the output of its meters tells of it
-pub tells-more : {M Out T E : Type 0} {Past : Type 0} (stands : Standing M) (tells : Telling Past Out) (result : Result T E) (judge : FlowJudge M) (counting : Counting)
+pub tells-more : {M Out T E : Type 0} {Past : Type 0} (stands : Standing M) (tells : Telling Past Out) (result : Result T E) (judge : FlowJudge M)
+    (counting : Counting)
     (state : State M) (p q : FlowPacket) (before after : Out)
     → NumbersGoOn judge counting p q
     → StateTakes judge.fed judge.state state q result
@@ -305,7 +312,8 @@ judge-more m key options rec at judge new known packets went few stamp s =
     (stands-expected m options.shift judge.fed rec at judge.state new all went few stamp inner))
 
 -- the output of its meters tells of that packet
-pub judge-tells : {M Out Past : Type 0} (stands : Standing M) (tells : Telling Past Out) (past : Past) (m : Media) (key : FlowKey) (options : FlowOptions) (rec at : ℕ)
+pub judge-tells : {M Out Past : Type 0} (stands : Standing M) (tells : Telling Past Out) (past : Past) (m : Media) (key : FlowKey) (options : FlowOptions)
+    (rec at : ℕ)
     (judge : FlowJudge M) (new : State M) (packets : List FlowPacket) (out : Out)
     → GoesAsExpected judge.state new at → judge.fed < 2 ^ 41 → IsStamp at
     → StandsFor m key options judge packets
@@ -316,7 +324,8 @@ judge-tells stands tells past m key options rec at judge new packets out went fe
     let all = numbered options.seq16 packets in
     let (some, sound) = is-something options packets m.pt
     (took-expected m options.shift judge.fed at judge.state new all went few stamp (as-state m key options judge packets s)) in
-    subst (λ (l : List FlowPacket). StateTells stands tells past m options.shift l new out) (sym (numbered-going options.seq16 packets m.pt rec at some sound)) t
+    subst (λ (l : List FlowPacket). StateTells stands tells past m options.shift l new out)
+    (sym (numbered-going options.seq16 packets m.pt rec at some sound)) t
 
 -- what the output tells of the packets that a judge was fed
 pub judge-so_far : {M Out Past : Type 0} (stands : Standing M) (tells : Telling Past Out) (past : Past) (m : Media) (key : FlowKey) (options : FlowOptions)
@@ -344,7 +353,8 @@ pub row-spent : {M : Type 0} (m : Media) (key : FlowKey) (options : FlowOptions)
 row-spent m key options judge told packets e s = let at : ⊥ = subst (IsAt m options.shift (numbered options.seq16 packets)) e s.state in absurd at
 
 -- the packet that goes on is the one expected
-goes-on : {M : Type 0} (old new : FlowJudge M) (stamp : ℕ) (p : Rtp) → IsExpected old p → TakesExpected old new stamp → (m : Media) (key : FlowKey) (options : FlowOptions)
+goes-on : {M : Type 0} (old new : FlowJudge M) (stamp : ℕ) (p : Rtp) → IsExpected old p → TakesExpected old new stamp → (m : Media) (key : FlowKey)
+    (options : FlowOptions)
     (packets : List FlowPacket)
     → StandsFor m key options old packets
     → going_on packets m.pt (length packets) ≡ p

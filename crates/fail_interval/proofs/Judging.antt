@@ -29,7 +29,8 @@ use Rattle.fail_interval.proofs.Rows.{refused-verdict}
 abbrev fed_packet : ℕ → ℕ → Result Rtp PacketFault → FlowPacket
 fed_packet rec at rtp = record { rec = rec; at = at; rtp = rtp }
 
-can_go_on : {M : Type 0} (flow : Flow M) (fed at : ℕ) (packets : List FlowPacket) → IsFedTo flow fed packets → fed < 2 ^ 41 → IsStamp at → CanGoOn flow packets at
+can_go_on : {M : Type 0} (flow : Flow M) (fed at : ℕ) (packets : List FlowPacket) → IsFedTo flow fed packets → fed < 2 ^ 41 → IsStamp at
+    → CanGoOn flow packets at
 can_go_on flow fed at packets f few stamp = record { stands = f.stands; stamped = f.stamped; stamp = stamp; few = omega (arith, f.count, few) }
 
 -- what a judge knows of its flow
@@ -49,7 +50,8 @@ fed-more flow new fed at packets p f stamp stands = record {
 }
 
 -- it knows so of the flow with one packet more
-pub known-more : {M : Type 0} (fed rec at : ℕ) (rtp : Result Rtp PacketFault) (state : State M) (flow new : Flow M) → state ≡ Going flow → ∥ IsKnown fed state ∥₁ → fed < 2 ^ 41
+pub known-more : {M : Type 0} (fed rec at : ℕ) (rtp : Result Rtp PacketFault) (state : State M) (flow new : Flow M) → state ≡ Going flow
+    → ∥ IsKnown fed state ∥₁ → fed < 2 ^ 41
     → IsStamp at
     → Took flow new (fed_packet rec at rtp) → ∥ IsKnown (fed + 1) (Going new) ∥₁
 known-more fed rec at rtp state flow new e known few stamp goes =
@@ -81,7 +83,8 @@ more m shift fed packets p old new stamp s is = record {
   is = is;
 }
 
-pub at-flow : {M : Type 0} (m : Media) (shift : Shift) (state : State M) (flow : Flow M) (packets : List FlowPacket) → state ≡ Going flow → IsAt m shift packets state
+pub at-flow : {M : Type 0} (m : Media) (shift : Shift) (state : State M) (flow : Flow M) (packets : List FlowPacket) → state ≡ Going flow
+    → IsAt m shift packets state
     → (flow.media ≡ m) × (flow.shift ≡ shift) × FlowStandsFor flow packets
 at-flow m shift state flow packets e is = subst (IsAt m shift packets) e is
 
@@ -170,7 +173,8 @@ pub known-spent : {M : Type 0} (fed : ℕ) (state : State M) → state ≡ Spent
 known-spent fed state e = subst (λ s. ∥ IsKnown fed s ∥₁) (sym e) ∣ tt ∣₁
 
 -- the flow ends with a fault
-pub refused-now : {M : Type 0} {T E : Type 0} (result : Result T E) (fed rec at : ℕ) (rtp : Result Rtp PacketFault) (fault : PacketFault) (old : State M) (flow : Flow M)
+pub refused-now : {M : Type 0} {T E : Type 0} (result : Result T E) (fed rec at : ℕ) (rtp : Result Rtp PacketFault) (fault : PacketFault) (old : State M)
+    (flow : Flow M)
     (new : State M)
     → old ≡ Going flow → IsOk result × (new ≡ Refused rec fault) → fed < 2 ^ 41 → IsStamp at
     → EndsBy flow (fed_packet rec at rtp) fault
@@ -206,7 +210,8 @@ before-case (Ok value) fed p rec fault old new ok e stays stamp = record {
 }
 
 -- it ended before
-pub refused-before : {M : Type 0} {T E : Type 0} (result : Result T E) (fed rec at more_rec : ℕ) (rtp : Result Rtp PacketFault) (fault : PacketFault) (old new : State M)
+pub refused-before : {M : Type 0} {T E : Type 0} (result : Result T E) (fed rec at more_rec : ℕ) (rtp : Result Rtp PacketFault) (fault : PacketFault)
+    (old new : State M)
     → old ≡ Refused more_rec fault → IsOk result × (new ≡ Refused more_rec fault) → IsStamp at
     → StateTakes fed old new (fed_packet rec at rtp) result
 refused-before result fed rec at more_rec rtp fault old new e (ok, stays) stamp =

@@ -43,7 +43,8 @@ stamps-fit packets shift from to within few limits stamped rise =
       early =
           let part : All (λ (p : FlowPacket). p.at < 2 ^ 32 * 10 ^ 9) (slice_range packets from to) =
           all_range (λ (p : FlowPacket). p.at < 2 ^ 32 * 10 ^ 9) packets from to stamped in
-          All-map (λ at. at < 2 ^ 62) (stamp_of shift) (slice_range packets from to) (λ k d below. let early = part k d below in let most = limits.tai_most in omega (arith, early, most));
+          All-map (λ at. at < 2 ^ 62) (stamp_of shift) (slice_range packets from to)
+          (λ k d below. let early = part k d below in let most = limits.tai_most in omega (arith, early, most));
       few = omega (arith, long, within, few);
     }
 
@@ -51,7 +52,8 @@ few-groups : (a n k last : ℕ) → 1 ≤ n → last ≡ a + n * k → k ≤ las
 few-groups a n k last some e = let more = mul-le-mul_right k some in omega (arith, more, e)
 
 -- what holds of the run, by its markers
-fits-by : (packets : List FlowPacket) (shift : Shift) (from to : ℕ) (marks : List ℕ) → to ≤ length packets → length packets ≤ 2 ^ 41 → IsShift shift → AreStamped packets
+fits-by : (packets : List FlowPacket) (shift : Shift) (from to : ℕ) (marks : List ℕ) → to ≤ length packets → length packets ≤ 2 ^ 41 → IsShift shift
+    → AreStamped packets
     → IsNonDecreasingBy (λ (p : FlowPacket). p.at) packets → IsSized to marks → Fits (so_far_by packets shift from to marks)
 fits-by packets shift from to [] within few limits stamped rise sized = omega (arith, within, few)
 fits-by packets shift from to (a ∷ []) within few limits stamped rise sized = (
@@ -77,7 +79,8 @@ fits-by packets shift from to (a ∷ b ∷ rest) within few limits stamped rise 
     }
 
 -- the open run of a flow without a fault
-pub fits-at : (packets : List FlowPacket) (pt : ℕ) (shift : Shift) → first_fault packets pt ≡ None → length packets ≤ 2 ^ 41 → IsShift shift → AreStamped packets
+pub fits-at : (packets : List FlowPacket) (pt : ℕ) (shift : Shift) → first_fault packets pt ≡ None → length packets ≤ 2 ^ 41 → IsShift shift
+    → AreStamped packets
     → Fits (so_far_at packets shift (last_place (0 ∷ cuts packets (length packets))) (length packets))
 fits-at packets pt shift e few limits stamped =
     let from = last_place (0 ∷ cuts packets (length packets)) in

@@ -36,7 +36,8 @@ sequence-case : (before : Option ℕ) (x : Result Rtp PacketFault) → sequence 
 sequence-case before (Ok r) = sequence-counted before r.number
 sequence-case before (Err fault) = refl
 
-sequence-from : (before : Option ℕ) (packets : List FlowPacket) (i : ℕ) → sequence (rtp (counted_from before packets) i).number ≡ sequence (rtp packets i).number
+sequence-from : (before : Option ℕ) (packets : List FlowPacket) (i : ℕ)
+    → sequence (rtp (counted_from before packets) i).number ≡ sequence (rtp packets i).number
 sequence-from before [] i = refl
 sequence-from before (p ∷ ps) zero = sequence-case before p.rtp
 sequence-from before (p ∷ ps) (suc i) = sequence-from (number_after before (counted_rtp before p.rtp)) ps i

@@ -106,7 +106,8 @@ committed-marked packets shift from to (a ∷ b ∷ rest) within low =
 
 committed-case : (packets : List FlowPacket) (shift : Shift) (from to : ℕ) (b : Bool) → has_marker packets to ≡ b → from ≤ to → to < length packets
     → judged_packets packets from (to + 1)
-    ≡ committed_next (so_far_at packets shift from to) b (behind_first packets to (markers packets from to)) (judged_packets packets from to) (packet packets to)
+    ≡ committed_next (so_far_at packets shift from to) b (behind_first packets to (markers packets from to)) (judged_packets packets from to)
+    (packet packets to)
 committed-case packets shift from to true e order within =
     ap (judged_by packets) (places-here (has_marker packets) from to order e)
     ∙ committed-marked packets shift from to (markers packets from to) within (begun packets from to)
@@ -160,7 +161,8 @@ pub have-whole : (packets : List FlowPacket) (shift : Shift) (from to : ℕ) →
     → HaveWhole shift (so_far_at packets shift from to) (judged_packets packets from to)
 have-whole packets shift from to within sized = whole-by packets shift from to (markers packets from to) within sized
 
-ends-by : (packets : List FlowPacket) (shift : Shift) (from to : ℕ) (marks : List ℕ) → to < length packets → Begun marks to → IsSized (to + 1) (marks ++ to ∷ [])
+ends-by : (packets : List FlowPacket) (shift : Shift) (from to : ℕ) (marks : List ℕ) → to < length packets → Begun marks to → IsSized (to + 1)
+    (marks ++ to ∷ [])
     → EndsWhole (so_far_by packets shift from to marks) true (behind_first packets to marks ++ packet packets to ∷ [])
 ends-by packets shift from to [] within low sized = tt
 ends-by packets shift from to (a ∷ []) within low sized = tt

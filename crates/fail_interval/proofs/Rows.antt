@@ -42,20 +42,23 @@ judged-none packets pt shift e =
     ap (λ b. if b then absent else refused_or packets (first_fault packets pt) (judged_runs packets shift)) (none-is (length packets) e)
 
 -- of a flow without a fault
-judged-sound : (packets : List FlowPacket) (pt : ℕ) (shift : Shift) → 0 < length packets → first_fault packets pt ≡ None → judged_as_numbered packets pt shift ≡ judged_runs packets shift
+judged-sound : (packets : List FlowPacket) (pt : ℕ) (shift : Shift) → 0 < length packets → first_fault packets pt ≡ None
+    → judged_as_numbered packets pt shift ≡ judged_runs packets shift
 judged-sound packets pt shift some none =
     ap (λ b. if b then absent else refused_or packets (first_fault packets pt) (judged_runs packets shift)) (some-is (length packets) some)
     ∙ ap (λ first. refused_or packets first (judged_runs packets shift)) none
 
 -- of one without a cut
-pub judged-one : (packets : List FlowPacket) (pt : ℕ) (shift : Shift) → 0 < length packets → first_fault packets pt ≡ None → length (cuts packets (length packets)) ≡ 0
+pub judged-one : (packets : List FlowPacket) (pt : ℕ) (shift : Shift) → 0 < length packets → first_fault packets pt ≡ None
+    → length (cuts packets (length packets)) ≡ 0
     → judged_as_numbered packets pt shift ≡ in_one_run (run_outcome packets shift 0 (length packets))
 judged-one packets pt shift some none no_cut =
     judged-sound packets pt shift some none
     ∙ ap (λ b. if b then in_one_run (run_outcome packets shift 0 (length packets)) else in_runs (runs packets shift)) (none-is _ no_cut)
 
 -- and of one with cuts
-pub judged-many : (packets : List FlowPacket) (pt : ℕ) (shift : Shift) → 0 < length packets → first_fault packets pt ≡ None → 0 < length (cuts packets (length packets))
+pub judged-many : (packets : List FlowPacket) (pt : ℕ) (shift : Shift) → 0 < length packets → first_fault packets pt ≡ None
+    → 0 < length (cuts packets (length packets))
     → judged_as_numbered packets pt shift ≡ in_runs (runs packets shift)
 judged-many packets pt shift some none a_cut =
     judged-sound packets pt shift some none
@@ -105,7 +108,8 @@ pub verdict-told : {M : Type 0} (open_run : OpenRun M) (told : Run) → Tells op
 verdict-told open_run told tells m so_far s = ap (λ (r : Run). r.verdict) (tells m so_far s)
 
 -- a flow of one run
-pub verdict-one : {M : Type 0} (flow : Flow M) (packets : List FlowPacket) (open_run : OpenRun M) (told : RunVerdict) (result : Verdict) → flow.open ≡ Some open_run
+pub verdict-one : {M : Type 0} (flow : Flow M) (packets : List FlowPacket) (open_run : OpenRun M) (told : RunVerdict) (result : Verdict)
+    → flow.open ≡ Some open_run
     → length flow.done.items ≡ 0
     → Says open_run told
     → ((m : Media) (outcome : RunOutcome) → told ≡ run_verdict_of m outcome → result ≡ one_run_verdict m outcome)

@@ -39,7 +39,8 @@ names m n more stamps also kinds e f is =
     (subst (NameFirst m n stamps) (sym is) (names-first m n stamps N, names-first m n stamps NL, names-first m n stamps W)))
 
 -- this is judged of the packets of whole groups
-pub judged-of : {M : Type 0} (m : Media) (judge : WholeGroups M) (g : GroupsSoFar) (shift : Shift) (number : ℕ) (first : FlowPacket) (committed : List FlowPacket)
+pub judged-of : {M : Type 0} (m : Media) (judge : WholeGroups M) (g : GroupsSoFar) (shift : Shift) (number : ℕ) (first : FlowPacket)
+    (committed : List FlowPacket)
     (values : Judged)
     → IsWhole m judge g → AreJudged shift g committed
     → values ≡ judged_values m (record {
@@ -100,7 +101,8 @@ pub record GroupsClose {M Out Past : Type 0} (stands : Standing M) (tells : Tell
     tail = length g.stamps - length g.whole;
     stamps = g.whole;
   })
-  pub closes : (past : Past) (m : Media) (g : GroupsSoFar) (shift : Shift) (number : ℕ) (first : FlowPacket) (over : List JudgedPart) (fed committed : List FlowPacket)
+  pub closes : (past : Past) (m : Media) (g : GroupsSoFar) (shift : Shift) (number : ℕ) (first : FlowPacket) (over : List JudgedPart)
+      (fed committed : List FlowPacket)
       → IsWhole m judge g → AreJudged shift g committed
       → stands judge.meter m shift (run_by number first judge.params.n) fed committed
       → tells past before m shift over (Some (record { run = run_by number first judge.params.n; packets = committed }))
@@ -121,7 +123,8 @@ close-case stands tells past m groups values before after shift number first ove
 
 -- the run with a whole group is over
 pub close-tells : {M Out Past : Type 0} (stands : Standing M) (tells : Telling Past Out) (past : Past) (m : Media) (judge : RunJudge M) (groups : WholeGroups M)
-    (values : Judged) (before after : Out) (shift : Shift) (number : ℕ) (first : FlowPacket) (over : List JudgedPart) (so_far : SoFar) (fed committed : List FlowPacket)
+    (values : Judged) (before after : Out) (shift : Shift) (number : ℕ) (first : FlowPacket) (over : List JudgedPart) (so_far : SoFar)
+    (fed committed : List FlowPacket)
     → judge ≡ Groups groups
     → GroupsClose stands tells groups values before after
     → StandsFor m judge so_far → HaveWhole shift so_far committed
@@ -148,7 +151,8 @@ GroupsTold {Past = Past} stands tells old new before after told marker =
     }))
 
 groups-case : {M Out Past : Type 0} (stands : Standing M) (tells : Telling Past Out) (past : Past) (m : Media) (groups new : WholeGroups M) (before after : Out)
-    (told : RunPacket) (marker : Bool) (shift : Shift) (number : ℕ) (first p : FlowPacket) (over : List JudgedPart) (so_far : SoFar) (fed committed : List FlowPacket)
+    (told : RunPacket) (marker : Bool) (shift : Shift) (number : ℕ) (first p : FlowPacket) (over : List JudgedPart) (so_far : SoFar)
+    (fed committed : List FlowPacket)
     → GroupsTold stands tells groups new before after told marker
     → CanGoOn m (Groups groups) so_far told.at marker → told ≡ told_of shift p
     → HaveStamps so_far (stamps_of shift fed) → EndsWhole so_far marker (fed ++ p ∷ [])
@@ -224,7 +228,8 @@ Begins {Past = Past} stands tells m old new before after head =
     → TellsOf stands tells past m shift head.run first over new after packets packets
 
 first-case : {M Out Past : Type 0} (stands : Standing M) (tells : Telling Past Out) (past : Past) (m : Media) (count : ℕ) (group more : FirstGroup)
-    (mid new : RunJudge M) (before after : Out) (head : RunHead) (told : RunPacket) (shift : Shift) (first p : FlowPacket) (over : List JudgedPart) (so_far : SoFar)
+    (mid new : RunJudge M) (before after : Out) (head : RunHead) (told : RunPacket) (shift : Shift) (first p : FlowPacket) (over : List JudgedPart)
+    (so_far : SoFar)
     (fed committed : List FlowPacket)
     → mid ≡ First count more
     → more.stamps.items ≡ group.stamps.items ++ told.at ∷ []
@@ -244,7 +249,8 @@ first-case stands tells past m count group more mid new before after head told s
 
 -- the first group is whole with this packet
 pub first-tells : {M Out Past : Type 0} (stands : Standing M) (tells : Telling Past Out) (past : Past) (m : Media) (judge : RunJudge M) (count : ℕ)
-    (group more : FirstGroup) (mid new : RunJudge M) (before after : Out) (head : RunHead) (told : RunPacket) (marker : Bool) (shift : Shift) (first p : FlowPacket)
+    (group more : FirstGroup) (mid new : RunJudge M) (before after : Out) (head : RunHead) (told : RunPacket) (marker : Bool) (shift : Shift)
+    (first p : FlowPacket)
     (over : List JudgedPart) (so_far : SoFar) (fed committed : List FlowPacket)
     → judge ≡ First count group → marker ≡ true
     → mid ≡ First count more

@@ -34,7 +34,8 @@ stamps_from-none packets shift from =
     ap (λ k. map (stamp_of shift) (take k (drop from packets))) none
 
 -- how many they are
-pub length-stamps_from : (packets : List FlowPacket) (shift : Shift) (from to : ℕ) → to ≤ length packets → length (stamps_from packets shift from to) ≡ to - from
+pub length-stamps_from : (packets : List FlowPacket) (shift : Shift) (from to : ℕ) → to ≤ length packets
+    → length (stamps_from packets shift from to) ≡ to - from
 length-stamps_from packets shift from to within =
     let rest = drop from packets in
     let size : length rest ≡ length packets - from = length-drop from packets in
@@ -188,7 +189,14 @@ outcome-case packets shift from to (a ∷ b ∷ rest) within below =
     ap (λ e. if e then to - from else a + 1 - from) (not_none (suc (length rest))) in
     let last = last_place marks + 1 in
     let tail : to - last ≡ length (stamps_from packets shift (a + 1) to) - length (stamps_from packets shift (a + 1) last) =
-    omega (arith, length-stamps_from packets shift (a + 1) to within, length-stamps_from packets shift (a + 1) last (omega (arith, few.1, within)), few.0, few.1) in
+    omega (
+      arith,
+      length-stamps_from packets shift (a + 1) to within,
+      length-stamps_from packets shift (a + 1) last
+          (omega (arith, few.1, within)),
+      few.0,
+      few.1,
+    ) in
     ap (λ e. if e then no_whole_frame (head_len marks from to) else whole_frames record {
       n = b - a;
       groups = length marks - 1;

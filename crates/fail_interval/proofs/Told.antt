@@ -112,19 +112,22 @@ first-all stands m meter group stamps i shift r packets stamps_are many kept_so 
     subst (λ xs. stands meter m shift r xs []) (take_all i packets (omega (arith, many, size))) stood
 
 -- each of them is kept
-pub kept-size : (shift : Shift) (group : FirstGroup) (packets : List FlowPacket) → Keeps shift group packets → length group.kept.items ≡ length group.stamps.items
+pub kept-size : (shift : Shift) (group : FirstGroup) (packets : List FlowPacket) → Keeps shift group packets
+    → length group.kept.items ≡ length group.stamps.items
 kept-size shift group packets kept_so =
     ap length kept_so.kept ∙ (length-map packets kept_of ∙ sym (ap length kept_so.stamps ∙ length-map packets (stamp_of shift)))
 
 -- a call of `put` of a run with a whole group
 abbrev pub Put : {M : Type 0} → Standing M → (old new : WholeGroups M) → RunPacket → Type 0
-Put stands old new told = (shift : Shift) (r : RunOf) (p : FlowPacket) (fed committed : List FlowPacket) → CanFollow old.params old.meters (stamps_of shift fed) told.at
+Put stands old new told = (shift : Shift) (r : RunOf) (p : FlowPacket) (fed committed : List FlowPacket) → CanFollow old.params old.meters
+    (stamps_of shift fed) told.at
     → r.n ≡ old.params.n → told ≡ told_of shift p
     → stands old.meter old.params.media shift r fed committed
     → stands new.meter old.params.media shift r (fed ++ p ∷ []) committed
 
 -- the meter of such a run is told a packet
-pub put-told : {M : Type 0} (stands : Standing M) (m : Media) (old new : WholeGroups M) (so_far : Groups) (told : RunPacket) (marker : Bool) (shift : Shift) (number : ℕ)
+pub put-told : {M : Type 0} (stands : Standing M) (m : Media) (old new : WholeGroups M) (so_far : Groups) (told : RunPacket) (marker : Bool) (shift : Shift)
+    (number : ℕ)
     (first p : FlowPacket) (fed committed : List FlowPacket)
     → new.params ≡ old.params
     → Put stands old new told
@@ -141,7 +144,8 @@ put-told stands m old new so_far told marker shift number first p fed committed 
 
 -- a call of a meter's `commit`
 pub record Commits {M Out Past : Type 0} (stands : Standing M) (tells : Telling Past Out) (params : Params) (old new : M) (before after : Out) : Type 0 where
-  pub told_so : (shift : Shift) (r : RunOf) (fed committed : List FlowPacket) → r.n ≡ params.n → AreWhole r.n fed → stands old params.media shift r fed committed
+  pub told_so : (shift : Shift) (r : RunOf) (fed committed : List FlowPacket) → r.n ≡ params.n → AreWhole r.n fed
+      → stands old params.media shift r fed committed
       → stands new params.media shift r fed fed
   pub tells_so : (past : Past) (shift : Shift) (r : RunOf) (over : List JudgedPart) (fed committed : List FlowPacket) → r.n ≡ params.n → AreWhole r.n fed
       → stands old params.media shift r fed committed
@@ -172,7 +176,8 @@ commit-told stands tells past m params old new before after shift r over fed com
 
 -- where the packet has no marker nothing is committed
 pub unmarked-told : {M Out Past : Type 0} (stands : Standing M) (tells : Telling Past Out) (past : Past) (m : Media) (old new : WholeGroups M) (out : Out)
-    (so_far : Groups) (told : RunPacket) (marker : Bool) (shift : Shift) (number : ℕ) (first p : FlowPacket) (over : List JudgedPart) (fed committed : List FlowPacket)
+    (so_far : Groups) (told : RunPacket) (marker : Bool) (shift : Shift) (number : ℕ) (first p : FlowPacket) (over : List JudgedPart)
+    (fed committed : List FlowPacket)
     → marker ≡ false
     → new.params ≡ old.params
     → Put stands old new told
@@ -183,13 +188,15 @@ pub unmarked-told : {M Out Past : Type 0} (stands : Standing M) (tells : Telling
 unmarked-told stands tells past m old new out so_far told true shift number first p over fed committed e params put c stamps packet_is was = cc
 unmarked-told stands tells past m old new out so_far told false shift number first p over fed committed e params put c stamps packet_is was = record {
   stands_so = put-told stands m old new so_far told false shift number first p fed committed params put c stamps packet_is was.stands_so;
-  tells_so = subst (λ (k : Params). tells past out m shift over (Some (record { run = run_by number first k.n; packets = committed }))) (sym params) was.tells_so;
+  tells_so = subst (λ (k : Params). tells past out m shift over (Some (record { run = run_by number first k.n; packets = committed })))
+      (sym params) was.tells_so;
 }
 
 -- where it has the marker all packets so far are
 pub marked-told : {M Out Past : Type 0} (stands : Standing M) (tells : Telling Past Out) (past : Past) (m : Media) (old mid new : WholeGroups M)
     (before after : Out)
-    (so_far : Groups) (told : RunPacket) (marker : Bool) (shift : Shift) (number : ℕ) (first p : FlowPacket) (over : List JudgedPart) (fed committed : List FlowPacket)
+    (so_far : Groups) (told : RunPacket) (marker : Bool) (shift : Shift) (number : ℕ) (first p : FlowPacket) (over : List JudgedPart)
+    (fed committed : List FlowPacket)
     → marker ≡ true
     → mid.params ≡ old.params → new.params ≡ mid.params
     → Put stands old mid told

@@ -18,12 +18,14 @@ abbrev pub Judging : Type 0
 Judging = Metered (Unit {0}) (Unit {0})
 
 -- the judge is that of this media, and was fed the flow in these records
-pub record IsJudgeOf (m : Media) (file number : ℕ) (options : FlowOptions) (f : MediaFlow Judging) (items : List Record) : Type 0 where
+pub record IsJudgeOf (m : Media) (file number : ℕ) (options : FlowOptions) (f : MediaFlow Judging)
+    (items : List Record) : Type 0 where
   pub media : f.media ≡ m
   pub judge : JudgeStandsFor m (key_of file number) options f.taker.judge (flow items m)
 
 -- the judges are those of these media, in order; the first has this number
-abbrev pub AreJudgesOf : (options : FlowOptions) (file number : ℕ) → List Media → List (MediaFlow Judging) → List Record → Type 0
+abbrev pub AreJudgesOf : (options : FlowOptions) (file number : ℕ) → List Media → List (MediaFlow Judging) → List Record
+    → Type 0
 AreJudgesOf options file number [] [] items = ⊤
 AreJudgesOf options file number [] (f ∷ fs) items = ⊥
 AreJudgesOf options file number (m ∷ ms) [] items = ⊥
@@ -36,7 +38,8 @@ StandsFor media file options bank items = AreJudgesOf options file 0 media (flow
 
 -- if `old` was fed some records, `new` was fed those and then these
 abbrev pub Feeds : (old new : Bank) → List Record → Type 0
-Feeds old new more = (media : List Media) (file : ℕ) (options : FlowOptions) (items : List Record) → StandsFor media file options old items
+Feeds old new more = (media : List Media) (file : ℕ) (options : FlowOptions) (items : List Record)
+    → StandsFor media file options old items
     → StandsFor media file options new (items ++ more)
 
 -- the empty list of records changes nothing

@@ -1,5 +1,6 @@
 -- The change of a judge's state and of its numbering by a packet.
-use Rattle.std.specs.Prelude.{◌≡◌, ◌<◌, ◌+◌, ◌^◌, ℕ, true, false, List, [], ◌∷◌, ◌++◌, None, IsErr, IsOk, Ok, OnErr, OnOk, Result}
+use Rattle.std.specs.Prelude.{◌≡◌, ◌<◌, ◌+◌, ◌^◌, ℕ, true, false, List, [], ◌∷◌, ◌++◌, None, IsErr, IsOk, Ok, OnErr}
+use Rattle.std.specs.Prelude.{OnOk, Result}
 use Rattle.frame_group.specs.Expected.{last_number_of, raise_of, with_number}
 use Rattle.timing_base.specs.Flows.{first_fault}
 use Rattle.timing_base.specs.Media.{Media}

@@ -20,7 +20,8 @@ use Rattle.fail_interval.specs.declared.judge.State.TheVariants.{Going, Refused,
 
 -- the output contains the results of the first n packets of a flow, up to the first fault: of the judged runs that have
 -- ended, and of the complete frames or fields of the open one
-abbrev pub TellsSoFar : {Past Out : Type 0} → Telling Past Out → Past → Media → (shift : Shift) → List FlowPacket → (n : ℕ)
+abbrev pub TellsSoFar : {Past Out : Type 0} → Telling Past Out → Past → Media → (shift : Shift) → List FlowPacket
+    → (n : ℕ)
     → Out → Type 0
 TellsSoFar tells past m shift packets n out =
     let sound = sound_before (first_fault_below packets m.pt n) n in

@@ -40,7 +40,8 @@ feeds_none wants stands tells m x past key options packets h =
 pub feeds_other : {M O Past : Type 0} (wants : Bool) (stands : Standing M) (tells : Telling Past O) (m : Media)
     (x : Metered M O) (r : Record) → flow_packet m r ≡ None → Feeds wants stands tells m x x (r ∷ [])
 feeds_other wants stands tells m x r is past key options packets h =
-    subst (λ (o : Option FlowPacket). IsFed wants stands tells past m key options x (packets ++ cons_option o [])) (sym is)
+    subst (λ (o : Option FlowPacket). IsFed wants stands tells past m key options x (packets ++ cons_option o []))
+    (sym is)
     (feeds_none wants stands tells m x past key options packets h)
 
 -- records that are fed in two parts are fed as all of them are

@@ -23,7 +23,8 @@ behind_first packets to (first ∷ rest) = slice_range packets (first + 1) to
 -- the meter of the open run was fed the packets after its first marker and before packet n, with gaps at these places;
 -- the output contains the results of the runs that have ended and of the open one
 pub record TellsBy {M Out Past : Type 0} (stands : Standing M) (tells : Telling Past Out) (past : Past) (m : Media)
-    (shift : Shift) (packets : List FlowPacket) (places : List ℕ) (n : ℕ) (open_run : OpenRun M) (out : Out) : Type 0 where
+    (shift : Shift) (packets : List FlowPacket) (places : List ℕ) (n : ℕ) (open_run : OpenRun M)
+    (out : Out) : Type 0 where
   pub told : IsTold stands m shift (length places + 1) (packet packets (last_place (0 ∷ places))) open_run.judge
       (behind_first packets n (markers packets (last_place (0 ∷ places)) n))
       (judged_packets packets (last_place (0 ∷ places)) n)
@@ -68,7 +69,8 @@ TellsExpected {Out = Out} {Past = Past} stands tells old new rec at =
 abbrev pub TellsOver : {M Out Past : Type 0} → Standing M → Telling Past Out → OpenRun M → (before after : Out)
     → Type 0
 TellsOver {Past = Past} stands tells open_run before after =
-    (past : Past) (m : Media) (shift : Shift) (number : ℕ) (first : FlowPacket) (over : List JudgedPart) (so_far : SoFar)
+    (past : Past) (m : Media) (shift : Shift) (number : ℕ) (first : FlowPacket) (over : List JudgedPart)
+    (so_far : SoFar)
     (fed committed : List FlowPacket) → RunStandsFor m open_run.judge so_far → HaveWhole shift so_far committed
     → TellsOf stands tells past m shift number first over open_run.judge before fed committed
     → tells past after m shift (over ++ part_by m number first committed (outcome_of so_far)) None

@@ -26,7 +26,12 @@ impl Bank {
 
     /// Returns the judges of these media for a file, before its first packet record. `file` counts from 0. All flows
     /// have these options. Returns `Err` if memory runs out.
-    pub fn new(alloc: Global, media: &[Media], file: u32, options: FlowOptions) -> Result<Bank, OutOfMemory>
+    pub fn new(
+        alloc: Global,
+        media: &[Media],
+        file: u32,
+        options: FlowOptions,
+    ) -> Result<Bank, OutOfMemory>
         requires few { length media.now ≤ 64 }
         ensures stands { IfOk result (λ bank. StandsFor media.now file options bank []) }
         ensures none { IfOk result (λ bank. records bank ≡ 0) }
@@ -46,8 +51,8 @@ impl Bank {
 
     /// Appends the results of the media to `rows`, in the order of the media. Returns `Err` if memory runs out.
     pub fn finish(self, rows: &mut Vec<Row>) -> Result<(), OutOfMemory>
-        ensures rows { IfOk result (λ _. (media : List MediaValue) (file : ℕ) (options : FlowOptionsValue) (items : List Record)
-            → StandsFor media file options self items
+        ensures rows { IfOk result (λ _. (media : List MediaValue) (file : ℕ) (options : FlowOptionsValue)
+            (items : List Record) → StandsFor media file options self items
             → rows.new.items ≡ rows.old.items ++ rows_of options file media items) }
     {
         let Bank { demux, .. } = self;

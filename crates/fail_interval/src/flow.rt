@@ -21,7 +21,9 @@ use frame_group::Grouper;
 use run_meter::{RunHead, RunMeter, RunPacket};
 use std::alloc::{AllocError as OutOfMemory, Global};
 use std::mem;
-use timing_base::{Items, Media, PacketFault, Rtp, Run, RunVerdict, Runs, Shift, Unjudged, Verdict};
+use timing_base::{
+    Items, Media, PacketFault, Rtp, Run, RunVerdict, Runs, Shift, Unjudged, Verdict,
+};
 
 /// A run between gaps that hasn't ended.
 #[derive(Drop)]

@@ -39,8 +39,9 @@ impl<M: RunMeter> State<M> {
 
     /// Returns the judged number of the last packet, or `None` before the first packet and after a fault.
     fn last_number(&self) -> Option<u32>
-        ensures { (media : MediaValue) (shift : ShiftValue) (packets : List FlowPacket) → IsAt media shift packets self.now
-            → first_fault packets media.pt ≡ None → result ≡ last_number_of packets }
+        ensures { (media : MediaValue) (shift : ShiftValue) (packets : List FlowPacket)
+            → IsAt media shift packets self.now → first_fault packets media.pt ≡ None
+            → result ≡ last_number_of packets }
     {
         match self {
             State::Going(flow) => flow.last_number(),
@@ -109,13 +110,7 @@ impl<M: RunMeter> State<M> {
     /// Takes the next packet, which was parsed, with its judged number. Returns `Err` if memory runs out, or ran out
     /// before.
     #[inline(always)]
-    fn feed(
-        &mut self,
-        rec: u64,
-        at: u64,
-        rtp: Rtp,
-        out: &mut M::Out,
-    ) -> Result<(), OutOfMemory>
+    fn feed(&mut self, rec: u64, at: u64, rtp: Rtp, out: &mut M::Out) -> Result<(), OutOfMemory>
         requires stamp { IsStamp at }
         requires known { (flow : FlowValue M) → self.old ≡ Going flow
             → ∥ ((packets : List FlowPacket) × CanGoOn flow packets at) ∥₁ }
@@ -265,10 +260,7 @@ impl<M: RunMeter> FlowJudge<M> {
         ensures is { result ≡ expected_of self.now }
     {
         match &self.state {
-            State::Going(flow) => match flow.expected() {
-                Some(rtp) => Some(self.counting.own(rtp)),
-                None => None,
-            },
+            State::Going(flow) => Some(self.counting.own(flow.expected()?)),
             _ => None,
         }
     }
@@ -383,10 +375,11 @@ impl<M: RunMeter> FlowJudge<M> {
 
     /// Ends the flow, and returns its result. Returns `Err` if memory runs out.
     pub fn finish(self, out: &mut M::Out) -> Result<Row, OutOfMemory>
-        ensures row { IfOk result (λ told. (media : MediaValue) (key : KeyValue) (options : FlowOptionsValue) (packets : List FlowPacket)
-            → StandsFor media key options self packets → told ≡ row packets key media options) }
-        ensures tells { IfOk result (λ _. (past : M.Past) (media : MediaValue) (key : KeyValue) (options : FlowOptionsValue)
+        ensures row { IfOk result (λ told. (media : MediaValue) (key : KeyValue) (options : FlowOptionsValue)
             (packets : List FlowPacket) → StandsFor media key options self packets
+            → told ≡ row packets key media options) }
+        ensures tells { IfOk result (λ _. (past : M.Past) (media : MediaValue) (key : KeyValue)
+            (options : FlowOptionsValue) (packets : List FlowPacket) → StandsFor media key options self packets
             → JudgeTells M.stands M.tells past media options packets self out.old
             → TellsOfAll M.tells past media options packets out.new) }
     {

@@ -158,17 +158,17 @@ pub fn open_runs_by_hand()
 
 /// The output of a judge's meters contains the runs of the packets fed, up to the first fault.
 pub fn output_tells_so_far<M: RunMeter>()
-    ensures { (past : M.Past) (m : Media) (key : FlowKey) (options : FlowOptions) (judge : JudgeValue M) (packets : List FlowPacket)
-        (out : M.Out) → StandsFor m key options judge packets
+    ensures { (past : M.Past) (m : Media) (key : FlowKey) (options : FlowOptions) (judge : JudgeValue M)
+        (packets : List FlowPacket) (out : M.Out) → StandsFor m key options judge packets
         → JudgeTells M.stands M.tells past m options packets judge out
         → TellsSoFar M.tells past m options.shift (numbered options.seq16 packets) (length packets) out }
 {}
 
 /// The owner of the output may take results out of it, if the meter's `Past` accounts for what was taken.
 pub fn output_may_be_taken_out<M: RunMeter>()
-    ensures { (past later : M.Past) (m : Media) (options : FlowOptions) (judge : JudgeValue M) (packets : List FlowPacket)
-        (out left : M.Out) → ((over : List JudgedPart) (part : Option OpenPart) → M.tells past out m options.shift over part
-        → M.tells later left m options.shift over part)
+    ensures { (past later : M.Past) (m : Media) (options : FlowOptions) (judge : JudgeValue M)
+        (packets : List FlowPacket) (out left : M.Out) → ((over : List JudgedPart) (part : Option OpenPart)
+        → M.tells past out m options.shift over part → M.tells later left m options.shift over part)
         → JudgeTells M.stands M.tells past m options packets judge out
         → JudgeTells M.stands M.tells later m options packets judge left }
 {}

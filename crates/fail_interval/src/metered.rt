@@ -30,7 +30,13 @@ impl<M: RunMeter<Out = O>, O: Drop> Metered<M, O> {
     /// Returns the judge of the flow with this key, this media and these options, before the first packet. `out` must
     /// not contain any result yet. The shift changes the capture timestamps of judged packets, but not those in a
     /// reported fault.
-    pub fn new(alloc: Global, media: &Media, key: FlowKey, options: FlowOptions, out: O) -> Metered<M, O>
+    pub fn new(
+        alloc: Global,
+        media: &Media,
+        key: FlowKey,
+        options: FlowOptions,
+        out: O,
+    ) -> Metered<M, O>
         ensures fed { (past : M.Past) → M.tells past out media.now options.shift [] None
             → IsFed M.WANTS_LEVELS M.stands M.tells past media.now key options result [] }
         ensures none { count_fed result.judge ≡ 0 }
@@ -45,8 +51,9 @@ impl<M: RunMeter<Out = O>, O: Drop> Metered<M, O> {
 
     /// Ends the flow, and returns its result and the output of its meters. Returns `Err` if memory runs out.
     pub fn finish(self) -> Result<(Row, O), OutOfMemory>
-        ensures row { IfOk result (λ told. (media : MediaValue) (key : KeyValue) (options : FlowOptionsValue) (packets : List PacketValue)
-            → StandsFor media key options self.judge packets → told.0 ≡ row packets key media options) }
+        ensures row { IfOk result (λ told. (media : MediaValue) (key : KeyValue) (options : FlowOptionsValue)
+            (packets : List PacketValue) → StandsFor media key options self.judge packets
+            → told.0 ≡ row packets key media options) }
         ensures tells { M.WANTS_LEVELS ≡ true → IfOk result (λ told. (past : M.Past) (media : MediaValue)
             (key : KeyValue) (options : FlowOptionsValue) (packets : List PacketValue)
             → IsFed M.WANTS_LEVELS M.stands M.tells past media key options self packets

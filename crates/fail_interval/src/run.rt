@@ -108,8 +108,9 @@ impl<M: RunMeter> WholeGroups<M> {
         requires { ∥ ((m : MediaValue) × (so_far : Groups) × CanGoOn m self.old so_far packet.at false) ∥₁ }
         ensures whole { (m : MediaValue) (so_far : Groups) → CanGoOn m self.old so_far packet.at false
             → IsWhole m self.new (groups_next so_far packet.at false) }
-        ensures told { M.WANTS_LEVELS ≡ true → IfOk result (λ _. (m : MediaValue) (so_far : Groups) (shift : Shift) (number : ℕ)
-            (first p : FlowPacket) (fed committed : List FlowPacket) → CanGoOn m self.old so_far packet.at false
+        ensures told { M.WANTS_LEVELS ≡ true → IfOk result (λ _. (m : MediaValue) (so_far : Groups) (shift : Shift)
+            (number : ℕ) (first p : FlowPacket) (fed committed : List FlowPacket)
+            → CanGoOn m self.old so_far packet.at false
             → so_far.stamps ≡ stamps_of shift fed → packet ≡ told_of shift p
             → M.stands self.old.meter m shift (run_by number first self.old.params.n) fed committed
             → M.stands self.new.meter m shift (run_by number first self.new.params.n) (fed ++ p ∷ []) committed) }
@@ -126,8 +127,8 @@ impl<M: RunMeter> WholeGroups<M> {
             → CanGoOn m self.old so_far packet.at marker
             → IsWhole m self.new (groups_next so_far packet.at marker)) }
         ensures told { M.WANTS_LEVELS ≡ true → IfOk result (λ _. (past : M.Past) (m : MediaValue) (so_far : Groups)
-            (shift : Shift) (number : ℕ) (first p : FlowPacket) (over : List JudgedPart) (fed committed : List FlowPacket)
-            → CanGoOn m self.old so_far packet.at marker
+            (shift : Shift) (number : ℕ) (first p : FlowPacket) (over : List JudgedPart)
+            (fed committed : List FlowPacket) → CanGoOn m self.old so_far packet.at marker
             → so_far.stamps ≡ stamps_of shift fed → packet ≡ told_of shift p
             → (marker ≡ true → AreWhole so_far.n (fed ++ p ∷ []))
             → M.stands self.old.meter m shift (run_by number first self.old.params.n) fed committed
@@ -215,8 +216,9 @@ impl<M: RunMeter> WholeGroups<M> {
               tail = length so_far.stamps - length so_far.whole;
               stamps = so_far.whole;
             })) }
-        ensures tells { IfOk result (λ judged. (past : M.Past) (m : MediaValue) (so_far : Groups) (shift : Shift) (number : ℕ)
-            (first : FlowPacket) (over : List JudgedPart) (fed committed : List FlowPacket) → IsWhole m self so_far
+        ensures tells { IfOk result (λ judged. (past : M.Past) (m : MediaValue) (so_far : Groups) (shift : Shift)
+            (number : ℕ) (first : FlowPacket) (over : List JudgedPart) (fed committed : List FlowPacket)
+            → IsWhole m self so_far
             → AreJudged shift so_far committed
             → M.stands self.meter m shift (run_by number first self.params.n) fed committed
             → M.tells past out.old m shift over (Some (record {
@@ -351,8 +353,8 @@ impl<M: RunMeter> RunJudge<M> {
     fn begin_first(&mut self, alloc: Global)
         ensures takes { (m : MediaValue) (packets : ℕ) → self.old ≡ Head packets
             → StandsFor m self.new (in_first packets []) }
-        ensures told { (m : MediaValue) (shift : Shift) (number : ℕ) (first : FlowPacket) (packets : ℕ) → self.old ≡ Head packets
-            → IsTold M.stands m shift number first self.new [] [] }
+        ensures told { (m : MediaValue) (shift : Shift) (number : ℕ) (first : FlowPacket) (packets : ℕ)
+            → self.old ≡ Head packets → IsTold M.stands m shift number first self.new [] [] }
     {
         if let RunJudge::Head { packets } = self {
             *self = RunJudge::First {
@@ -391,8 +393,9 @@ impl<M: RunMeter> RunJudge<M> {
     pub fn close(self, out: &mut M::Out) -> Result<RunVerdict, OutOfMemory>
         ensures verdict { IfOk result (λ verdict. (m : MediaValue) (so_far : SoFar) → StandsFor m self so_far
             → verdict ≡ run_verdict_of m (outcome_of so_far)) }
-        ensures tells { IfOk result (λ _. (past : M.Past) (m : MediaValue) (shift : Shift) (number : ℕ) (first : FlowPacket)
-            (over : List JudgedPart) (so_far : SoFar) (fed committed : List FlowPacket) → StandsFor m self so_far
+        ensures tells { IfOk result (λ _. (past : M.Past) (m : MediaValue) (shift : Shift) (number : ℕ)
+            (first : FlowPacket) (over : List JudgedPart) (so_far : SoFar) (fed committed : List FlowPacket)
+            → StandsFor m self so_far
             → HaveWhole shift so_far committed
             → TellsOf M.stands M.tells past m shift number first over self out.old fed committed
             → M.tells past out.new m shift (over ++ part_by m number first committed (outcome_of so_far)) None) }

@@ -13,7 +13,8 @@ pub returns-clause-tells : goal.returns-clause-tells
 returns-clause-tells g c = λ wants past packets i so_far rtp next number marker timestamp starts o sound t.
     let run = c.in_ok-open.ensures in
     let closed = c.in_ok-close.ensures in
-    begins-told-as g.M.RunMeter.stands g.M.RunMeter.tells past c.args.self.now.media c.close.new.self.media packets c.args.self.now.shift c.close.new.self.shift i
+    begins-told-as g.M.RunMeter.stands g.M.RunMeter.tells past c.args.self.now.media c.close.new.self.media packets c.args.self.now.shift c.close.new.self.shift
+    i
     c.args.self.now.media.pt rtp c.args.marker so_far c.args.self.now.done.items c.close.new.self.done.items c.args.self.now.open c.in_ok-open.open
     (record { run = c.len.result + 1; rec = c.args.packet.rec; number = c.args.number }) c.args.packet c.args.out.now c.close.new.out c.start.new.out
     c.close.ensures.media c.close.ensures.shift marker next timestamp starts o sound (omega (arith, c.len.ensures, c.close.new.self.done.ok.0)) refl number

@@ -27,7 +27,8 @@ returns-in-Some-clause-goes_on g c = λ _ packets h.
 
 pub returns-clause-goes_on : goal.returns-clause-goes_on
 returns-clause-goes_on g c = λ _ packets h.
-    begins c.args.self.now c.if-is_none.self c.begin.new.self packets c.args.rec c.args.at c.stamp.result c.args.rtp c.in-Ok.cut c.feed.new.self c.stamp.ensures.is
+    begins c.args.self.now c.if-is_none.self c.begin.new.self packets c.args.rec c.args.at c.stamp.result c.args.rtp c.in-Ok.cut c.feed.new.self
+    c.stamp.ensures.is
     (elim c.if-is_none.branch as (λ _. c.if-is_none.self ≡ with_parts c.args.self.now c.feed.new.self c.args.self.now.open) [
       | then-is_none+in_default w ↦ w.self-is
       | else-is_none w ↦ w.self-is
@@ -52,7 +53,8 @@ returns-in-Some-clause-tells g c = λ _ wants past packets h t.
 
 pub returns-clause-tells : goal.returns-clause-tells
 returns-clause-tells g c = λ _ wants past packets h t.
-    begins-tells g.M.RunMeter.stands g.M.RunMeter.tells past c.args.self.now c.if-is_none.self c.begin.new.self packets c.args.rec c.args.at c.stamp.result c.args.rtp
+    begins-tells g.M.RunMeter.stands g.M.RunMeter.tells past c.args.self.now c.if-is_none.self c.begin.new.self packets c.args.rec c.args.at c.stamp.result
+    c.args.rtp
     c.in-Ok.cut
     c.feed.new.self c.args.out.now c.begin.new.out c.stamp.ensures.is
     (elim c.if-is_none.branch as (λ _. c.if-is_none.self ≡ with_parts c.args.self.now c.feed.new.self c.args.self.now.open) [

@@ -7,7 +7,8 @@ use Rattle.fail_interval.proofs.judge.FlowJudge.feed_unread.Goals as goal
 
 pub invariant_of-self : goal.invariant_of-self
 invariant_of-self g c = record {
-  known = (refuses _ c.args.self.now.fed c.args.rec c.args.at (Err c.args.fault) c.args.fault c.args.self.now.state _ c.refuse.ensures c.requires.few c.requires.stamp
+  known = (refuses _ c.args.self.now.fed c.args.rec c.args.at (Err c.args.fault)
+      c.args.fault c.args.self.now.state _ c.refuse.ensures c.requires.few c.requires.stamp
       (λ flow packets rest h. unread-ends flow packets rest c.args.rec c.args.at c.args.fault h)).known c.args.self.now.known;
 }
 
