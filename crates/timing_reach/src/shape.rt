@@ -42,7 +42,7 @@ fn told_of(
     options: FlowOptions,
     kept: KeptFlow,
 ) -> Result<Answer, OutOfMemory>
-    requires read { (list : Bool) × IsRead media.now options list kept }
+    requires { (list : Bool) × IsRead media.now options list kept }
     ensures ends { IfOk result (λ answer. judged_ends false answer.status ≡ true) }
     ensures answers { IfOk result (λ answer. (list : Bool) (items : List Record)
         → IsKeptFlow media.now options list items kept

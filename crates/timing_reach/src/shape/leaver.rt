@@ -28,7 +28,7 @@ impl Leaver {
     /// Returns a leaver before the first packet of a run that was judged with this result. `first` is the capture
     /// timestamp of that packet in nanoseconds, as it stands in the capture.
     pub fn new(media: &Media, judged: &Judged, kind: Kind, first: u64, shift: Shift) -> Leaver
-        requires first { IsStamp first }
+        requires { IsStamp first }
         ensures none { count_left result ≡ 0 }
         ensures stands { HasLet (record {
           media = media.now;

@@ -74,7 +74,7 @@ fn shape_list(
     judged: &Judged,
     stamps: Vec<u64>,
 ) -> Result<Answer, OutOfMemory>
-    requires can { CanShape media.now shift judged.now (Stamps stamps) }
+    requires { CanShape media.now shift judged.now (Stamps stamps) }
     ensures ends { IfOk result (λ answer. judged_ends false answer.status ≡ true) }
     ensures shape { IfOk result (λ answer. IsShapeOf media.now kind shift judged.now (Stamps stamps) answer) }
 {
@@ -93,7 +93,7 @@ fn shape_capture(
     judged: &Judged,
     bytes: Vec<u8>,
 ) -> Result<Answer, OutOfMemory>
-    requires can { CanShape media.now shift judged.now (Capture bytes) }
+    requires { CanShape media.now shift judged.now (Capture bytes) }
     ensures ends { IfOk result (λ answer. judged_ends false answer.status ≡ true) }
     ensures shape { IfOk result (λ answer. IsShapeOf media.now kind shift judged.now (Capture bytes) answer) }
 {
@@ -119,7 +119,7 @@ pub fn shape_kept(
     judged: &Judged,
     packets: Kept,
 ) -> Result<Answer, OutOfMemory>
-    requires can { CanShape media.now shift judged.now packets }
+    requires { CanShape media.now shift judged.now packets }
     ensures ends { IfOk result (λ answer. judged_ends false answer.status ≡ true) }
     ensures shape { IfOk result (λ answer. IsShapeOf media.now kind shift judged.now packets answer) }
 {

@@ -8,14 +8,14 @@ use Rattle.timing_reach.proofs.KeptShapes.{first-held, judged_part, list-shape, 
 use Rattle.timing_reach.proofs.Takings.{if-ok}
 use Rattle.timing_reach.proofs.shape.shaping.shape_list.Goals as goal
 
-pub new-leaver-requires-clause-first : goal.new-leaver-requires-clause-first
-new-leaver-requires-clause-first c =
+pub new-leaver-requires : goal.new-leaver-requires
+new-leaver-requires c =
     let j = c.args.judged.now in
     let first : c.judged.inside.head ≡ j.head = search rules in
     let count : c.judged.inside.packets ≡ j.packets = search rules in
     let same =
     part-same j c.judged.inside.head c.judged.inside.packets c.deref.result.now c.args.stamps.items first count c.deref.ensures.value in
-    subst (λ (l : List ℕ). IsStamp (slice_index l 0)) (sym same) (first-held c.args.media.now c.args.shift j c.args.stamps c.requires.can)
+    subst (λ (l : List ℕ). IsStamp (slice_index l 0)) (sym same) (first-held c.args.media.now c.args.shift j c.args.stamps c.requires)
 
 pub list_delays-requires-clause-stamps : goal.list_delays-requires-clause-stamps
 list_delays-requires-clause-stamps c =
@@ -24,7 +24,7 @@ list_delays-requires-clause-stamps c =
     let count : c.judged.inside.packets ≡ j.packets = search rules in
     let same =
     part-same j c.judged.inside.head c.judged.inside.packets c.deref.result.now c.args.stamps.items first count c.deref.ensures.value in
-    subst (λ (l : List ℕ). All IsStamp l) (sym same) (part-held c.args.media.now c.args.shift j c.args.stamps c.requires.can)
+    subst (λ (l : List ℕ). All IsStamp l) (sym same) (part-held c.args.media.now c.args.shift j c.args.stamps c.requires)
 
 pub returns-clause-shape : goal.returns-clause-shape
 returns-clause-shape c =
