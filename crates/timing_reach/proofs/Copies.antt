@@ -6,12 +6,11 @@ use Rattle.std.proofs.Math.Seq.{get_or-append_seam}
 use Rattle.std.proofs.lemmas.Bool.{cases_lt}
 use Rattle.std.proofs.lemmas.Bool.Decides.{nat_tests}
 use Rattle.std.proofs.lemmas.List.{get_or_append_left}
-use Rattle.timing_base.specs.Shifts.{FlowOptions}
+use Rattle.timing_base.specs.Shifts.{Shift, unshifted}
 use Rattle.pcap_reader.specs.WrittenHeads.{file_head, record_head}
 use Rattle.timing_base.specs.Captures.{Record}
-use Rattle.timing_reach.specs.Shapes.{leaves_at, records_text, shaped_capture}
+use Rattle.timing_reach.specs.Shapes.{last_left, leaves_at, records_text, shaped_capture}
 use Rattle.timing_reach.specs.shape.Keeping.{came_text}
-use Rattle.timing_reach.specs.shape.Shaping.{last_left}
 use Rattle.timing_reach.specs.shape.Walking.{held_back}
 
 -- the record of a packet that leaves at this instant
@@ -40,37 +39,36 @@ records-same leaves also k (x ∷ xs) same =
     (records-same leaves also (k + 1) xs (λ j stamp few. same j stamp (omega (arith, few))))
 
 -- when a packet leaves, by what its place is
-pub leaves-by : (options : FlowOptions) (head : ℕ) (departures : List ℕ) (k stamp : ℕ) (b c : Bool) → nat_lt k head ≡ b → nat_lt k (head + length departures) ≡ c
-    → leaves_at options head departures k stamp
-    ≡ (if b then stamp else if c then slice_index departures (k - head) - options * 10 ^ 9
-    else max (stamp + options * 10 ^ 9) (slice_index departures (length departures - 1)) - options * 10 ^ 9)
-leaves-by options head departures k stamp b c first second =
-    let judged = slice_index departures (k - head) - options * 10 ^ 9 in
-    let behind = max (stamp + options * 10 ^ 9) (slice_index departures (length departures - 1)) - options * 10 ^ 9 in
+pub leaves-by : (shift : Shift) (head : ℕ) (departures : List ℕ) (k stamp : ℕ) (b c : Bool) → nat_lt k head ≡ b → nat_lt k (head + length departures) ≡ c
+    → leaves_at shift head departures k stamp
+    ≡ (if b then stamp else if c then unshifted shift (slice_index departures (k - head)) else max stamp (last_left shift departures))
+leaves-by shift head departures k stamp b c first second =
+    let judged = unshifted shift (slice_index departures (k - head)) in
+    let behind = max stamp (last_left shift departures) in
     ap (λ (x : Bool). if x then stamp else if nat_lt k (head + length departures) then judged else behind) first
     ∙ ap (λ (x : Bool). if b then stamp else if x then judged else behind) second
 
-pub leaves-judged : (options : FlowOptions) (head : ℕ) (departures : List ℕ) (k stamp : ℕ) → head ≤ k → k < head + length departures
-    → leaves_at options head departures k stamp ≡ slice_index departures (k - head) - options * 10 ^ 9
-leaves-judged options head departures k stamp low few =
-    leaves-by options head departures k stamp false true (grind (arith, nat_tests)) (grind (arith, nat_tests))
+pub leaves-judged : (shift : Shift) (head : ℕ) (departures : List ℕ) (k stamp : ℕ) → head ≤ k → k < head + length departures
+    → leaves_at shift head departures k stamp ≡ unshifted shift (slice_index departures (k - head))
+leaves-judged shift head departures k stamp low few =
+    leaves-by shift head departures k stamp false true (grind (arith, nat_tests)) (grind (arith, nat_tests))
 
 -- a packet before one more judged one leaves as it did
-leaves-before : (options : FlowOptions) (head : ℕ) (departures : List ℕ) (d k stamp : ℕ) → k < head + length departures
-    → leaves_at options head (departures ++ d ∷ []) k stamp ≡ leaves_at options head departures k stamp
-leaves-before options head departures d k stamp few =
+leaves-before : (shift : Shift) (head : ℕ) (departures : List ℕ) (d k stamp : ℕ) → k < head + length departures
+    → leaves_at shift head (departures ++ d ∷ []) k stamp ≡ leaves_at shift head departures k stamp
+leaves-before shift head departures d k stamp few =
     let more = departures ++ d ∷ [] in
     let long : length more ≡ length departures + 1 = length-append departures (d ∷ []) in
     let second : nat_lt k (head + length departures) ≡ true = grind (arith, nat_tests) in
     let third : nat_lt k (head + length more) ≡ true = grind (arith, nat_tests) in
-    elim (cases_lt k head) as (λ _. leaves_at options head more k stamp ≡ leaves_at options head departures k stamp) [
+    elim (cases_lt k head) as (λ _. leaves_at shift head more k stamp ≡ leaves_at shift head departures k stamp) [
       | inl early ↦
           let first : nat_lt k head ≡ true = grind (arith, nat_tests) in
-          leaves-by options head more k stamp true true first third ∙ sym (leaves-by options head departures k stamp true true first second)
+          leaves-by shift head more k stamp true true first third ∙ sym (leaves-by shift head departures k stamp true true first second)
       | inr late ↦
-          leaves-judged options head more k stamp late (omega (arith, few, long))
-          ∙ ap (λ x. x - options * 10 ^ 9) (get_or_append_left departures (d ∷ []) 0 (k - head) (omega (arith, late, few)))
-          ∙ sym (leaves-judged options head departures k stamp late few)
+          leaves-judged shift head more k stamp late (omega (arith, few, long))
+          ∙ ap (unshifted shift) (get_or_append_left departures (d ∷ []) 0 (k - head) (omega (arith, late, few)))
+          ∙ sym (leaves-judged shift head departures k stamp late few)
     ]
 
 -- with one packet more
@@ -81,44 +79,59 @@ copy-more leaves records r at here =
     records-more leaves 0 records r ∙ ap (λ k. records_text leaves 0 records ++ record_at (leaves k r.stamp) r) start
     ∙ ap (λ x. records_text leaves 0 records ++ record_at x r) here
 
+-- the last of some departures, and of one more
+pub last-left : (shift : Shift) (departures : List ℕ) → 0 < length departures
+    → last_left shift departures ≡ unshifted shift (slice_index departures (length departures - 1))
+last-left shift [] some = absurd (omega (arith, some))
+last-left shift (d ∷ ds) some =
+    let place : length ds ≡ length (d ∷ ds) - 1 = omega arith in
+    ap (λ k. unshifted shift (slice_index (d ∷ ds) k)) place
+
+pub last-more : (shift : Shift) (departures : List ℕ) (d : ℕ) → last_left shift (departures ++ d ∷ []) ≡ unshifted shift d
+last-more shift departures d =
+    let more = departures ++ d ∷ [] in
+    let long : length more ≡ length departures + 1 = length-append departures (d ∷ []) in
+    let place : length more - 1 ≡ length departures = omega (arith, long) in
+    last-left shift more (omega (arith, long)) ∙ ap (λ k. unshifted shift (slice_index more k)) place
+    ∙ ap (unshifted shift) (get_or-append_seam departures d [] 0)
+
 -- with one judged packet more
-pub capture-judged : (options : FlowOptions) (head : ℕ) (departures : List ℕ) (d : ℕ) (records : List Record) (r : Record) → length records ≡ head + length departures
-    → shaped_capture options head (departures ++ d ∷ []) (records ++ r ∷ []) ≡ shaped_capture options head departures records ++ record_at (d - options * 10 ^ 9) r
-capture-judged options head departures d records r place =
+pub capture-judged : (shift : Shift) (head : ℕ) (departures : List ℕ) (d : ℕ) (records : List Record) (r : Record) → length records ≡ head + length departures
+    → shaped_capture shift head (departures ++ d ∷ []) (records ++ r ∷ []) ≡ shaped_capture shift head departures records ++ record_at (unshifted shift d) r
+capture-judged shift head departures d records r place =
     let more = departures ++ d ∷ [] in
     let long : length more ≡ length departures + 1 = length-append departures (d ∷ []) in
     let number : length records - head ≡ length departures = omega (arith, place) in
-    let here : leaves_at options head more (length records) r.stamp ≡ d - options * 10 ^ 9 =
-    leaves-judged options head more (length records) r.stamp (omega (arith, place)) (omega (arith, place, long))
-    ∙ ap (λ k. slice_index more k - options * 10 ^ 9) number
-    ∙ ap (λ x. x - options * 10 ^ 9) (get_or-append_seam departures d [] 0) in
+    let here : leaves_at shift head more (length records) r.stamp ≡ unshifted shift d =
+    leaves-judged shift head more (length records) r.stamp (omega (arith, place)) (omega (arith, place, long))
+    ∙ ap (λ k. unshifted shift (slice_index more k)) number
+    ∙ ap (unshifted shift) (get_or-append_seam departures d [] 0) in
     ap (λ l. file_head ++ l)
-    (copy-more (leaves_at options head more) records r (d - options * 10 ^ 9) here
-    ∙ ap (λ l. l ++ record_at (d - options * 10 ^ 9) r) (records-same (leaves_at options head more)
-    (leaves_at options head departures) 0 records (λ j stamp few. leaves-before options head departures d j stamp (omega (arith, few, place)))))
-    ∙ sym (append_assoc file_head (records_text (leaves_at options head departures) 0 records) (record_at (d - options * 10 ^ 9) r))
+    (copy-more (leaves_at shift head more) records r (unshifted shift d) here
+    ∙ ap (λ l. l ++ record_at (unshifted shift d) r) (records-same (leaves_at shift head more)
+    (leaves_at shift head departures) 0 records (λ j stamp few. leaves-before shift head departures d j stamp (omega (arith, few, place)))))
+    ∙ sym (append_assoc file_head (records_text (leaves_at shift head departures) 0 records) (record_at (unshifted shift d) r))
 
 -- with one packet more before the judged ones, or behind them
-pub capture-beside : (options : FlowOptions) (head left : ℕ) (departures : List ℕ) (records : List Record) (r : Record)
-    → left ≡ slice_index departures (length departures - 1) - options * 10 ^ 9
+pub capture-beside : (shift : Shift) (head left : ℕ) (departures : List ℕ) (records : List Record) (r : Record) → left ≡ last_left shift departures
     → (length records < head → departures ≡ []) → (head ≤ length records → head + length departures ≤ length records)
-    → shaped_capture options head departures (records ++ r ∷ []) ≡ shaped_capture options head departures records ++ record_at (max r.stamp left) r
-capture-beside options head left departures records r last ahead behind =
+    → shaped_capture shift head departures (records ++ r ∷ []) ≡ shaped_capture shift head departures records ++ record_at (max r.stamp left) r
+capture-beside shift head left departures records r last ahead behind =
     let k = length records in
-    let here : leaves_at options head departures k r.stamp ≡ max r.stamp left =
-    elim (cases_lt k head) as (λ _. leaves_at options head departures k r.stamp ≡ max r.stamp left) [
+    let here : leaves_at shift head departures k r.stamp ≡ max r.stamp left =
+    elim (cases_lt k head) as (λ _. leaves_at shift head departures k r.stamp ≡ max r.stamp left) [
       | inl early ↦
           let first : nat_lt k head ≡ true = grind (arith, nat_tests) in
-          let none : left ≡ 0 = last ∙ ap (λ (l : List ℕ). slice_index l (length l - 1) - options * 10 ^ 9) (ahead early) ∙ omega arith in
-          leaves-by options head departures k r.stamp true (nat_lt k (head + length departures)) first refl ∙ omega (arith, none)
+          let none : left ≡ 0 = last ∙ ap (last_left shift) (ahead early) in
+          leaves-by shift head departures k r.stamp true (nat_lt k (head + length departures)) first refl ∙ omega (arith, none)
       | inr late ↦
           let first : nat_lt k head ≡ false = grind (arith, nat_tests) in
           let far = behind late in
           let second : nat_lt k (head + length departures) ≡ false = grind (arith, nat_tests) in
-          leaves-by options head departures k r.stamp false false first second ∙ omega (arith, last)
+          leaves-by shift head departures k r.stamp false false first second ∙ omega (arith, last)
     ] in
-    ap (λ l. file_head ++ l) (copy-more (leaves_at options head departures) records r (max r.stamp left) here)
-    ∙ sym (append_assoc file_head (records_text (leaves_at options head departures) 0 records) (record_at (max r.stamp left) r))
+    ap (λ l. file_head ++ l) (copy-more (leaves_at shift head departures) records r (max r.stamp left) here)
+    ∙ sym (append_assoc file_head (records_text (leaves_at shift head departures) 0 records) (record_at (max r.stamp left) r))
 
 -- records that keep their stamps
 records-came : (leaves : ℕ → ℕ → ℕ) (k : ℕ) (rs : List Record) → ((j stamp : ℕ) → j < k + length rs → leaves j stamp ≡ stamp)
@@ -130,26 +143,27 @@ records-came leaves k (x ∷ xs) same =
     (records-came leaves (k + 1) xs (λ j stamp few. same j stamp (omega (arith, few))))
 
 -- the packets of a head keep their stamps
-pub capture-head : (options : FlowOptions) (head : ℕ) (records : List Record) → length records ≤ head → shaped_capture options head [] records ≡ file_head ++ came_text records
-capture-head options head records few =
+pub capture-head : (shift : Shift) (head : ℕ) (records : List Record) → length records ≤ head
+    → shaped_capture shift head [] records ≡ file_head ++ came_text records
+capture-head shift head records few =
     ap (λ l. file_head ++ l)
-    (records-came (leaves_at options head []) 0 records
+    (records-came (leaves_at shift head []) 0 records
     (λ j stamp low. let first : nat_lt j head ≡ true = grind (arith, nat_tests) in
-    leaves-by options head [] j stamp true (nat_lt j (head + 0)) first refl))
+    leaves-by shift head [] j stamp true (nat_lt j (head + 0)) first refl))
 
 -- with all packets behind the judged ones
-pub capture-tail : (options : FlowOptions) (head left : ℕ) (departures : List ℕ) (front rest : List Record) → left ≡ last_left options departures
+pub capture-tail : (shift : Shift) (head left : ℕ) (departures : List ℕ) (front rest : List Record) → left ≡ last_left shift departures
     → head + length departures ≤ length front
-    → shaped_capture options head departures front ++ came_text (held_back left rest) ≡ shaped_capture options head departures (front ++ rest)
-capture-tail options head left departures front [] last behind =
-    append-nil (shaped_capture options head departures front) ∙ ap (shaped_capture options head departures) (sym (append-nil front))
-capture-tail options head left departures front (r ∷ rs) last behind =
+    → shaped_capture shift head departures front ++ came_text (held_back left rest) ≡ shaped_capture shift head departures (front ++ rest)
+capture-tail shift head left departures front [] last behind =
+    append-nil (shaped_capture shift head departures front) ∙ ap (shaped_capture shift head departures) (sym (append-nil front))
+capture-tail shift head left departures front (r ∷ rs) last behind =
     let at = max r.stamp left in
-    let here = shaped_capture options head departures front in
+    let here = shaped_capture shift head departures front in
     let more = came_text (held_back left rs) in
     let one : length (front ++ r ∷ []) ≡ length front + 1 = length-append front (r ∷ []) in
     ap (λ l. here ++ l) (sym (append_assoc (record_head at (length r.bytes)) r.bytes more))
     ∙ sym (append_assoc here (record_at at r) more)
-    ∙ ap (λ l. l ++ more) (sym (capture-beside options head left departures front r last (λ few. absurd (omega (arith, few, behind))) (λ _. behind)))
-    ∙ capture-tail options head left departures (front ++ r ∷ []) rs last (omega (arith, behind, one))
-    ∙ ap (shaped_capture options head departures) (append_assoc front (r ∷ []) rs)
+    ∙ ap (λ l. l ++ more) (sym (capture-beside shift head left departures front r last (λ few. absurd (omega (arith, few, behind))) (λ _. behind)))
+    ∙ capture-tail shift head left departures (front ++ r ∷ []) rs last (omega (arith, behind, one))
+    ∙ ap (shaped_capture shift head departures) (append_assoc front (r ∷ []) rs)

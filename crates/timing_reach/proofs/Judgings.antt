@@ -4,10 +4,10 @@ use Rattle.std.proofs.Common.{Some, None, refl, arith, ap, ◌∙◌, sym, subst
 use Rattle.std.specs.Prelude.{◌==◌, ◌++◌, slice_index, ⊤}
 use Rattle.std.proofs.lemmas.Bool.Decides.{nat_tests}
 use Rattle.std.proofs.lemmas.List.{length-drop, length-map, length-take}
-use Rattle.timing_base.specs.Shifts.{FlowOptions}
+use Rattle.timing_base.specs.Shifts.{FlowOptions, Shift}
 use Rattle.timing_base.specs.Captures.{Record}
 use Rattle.timing_base.specs.Flows.{FirstFault, cuts, first_fault, last_place, markers, packet}
-use Rattle.timing_base.specs.Judged.{FlowRun, FlowVerdict, JudgedRun, RunOutcome, absent, gap, head_len, in_one_run, in_runs, judged, judged_run}
+use Rattle.timing_base.specs.Judged.{FlowRun, FlowVerdict, JudgedRun, RunOutcome, absent, gap, head_len, in_one_run, in_runs, judged_as_numbered, judged_run}
 use Rattle.timing_base.specs.Judged.{no_whole_frame, refusal, refused, refused_or, run_outcome, runs, stamp_of, whole_frames}
 use Rattle.timing_base.specs.Media.{Media}
 use Rattle.timing_base.specs.Verdicts.{Judged}
@@ -52,27 +52,28 @@ not_few : (n : ℕ) → nat_lt n 2 ≡ false → 2 ≤ n
 not_few n e = grind (arith, nat_tests)
 
 -- the run goes over all packets, and has two markers or more
-pub record IsOneRun (packets : List FlowPacket) (options : FlowOptions) (run : JudgedRun) : Type 0 where
+pub record IsOneRun (packets : List FlowPacket) (shift : Shift) (run : JudgedRun) : Type 0 where
   pub marked : 2 ≤ length (markers packets 0 (length packets))
-  pub run_is : judged_run packets options 0 (length packets) ≡ run
+  pub run_is : judged_run packets shift 0 (length packets) ≡ run
 
-whole-of : (packets : List FlowPacket) (options : FlowOptions) (head : ℕ) (run : JudgedRun) (b : Bool) → nat_lt (length (markers packets 0 (length packets))) 2 ≡ b
-    → IsWhole run (if b then no_whole_frame head else whole_frames (judged_run packets options 0 (length packets))) → IsOneRun packets options run
-whole-of packets options head run true e h = absurd h
-whole-of packets options head run false e h = record { marked = not_few _ e; run_is = h }
+whole-of : (packets : List FlowPacket) (shift : Shift) (head : ℕ) (run : JudgedRun) (b : Bool) → nat_lt (length (markers packets 0 (length packets))) 2 ≡ b
+    → IsWhole run (if b then no_whole_frame head else whole_frames (judged_run packets shift 0 (length packets))) → IsOneRun packets shift run
+whole-of packets shift head run true e h = absurd h
+whole-of packets shift head run false e h = record { marked = not_few _ e; run_is = h }
 
 -- what comes of the run
-pub run-of : (packets : List FlowPacket) (pt : ℕ) (options : FlowOptions) (run : JudgedRun) → judged packets pt options ≡ in_one_run (whole_frames run)
-    → run_outcome packets options 0 (length packets) ≡ whole_frames run
-run-of packets pt options run e =
+pub run-of : (packets : List FlowPacket) (pt : ℕ) (shift : Shift) (run : JudgedRun) → judged_as_numbered packets pt shift ≡ in_one_run (whole_frames run)
+    → run_outcome packets shift 0 (length packets) ≡ whole_frames run
+run-of packets pt shift run e =
     one-of (whole_frames run) packets (length packets == 0) (length (cuts packets (length packets)) == 0) (first_fault packets pt)
-    (run_outcome packets options 0 (length packets)) (runs packets options)
+    (run_outcome packets shift 0 (length packets)) (runs packets shift)
     (subst (IsOne (whole_frames run)) (sym e) refl)
 
-pub one-run : (packets : List FlowPacket) (pt : ℕ) (options : FlowOptions) (run : JudgedRun) → judged packets pt options ≡ in_one_run (whole_frames run) → IsOneRun packets options run
-one-run packets pt options run e =
-    let out = run-of packets pt options run e in
-    whole-of packets options (head_len (markers packets 0 (length packets)) 0 (length packets)) run (nat_lt (length (markers packets 0 (length packets))) 2) refl
+pub one-run : (packets : List FlowPacket) (pt : ℕ) (shift : Shift) (run : JudgedRun) → judged_as_numbered packets pt shift ≡ in_one_run (whole_frames run)
+    → IsOneRun packets shift run
+one-run packets pt shift run e =
+    let out = run-of packets pt shift run e in
+    whole-of packets shift (head_len (markers packets 0 (length packets)) 0 (length packets)) run (nat_lt (length (markers packets 0 (length packets))) 2) refl
     (subst (IsWhole run) (sym out) refl)
 
 -- a verdict on judged packets is of one run of whole frames
@@ -96,29 +97,29 @@ pub judged-of : (m : Media) (j : Judged) (v : FlowVerdict) (seen : Verdict) → 
 judged-of m j v seen e is = has-run m j v (subst (IsValues j) (sym is ∙ e) refl)
 
 -- the judged packets stand behind the head, and are all there
-pub record IsWithin (packets : List FlowPacket) (options : FlowOptions) (run : JudgedRun) : Type 0 where
+pub record IsWithin (packets : List FlowPacket) (shift : Shift) (run : JudgedRun) : Type 0 where
   pub few : length run.stamps ≤ length packets - run.head
-  pub stamps_are : map (stamp_of options) (take (length run.stamps) (drop run.head packets)) ≡ run.stamps
+  pub stamps_are : map (stamp_of shift) (take (length run.stamps) (drop run.head packets)) ≡ run.stamps
 
 pub head-some : (marks : List ℕ) (to : ℕ) → 2 ≤ length marks → head_len marks 0 to ≡ slice_index marks 0 + 1
 head-some marks to h =
     let some : (length marks == 0) ≡ false = grind (arith, nat_tests) in
     ap (λ b. if b then to - 0 else slice_index marks 0 + 1 - 0) some ∙ omega arith
 
-pub within-run : (packets : List FlowPacket) (options : FlowOptions) (run : JudgedRun) → IsOneRun packets options run → IsWithin packets options run
-within-run packets options run one =
+pub within-run : (packets : List FlowPacket) (shift : Shift) (run : JudgedRun) → IsOneRun packets shift run → IsWithin packets shift run
+within-run packets shift run one =
     let marks = markers packets 0 (length packets) in
     let k = last_place marks + 1 - (slice_index marks 0 + 1) in
     let head : run.head ≡ slice_index marks 0 + 1 = ap (λ (x : JudgedRun). x.head) (sym one.run_is) ∙ head-some marks (length packets) one.marked in
-    let stamps : run.stamps ≡ map (stamp_of options) (take k (drop run.head packets)) =
-    ap (λ (x : JudgedRun). x.stamps) (sym one.run_is) ∙ ap (λ h. map (stamp_of options) (take k (drop h packets))) (sym head) in
+    let stamps : run.stamps ≡ map (stamp_of shift) (take k (drop run.head packets)) =
+    ap (λ (x : JudgedRun). x.stamps) (sym one.run_is) ∙ ap (λ h. map (stamp_of shift) (take k (drop h packets))) (sym head) in
     let part = take k (drop run.head packets) in
-    let same : length run.stamps ≡ length part = ap length stamps ∙ length-map part (stamp_of options) in
+    let same : length run.stamps ≡ length part = ap length stamps ∙ length-map part (stamp_of shift) in
     let long : length part ≡ min k (length (drop run.head packets)) = length-take k (drop run.head packets) in
     let rest : length (drop run.head packets) ≡ length packets - run.head = length-drop run.head packets in
     record {
       few = omega (arith, same, long, rest);
-      stamps_are = ap (λ n. map (stamp_of options) (take n (drop run.head packets))) same ∙ ap (map (stamp_of options)) (take-again k (drop run.head packets))
+      stamps_are = ap (λ n. map (stamp_of shift) (take n (drop run.head packets))) same ∙ ap (map (stamp_of shift)) (take-again k (drop run.head packets))
           ∙ sym stamps;
     }
 
@@ -126,6 +127,7 @@ within-run packets options run one =
 abbrev pub JudgeTakes : Media → (old new : Judging) → List Record → Type 0
 JudgeTakes m old new items = Feeds {Past = Unit {0}} false (λ _ _ _ _ _ _. ⊤) (λ _ _ _ _ _ _. ⊤) m old new items
 
-pub judge-took : (m : Media) (key : FlowKey) (options : FlowOptions) (old new : Judging) (items : List Record) (packets : List FlowPacket) → JudgeTakes m old new items
+pub judge-took : (m : Media) (key : FlowKey) (options : FlowOptions) (old new : Judging) (items : List Record) (packets : List FlowPacket)
+    → JudgeTakes m old new items
     → StandsFor m key options old.judge packets → StandsFor m key options new.judge (packets ++ flow items m)
 judge-took m key options old new items packets takes s = (takes tt key options packets (record { judge_is = s; told = λ wanted. cc })).judge_is

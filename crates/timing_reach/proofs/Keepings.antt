@@ -8,7 +8,8 @@ use Rattle.std.specs.declared.vec.Vec.{Vec}
 use Rattle.std.proofs.lemmas.List.{drop-map, length-map, take-map}
 use Rattle.std.proofs.lemmas.List.Elements.{All-push, filter_map-append}
 use Rattle.std.proofs.lemmas.Nat.{mul-le}
-use Rattle.timing_base.specs.Shifts.{FlowOptions}
+use Rattle.timing_base.specs.Numbered.{numbered}
+use Rattle.timing_base.specs.Shifts.{FlowOptions, Shift}
 use Rattle.timing_base.specs.Captures.{IsStamp, Record}
 use Rattle.timing_base.specs.Grouped.{IsGrouped, IsGroupedVerdict}
 use Rattle.timing_base.specs.Judged.{JudgedRun, in_one_run, judged, stamp_of, whole_frames}
@@ -17,6 +18,7 @@ use Rattle.timing_base.specs.Verdicts.{Judged}
 use Rattle.timing_base.specs.declared.key.FlowKey.{FlowKey}
 use Rattle.timing_base.specs.declared.packet.FlowPacket.{FlowPacket}
 use Rattle.timing_base.specs.declared.row.Verdict.TheVariants as verdict
+use Rattle.timing_base.proofs.Numberings.{length-numbered}
 use Rattle.fail_interval.specs.Stands.{StandsFor}
 use Rattle.pcap_reader.specs.Taken.{TakesFew}
 use Rattle.pcap_reader.specs.WrittenHeads.{file_head, record_head}
@@ -32,6 +34,7 @@ use Rattle.timing_reach.specs.declared.shape.kept.Kept.TheVariants.{Capture}
 use Rattle.timing_reach.specs.declared.shape.reading.KeptFlow.{KeptFlow}
 use Rattle.timing_reach.specs.declared.shape.reading.Reading.{Reading}
 use Rattle.timing_reach.proofs.Judgings.{JudgeTakes, judge-took, judged-of, one-run, within-run}
+use Rattle.timing_reach.proofs.Numbers.{instants-numbered}
 use Rattle.timing_reach.proofs.Packets.{flow-few, packet-of}
 
 -- the records of a capture, and one more
@@ -79,14 +82,16 @@ reads-packet old new p frame stamp short takes keeps = λ m r is carried key opt
     }
 
 -- the records of a text were read
-pub kept-in : (text : List ℕ) (m : Media) (key : FlowKey) (options : FlowOptions) (list : Bool) (old new : Reading) (f : KeptFlow) → IsReading m key options list old []
+pub kept-in : (text : List ℕ) (m : Media) (key : FlowKey) (options : FlowOptions) (list : Bool) (old new : Reading) (f : KeptFlow)
+    → IsReading m key options list old []
     → TakesIn (ReadsOn m) text old new → ((items : List Record) → IsReading m key options list new items → IsKeptFlow m options list items f)
     → IsKeptIn m options list text f
 kept-in text m key options list old new f start t finish =
     record { items = t.items; note = t.note; records = t.records; flow_is = finish t.items (t.fed key options list [] start) }
 
 -- some records were read, and few
-pub kept-some : (m : Media) (key : FlowKey) (options : FlowOptions) (most : ℕ) (list : Bool) (old new : Reading) (f : KeptFlow) → IsReading m key options list old []
+pub kept-some : (m : Media) (key : FlowKey) (options : FlowOptions) (most : ℕ) (list : Bool) (old new : Reading) (f : KeptFlow)
+    → IsReading m key options list old []
     → TakesFew (ReadsOn m) most old new → ((items : List Record) → IsReading m key options list new items → IsKeptFlow m options list items f)
     → IsRead m options list f
 kept-some m key options most list old new f start t finish = record { items = t.items; flow_is = finish t.items (t.taken key options list [] start) }
@@ -117,36 +122,39 @@ flow-stamps m (r ∷ items) =
     by r o ps rs is h =
         subst (λ x. map (λ (p : FlowPacket). p.at) (cons_option x ps) ≡ stamps_of (if is_some x then r ∷ rs else rs)) (sym is) (at-each r o ps rs is h)
 
-in-options : (options : FlowOptions) (packets : List FlowPacket) → map (stamp_of options) packets ≡ in_tai options (map (λ (p : FlowPacket). p.at) packets)
-in-options options [] = refl
-in-options options (p ∷ packets) = ap (λ l. stamp_of options p ∷ l) (in-options options packets)
+in-shift : (shift : Shift) (packets : List FlowPacket) → map (stamp_of shift) packets ≡ in_tai shift (map (λ (p : FlowPacket). p.at) packets)
+in-shift shift [] = refl
+in-shift shift (p ∷ packets) = ap (λ l. stamp_of shift p ∷ l) (in-shift shift packets)
 
 -- the judged packets, by their records
 judged-records : (m : Media) (items : List Record) (options : FlowOptions) (head count : ℕ)
-    → map (stamp_of options) (take count (drop head (flow items m))) ≡ judged_stamps options head count (flow_records m items)
+    → map (stamp_of options.shift) (take count (drop head (numbered options.seq16 (flow items m))))
+    ≡ judged_stamps options.shift head count (flow_records m items)
 judged-records m items options head count =
-    let packets = flow items m in
+    let packets = numbered options.seq16 (flow items m) in
     let at = λ (p : FlowPacket). p.at in
     let stamp = λ (r : Record). r.stamp in
-    in-options options (take count (drop head packets))
-    ∙ ap (in_tai options) (sym (take-map at count (drop head packets)) ∙ ap (take count) (sym (drop-map at head packets))
-    ∙ ap (λ l. take count (drop head l)) (flow-stamps m items)
+    in-shift options.shift (take count (drop head packets))
+    ∙ ap (in_tai options.shift) (sym (take-map at count (drop head packets)) ∙ ap (take count) (sym (drop-map at head packets))
+    ∙ ap (λ l. take count (drop head l)) (instants-numbered options.seq16 (flow items m) ∙ flow-stamps m items)
     ∙ ap (take count) (drop-map stamp head (flow_records m items)) ∙ take-map stamp count (drop head (flow_records m items)))
 
 -- the run of a flow that is judged so
 pub run-kept : (m : Media) (options : FlowOptions) (list : Bool) (items : List Record) (f : KeptFlow) (j : Judged) → f.verdict ≡ verdict.Judged j
     → IsKeptFlow m options list items f
-    → (run : JudgedRun) × (judged (flow items m) m.pt options ≡ in_one_run (whole_frames run)) × IsRunOf options j (flow_records m items) run
+    → (run : JudgedRun) × (judged (flow items m) m.pt options ≡ in_one_run (whole_frames run)) × IsRunOf options.shift j (flow_records m items) run
 run-kept m options list items f j is h =
-    let packets = flow items m in
-    let found = judged-of m j (judged packets m.pt options) f.verdict h.verdict_is is in
+    let came = flow items m in
+    let packets = numbered options.seq16 came in
+    let found = judged-of m j (judged came m.pt options) f.verdict h.verdict_is is in
     let run = found.0 in
-    let within = within-run packets options run (one-run packets m.pt options run found.1) in
+    let within = within-run packets options.shift run (one-run packets m.pt options.shift run found.1) in
     let grouped : IsGrouped run = subst IsGroupedVerdict found.1 h.grouped in
     let head : j.head ≡ run.head = ap (λ (x : Judged). x.head) (sym found.2) in
     let count : j.packets ≡ length run.stamps = ap (λ (x : Judged). x.packets) (sym found.2) in
     let each : length packets ≡ length (flow_records m items) =
-    sym (length-map packets (λ (p : FlowPacket). p.at)) ∙ ap length (flow-stamps m items) ∙ length-map (flow_records m items) (λ (r : Record). r.stamp) in
+    length-numbered options.seq16 came ∙ sym (length-map came (λ (p : FlowPacket). p.at)) ∙ ap length (flow-stamps m items)
+    ∙ length-map (flow_records m items) (λ (r : Record). r.stamp) in
     let some : 1 ≤ length run.stamps =
     omega (arith, grouped.whole, mul-le 1 1 run.n run.groups grouped.some grouped.some_groups) in (
       run,
@@ -156,15 +164,15 @@ run-kept m options list items f j is h =
         head = head;
         count = count;
         within = omega (arith, within.few, head, count, each, some);
-        stamps = ap (λ k. judged_stamps options k j.packets (flow_records m items)) head
-            ∙ ap (λ k. judged_stamps options run.head k (flow_records m items)) count
+        stamps = ap (λ k. judged_stamps options.shift k j.packets (flow_records m items)) head
+            ∙ ap (λ k. judged_stamps options.shift run.head k (flow_records m items)) count
             ∙ sym (judged-records m items options run.head (length run.stamps)) ∙ within.stamps_are;
         grouped = grouped;
       },
     )
 
 pub can-shape : (m : Media) (options : FlowOptions) (list : Bool) (f : KeptFlow) (j : Judged) → f.verdict ≡ verdict.Judged j → IsRead m options list f
-    → CanShape m options j f.packets
+    → CanShape m options.shift j f.packets
 can-shape m options list f j is h =
     let run = run-kept m options list h.items f j is h.flow_is in
     record { list = list; items = h.items; run = run.0; run_is = run.2; kept = h.flow_is.packets }

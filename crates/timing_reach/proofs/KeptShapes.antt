@@ -8,7 +8,7 @@ use Rattle.std.specs.declared.vec.Vec.{Vec}
 use Rattle.std.proofs.lemmas.Nat.{mul-le}
 use Rattle.std.proofs.lemmas.List.{drop-map, length-drop, length-map, length-take-le, take-append-drop, take-map}
 use Rattle.std.proofs.lemmas.List.Elements.{All-drop, All-get_or, All-map, All-same, All-take, All-weaker}
-use Rattle.timing_base.specs.Shifts.{FlowOptions}
+use Rattle.timing_base.specs.Shifts.{Shift, shifted}
 use Rattle.pcap_reader.specs.WrittenHeads.{file_head}
 use Rattle.timing_base.specs.Captures.{IsStamp, Record}
 use Rattle.timing_base.specs.Grouped.{IsGrouped}
@@ -30,21 +30,21 @@ use Rattle.timing_reach.specs.declared.shape.kept.Kept.TheVariants.{Capture, Sta
 use Rattle.timing_reach.specs.declared.shape.leaver.Leaver.{Leaver}
 use Rattle.timing_reach.specs.declared.shape.walk.Walk.{Walk}
 use Rattle.timing_reach.proofs.Copies.{capture-head, capture-tail}
-use Rattle.timing_reach.proofs.Shapings.{next-one, skips-more, options-at}
+use Rattle.timing_reach.proofs.Shapings.{next-one, skips-more, shifted-at}
 
 -- the packets of a part that is judged so
-abbrev pub part_of : Media → Kind → (options : FlowOptions) (first : ℕ) → Judged → Part
-part_of m kind options first j = record { media = m; n = j.n; kind = kind; options = options; origin = first + options * 10 ^ 9 }
+abbrev pub part_of : Media → Kind → (shift : Shift) (first : ℕ) → Judged → Part
+part_of m kind shift first j = record { media = m; n = j.n; kind = kind; shift = shift; origin = shifted shift first }
 
 -- some packet is judged
-pub some-packet : (options : FlowOptions) (j : Judged) (records : List Record) (run : JudgedRun) → IsRunOf options j records run → 1 ≤ j.packets
-some-packet options j records run h =
+pub some-packet : (shift : Shift) (j : Judged) (records : List Record) (run : JudgedRun) → IsRunOf shift j records run → 1 ≤ j.packets
+some-packet shift j records run h =
     omega (arith, h.count, h.grouped.whole, mul-le 1 1 run.n run.groups h.grouped.some h.grouped.some_groups)
 
 -- they can be shaped from the first one on
-run-fit : (options : FlowOptions) (first : ℕ) (run : JudgedRun) → IsGrouped run → (0 < length run.stamps → slice_index run.stamps 0 ≡ first + options * 10 ^ 9)
-    → IsFit (first + options * 10 ^ 9) run.stamps
-run-fit options first run g opens = record { ordered = λ j i order low. g.rising j i 0 order low; first = opens }
+run-fit : (shift : Shift) (first : ℕ) (run : JudgedRun) → IsGrouped run → (0 < length run.stamps → slice_index run.stamps 0 ≡ shifted shift first)
+    → IsFit (shifted shift first) run.stamps
+run-fit shift first run g opens = record { ordered = λ j i order low. g.rising j i 0 order low; first = opens }
 
 -- of what is kept for a list or for a capture
 kept-stamps : (list : Bool) (stamps : Vec ℕ Global) (records : List Record) → AreKept list (Stamps stamps) records
@@ -58,8 +58,9 @@ kept-capture true bytes records h = absurd h
 kept-capture false bytes records h = (refl, h)
 
 -- the stamps of a list
-pub list-within : (m : Media) (options : FlowOptions) (j : Judged) (stamps : Vec ℕ Global) → CanShape m options j (Stamps stamps) → j.head + j.packets ≤ length stamps.items
-list-within m options j stamps can =
+pub list-within : (m : Media) (shift : Shift) (j : Judged) (stamps : Vec ℕ Global) → CanShape m shift j (Stamps stamps)
+    → j.head + j.packets ≤ length stamps.items
+list-within m shift j stamps can =
     let records = flow_records m can.items in
     let is = kept-stamps can.list stamps records can.kept.kept in
     omega (arith, can.run_is.within, ap length is.1, length-map records (λ (r : Record). r.stamp))
@@ -74,8 +75,8 @@ part-same j head packets part stamps first count all =
     ap (λ l. take (head + packets - head) (drop head l)) all ∙ ap (λ k. take (k + packets - k) (drop k stamps)) first
     ∙ ap (λ k. take (j.head + k - j.head) (drop j.head stamps)) count
 
-pub part-held : (m : Media) (options : FlowOptions) (j : Judged) (stamps : Vec ℕ Global) → CanShape m options j (Stamps stamps) → All IsStamp (judged_part j stamps.items)
-part-held m options j stamps can =
+pub part-held : (m : Media) (shift : Shift) (j : Judged) (stamps : Vec ℕ Global) → CanShape m shift j (Stamps stamps) → All IsStamp (judged_part j stamps.items)
+part-held m shift j stamps can =
     let records = flow_records m can.items in
     let is = kept-stamps can.list stamps records can.kept.kept in
     All-take IsStamp (j.head + j.packets - j.head) (drop j.head stamps.items)
@@ -84,78 +85,78 @@ part-held m options j stamps can =
     (All-map IsStamp (λ (r : Record). r.stamp) records
     (All-weaker CanBeHeld (λ (r : Record). IsStamp r.stamp) (λ r h. h.stamp) records can.kept.held))))
 
-part-is : (options : FlowOptions) (j : Judged) (records : List Record) (run : JudgedRun) (stamps : List ℕ) → stamps ≡ stamps_of records → IsRunOf options j records run
-    → in_tai options (judged_part j stamps) ≡ run.stamps
-part-is options j records run stamps e h =
+part-is : (shift : Shift) (j : Judged) (records : List Record) (run : JudgedRun) (stamps : List ℕ) → stamps ≡ stamps_of records → IsRunOf shift j records run
+    → in_tai shift (judged_part j stamps) ≡ run.stamps
+part-is shift j records run stamps e h =
     let count : j.head + j.packets - j.head ≡ j.packets = omega arith in
     let stamp = λ (r : Record). r.stamp in
-    ap (λ k. in_tai options (take k (drop j.head stamps))) count
-    ∙ ap (in_tai options) (ap (λ l. take j.packets (drop j.head l)) e ∙ ap (take j.packets) (drop-map stamp j.head records)
+    ap (λ k. in_tai shift (take k (drop j.head stamps))) count
+    ∙ ap (in_tai shift) (ap (λ l. take j.packets (drop j.head l)) e ∙ ap (take j.packets) (drop-map stamp j.head records)
     ∙ take-map stamp j.packets (drop j.head records))
     ∙ h.stamps
 
-pub part-length : (m : Media) (options : FlowOptions) (j : Judged) (stamps : Vec ℕ Global) → CanShape m options j (Stamps stamps)
+pub part-length : (m : Media) (shift : Shift) (j : Judged) (stamps : Vec ℕ Global) → CanShape m shift j (Stamps stamps)
     → length (judged_part j stamps.items) ≡ j.packets
-part-length m options j stamps can =
-    let within = list-within m options j stamps can in
+part-length m shift j stamps can =
+    let within = list-within m shift j stamps can in
     let rest : length (drop j.head stamps.items) ≡ length stamps.items - j.head = length-drop j.head stamps.items in
     length-take-le (j.head + j.packets - j.head) (drop j.head stamps.items) (omega (arith, rest, within)) ∙ omega arith
 
-pub first-held : (m : Media) (options : FlowOptions) (j : Judged) (stamps : Vec ℕ Global) → CanShape m options j (Stamps stamps)
+pub first-held : (m : Media) (shift : Shift) (j : Judged) (stamps : Vec ℕ Global) → CanShape m shift j (Stamps stamps)
     → IsStamp (slice_index (judged_part j stamps.items) 0)
-first-held m options j stamps can =
-    let some = some-packet options j (flow_records m can.items) can.run can.run_is in
-    All-get_or IsStamp (judged_part j stamps.items) 0 0 (omega (arith, some, part-length m options j stamps can)) (part-held m options j stamps can)
+first-held m shift j stamps can =
+    let some = some-packet shift j (flow_records m can.items) can.run can.run_is in
+    All-get_or IsStamp (judged_part j stamps.items) 0 0 (omega (arith, some, part-length m shift j stamps can)) (part-held m shift j stamps can)
 
 -- the answer with a list
-listed-shape : (m : Media) (kind : Kind) (options : FlowOptions) (first : ℕ) (j : Judged) (items : List Record) (run : JudgedRun) (answer : Answer) → j.n ≡ run.n
-    → ListsSo (part_of m kind options first j) run.stamps answer → HasShape true options kind m items run answer
-listed-shape m kind options first j items run answer group (inl all) = inl (record {
+listed-shape : (m : Media) (kind : Kind) (shift : Shift) (first : ℕ) (j : Judged) (items : List Record) (run : JudgedRun) (answer : Answer) → j.n ≡ run.n
+    → ListsSo (part_of m kind shift first j) run.stamps answer → HasShape true shift kind m items run answer
+listed-shape m kind shift first j items run answer group (inl all) = inl (record {
   departures = all.departures;
-  leave = subst (λ n. LeaveInTime m n kind (end_of options) run.stamps all.departures) group all.leave;
+  leave = subst (λ n. LeaveInTime m n kind (end_of shift) run.stamps all.departures) group all.leave;
   text = all.text;
   prints = subst (λ n. IsList m n kind run.stamps all.departures all.text) group all.list;
   answer_is = all.answer_is;
 })
-listed-shape m kind options first j items run answer group (inr late) = inr (record {
+listed-shape m kind shift first j items run answer group (inr late) = inr (record {
   packet = late.packet;
-  late = subst (λ n. IsLate m n kind (end_of options) run.stamps late.packet) group late.late;
+  late = subst (λ n. IsLate m n kind (end_of shift) run.stamps late.packet) group late.late;
   answer_is = late.answer_is;
 })
 
-pub list-shape : (m : Media) (kind : Kind) (options : FlowOptions) (first : ℕ) (j : Judged) (stamps : Vec ℕ Global) (answer : Answer)
+pub list-shape : (m : Media) (kind : Kind) (shift : Shift) (first : ℕ) (j : Judged) (stamps : Vec ℕ Global) (answer : Answer)
     → first ≡ slice_index (judged_part j stamps.items) 0
-    → (IsFit (first + options * 10 ^ 9) (in_tai options (judged_part j stamps.items)) → ListsSo (part_of m kind options first j) (in_tai options (judged_part j stamps.items))
-    answer)
-    → IsShapeOf m kind options j (Stamps stamps) answer
-list-shape m kind options first j stamps answer opens lists = λ list items run run_is kept.
+    → (IsFit (shifted shift first) (in_tai shift (judged_part j stamps.items))
+    → ListsSo (part_of m kind shift first j) (in_tai shift (judged_part j stamps.items)) answer)
+    → IsShapeOf m kind shift j (Stamps stamps) answer
+list-shape m kind shift first j stamps answer opens lists = λ list items run run_is kept.
     let is = kept-stamps list stamps (flow_records m items) kept.kept in
     let part = judged_part j stamps.items in
-    let same : in_tai options part ≡ run.stamps = part-is options j (flow_records m items) run stamps.items is.1 run_is in
-    let fit = run-fit options first run run_is.grouped
+    let same : in_tai shift part ≡ run.stamps = part-is shift j (flow_records m items) run stamps.items is.1 run_is in
+    let fit = run-fit shift first run run_is.grouped
     (λ some. ap (λ l. slice_index l 0) (sym same)
-    ∙ sym (options-at options part 0 (omega (arith, some, ap length same, length-map part (λ at. at + options * 10 ^ 9))))
-    ∙ ap (λ x. x + options * 10 ^ 9) (sym opens)) in
-    let said = lists (subst (IsFit (first + options * 10 ^ 9)) (sym same) fit) in
-    subst (λ b. HasShape b options kind m items run answer) (sym is.0)
-    (listed-shape m kind options first j items run answer run_is.group
-    (subst (λ l. ListsSo (part_of m kind options first j) l answer) same said))
+    ∙ sym (shifted-at shift part 0 (omega (arith, some, ap length same, length-map part (shifted shift))))
+    ∙ ap (shifted shift) (sym opens)) in
+    let said = lists (subst (IsFit (shifted shift first)) (sym same) fit) in
+    subst (λ b. HasShape b shift kind m items run answer) (sym is.0)
+    (listed-shape m kind shift first j items run answer run_is.group
+    (subst (λ l. ListsSo (part_of m kind shift first j) l answer) same said))
 
 -- a walk that stands before the judged packets of a capture
-pub record IsAtRun (options : FlowOptions) (j : Judged) (walk : Walk) (records : List Record) (run : JudgedRun) : Type 0 where
+pub record IsAtRun (shift : Shift) (j : Judged) (walk : Walk) (records : List Record) (run : JudgedRun) : Type 0 where
   pub size : length (take j.head records) ≡ j.head
-  pub before : IsBefore walk (shaped_capture options (length (take j.head records)) [] (take j.head records)) (drop j.head records)
+  pub before : IsBefore walk (shaped_capture shift (length (take j.head records)) [] (take j.head records)) (drop j.head records)
   pub many : j.packets ≤ length (drop j.head records)
-  pub stamps : run.stamps ≡ in_tai options (stamps_of (take j.packets (drop j.head records)))
+  pub stamps : run.stamps ≡ in_tai shift (stamps_of (take j.packets (drop j.head records)))
 
-at-run : (options : FlowOptions) (j : Judged) (begun walk : Walk) (records : List Record) (run : JudgedRun) → IsBefore begun file_head records
-    → PassesAll j.head begun walk → IsRunOf options j records run → IsAtRun options j walk records run
-at-run options j begun walk records run start passed h =
+at-run : (shift : Shift) (j : Judged) (begun walk : Walk) (records : List Record) (run : JudgedRun) → IsBefore begun file_head records
+    → PassesAll j.head begun walk → IsRunOf shift j records run → IsAtRun shift j walk records run
+at-run shift j begun walk records run start passed h =
     let size : length (take j.head records) ≡ j.head = length-take-le j.head records (omega (arith, h.within)) in
     record {
       size = size;
       before = subst (λ l. IsBefore walk l (drop j.head records))
-          (sym (capture-head options (length (take j.head records)) (take j.head records) (omega arith)))
+          (sym (capture-head shift (length (take j.head records)) (take j.head records) (omega arith)))
           (passed file_head records start (omega (arith, h.within)));
       many = omega (arith, h.within, length-drop j.head records);
       stamps = sym h.stamps;
@@ -168,56 +169,57 @@ pub kept-before : (m : Media) (list : Bool) (bytes : Vec ℕ Global) (items : Li
 kept-before m list bytes items begun new kept =
     new (flow_records m items) (kept-capture list bytes (flow_records m items) kept.kept).1 kept.held
 
-pub can-depart : (m : Media) (options : FlowOptions) (j : Judged) (bytes : Vec ℕ Global) (begun walk : Walk)
+pub can-depart : (m : Media) (shift : Shift) (j : Judged) (bytes : Vec ℕ Global) (begun walk : Walk)
     → ((records : List Record) → bytes.items ≡ file_head ++ came_text records → All CanBeHeld records → IsBefore begun file_head records)
-    → PassesAll j.head begun walk → CanShape m options j (Capture bytes) → CanSkip j.packets walk
-can-depart m options j bytes begun walk new passed can =
+    → PassesAll j.head begun walk → CanShape m shift j (Capture bytes) → CanSkip j.packets walk
+can-depart m shift j bytes begun walk new passed can =
     let records = flow_records m can.items in
-    let at = at-run options j begun walk records can.run (kept-before m can.list bytes can.items begun new can.kept) passed can.run_is in
+    let at = at-run shift j begun walk records can.run (kept-before m can.list bytes can.items begun new can.kept) passed can.run_is in
     record { done = _; rest = drop j.head records; before = at.before; many = at.many }
 
-pub first-head : (m : Media) (options : FlowOptions) (j : Judged) (bytes : Vec ℕ Global) (begun walk : Walk)
+pub first-head : (m : Media) (shift : Shift) (j : Judged) (bytes : Vec ℕ Global) (begun walk : Walk)
     → ((records : List Record) → bytes.items ≡ file_head ++ came_text records → All CanBeHeld records → IsBefore begun file_head records)
-    → PassesAll j.head begun walk → CanShape m options j (Capture bytes)
+    → PassesAll j.head begun walk → CanShape m shift j (Capture bytes)
     → (done : List ℕ) × (r : Record) × (rest : List Record) × IsBefore walk done (r ∷ rest)
-first-head m options j bytes begun walk new passed can =
+first-head m shift j bytes begun walk new passed can =
     let records = flow_records m can.items in
-    let skip = can-depart m options j bytes begun walk new passed can in
-    let some = some-packet options j records can.run can.run_is in
+    let skip = can-depart m shift j bytes begun walk new passed can in
+    let some = some-packet shift j records can.run can.run_is in
     let first = skips-more walk skip.done skip.rest 0 (omega (arith, some, skip.many)) in
     (skip.done, first.0, first.1, subst (λ (l : List Record). IsBefore walk skip.done l) first.2 skip.before)
 
 -- whatever flow is kept, what became of its judged packets
-captured-run : (m : Media) (kind : Kind) (options : FlowOptions) (first : ℕ) (j : Judged) (bytes : Vec ℕ Global) (begun walk gone : Walk) (leaver : Leaver) (result : Result ℕ Late)
+captured-run : (m : Media) (kind : Kind) (shift : Shift) (first : ℕ) (j : Judged) (bytes : Vec ℕ Global) (begun walk gone : Walk) (leaver : Leaver)
+    (result : Result ℕ Late)
     → ((records : List Record) → bytes.items ≡ file_head ++ came_text records → All CanBeHeld records → IsBefore begun file_head records)
     → PassesAll j.head begun walk
     → ((done : List ℕ) (r : Record) (rest : List Record) → IsBefore walk done (r ∷ rest) → first ≡ r.stamp)
-    → HasLet (part_of m kind options first j) leaver [] [] → Departs j.packets leaver walk gone result
-    → (list : Bool) (items : List Record) (run : JudgedRun) → IsRunOf options j (flow_records m items) run → IsKept m list (Capture bytes) items
-    → DepartsSo (part_of m kind options first j) gone (take j.head (flow_records m items)) (drop j.head (flow_records m items)) run.stamps j.packets result
-captured-run m kind options first j bytes begun walk gone leaver result new passed is given departs = λ list items run run_is kept.
-    let w = part_of m kind options first j in
+    → HasLet (part_of m kind shift first j) leaver [] [] → Departs j.packets leaver walk gone result
+    → (list : Bool) (items : List Record) (run : JudgedRun) → IsRunOf shift j (flow_records m items) run → IsKept m list (Capture bytes) items
+    → DepartsSo (part_of m kind shift first j) gone (take j.head (flow_records m items)) (drop j.head (flow_records m items)) run.stamps j.packets result
+captured-run m kind shift first j bytes begun walk gone leaver result new passed is given departs = λ list items run run_is kept.
+    let w = part_of m kind shift first j in
     let records = flow_records m items in
-    let at = at-run options j begun walk records run (kept-before m list bytes items begun new kept) passed run_is in
+    let at = at-run shift j begun walk records run (kept-before m list bytes items begun new kept) passed run_is in
     let known =
-    next-one w walk first (shaped_capture options (length (take j.head records)) [] (take j.head records)) (drop j.head records) run.stamps j.packets 0
-    (omega (arith, some-packet options j records run run_is)) at.many at.stamps is at.before in
-    let fit = run-fit options first run run_is.grouped (λ some. sym known.came) in
+    next-one w walk first (shaped_capture shift (length (take j.head records)) [] (take j.head records)) (drop j.head records) run.stamps j.packets 0
+    (omega (arith, some-packet shift j records run run_is)) at.many at.stamps is at.before in
+    let fit = run-fit shift first run run_is.grouped (λ some. sym known.came) in
     departs w (take j.head records) (drop j.head records) run.stamps given at.before at.many at.stamps fit
 
 -- the answer with a capture
-pub capture-shape : (m : Media) (kind : Kind) (options : FlowOptions) (first : ℕ) (j : Judged) (bytes : Vec ℕ Global) (begun walk gone end : Walk) (leaver : Leaver) (left : ℕ)
-    (answer : Answer)
+pub capture-shape : (m : Media) (kind : Kind) (shift : Shift) (first : ℕ) (j : Judged) (bytes : Vec ℕ Global) (begun walk gone end : Walk) (leaver : Leaver)
+    (left : ℕ) (answer : Answer)
     → ((records : List Record) → bytes.items ≡ file_head ++ came_text records → All CanBeHeld records → IsBefore begun file_head records)
     → PassesAll j.head begun walk
     → ((done : List ℕ) (r : Record) (rest : List Record) → IsBefore walk done (r ∷ rest) → first ≡ r.stamp)
-    → HasLet (part_of m kind options first j) leaver [] [] → Departs j.packets leaver walk gone (Ok left) → HoldsAll left gone end
-    → answer ≡ record { text = end.bytes.items; status = status.Pass } → IsShapeOf m kind options j (Capture bytes) answer
-capture-shape m kind options first j bytes begun walk gone end leaver left answer new passed is given departs holds e = λ list items run run_is kept.
+    → HasLet (part_of m kind shift first j) leaver [] [] → Departs j.packets leaver walk gone (Ok left) → HoldsAll left gone end
+    → answer ≡ record { text = end.bytes.items; status = status.Pass } → IsShapeOf m kind shift j (Capture bytes) answer
+capture-shape m kind shift first j bytes begun walk gone end leaver left answer new passed is given departs holds e = λ list items run run_is kept.
     let records = flow_records m items in
     let head = take j.head records in
     let rest = drop j.head records in
-    let said = captured-run m kind options first j bytes begun walk gone leaver (Ok left) new passed is given departs list items run run_is kept in
+    let said = captured-run m kind shift first j bytes begun walk gone leaver (Ok left) new passed is given departs list items run run_is kept in
     let ds = said.0 in
     let front = head ++ take j.packets rest in
     let size : length head ≡ j.head = length-take-le j.head records (omega (arith, run_is.within)) in
@@ -225,32 +227,32 @@ capture-shape m kind options first j bytes begun walk gone end leaver left answe
     length-take-le j.packets rest (omega (arith, run_is.within, length-drop j.head records)) in
     let behind : length head + length ds ≤ length front =
     omega (arith, length-append head (take j.packets rest), many, said.1.shaped.plan.each, run_is.count) in
-    let text : end.bytes.items ≡ shaped_capture options run.head ds records =
-    holds (shaped_capture options (length head) ds front) (drop j.packets rest) said.3
-    ∙ capture-tail options (length head) left ds front (drop j.packets rest) said.2 behind
-    ∙ ap (shaped_capture options (length head) ds) (append_assoc head (take j.packets rest) (drop j.packets rest)
+    let text : end.bytes.items ≡ shaped_capture shift run.head ds records =
+    holds (shaped_capture shift (length head) ds front) (drop j.packets rest) said.3
+    ∙ capture-tail shift (length head) left ds front (drop j.packets rest) said.2 behind
+    ∙ ap (shaped_capture shift (length head) ds) (append_assoc head (take j.packets rest) (drop j.packets rest)
     ∙ ap (λ (l : List Record). head ++ l) (take-append-drop j.packets rest) ∙ take-append-drop j.head records)
-    ∙ ap (λ k. shaped_capture options k ds records) (size ∙ run_is.head) in
-    subst (λ b. HasShape b options kind m items run answer) (sym (kept-capture list bytes records kept.kept).0)
+    ∙ ap (λ k. shaped_capture shift k ds records) (size ∙ run_is.head) in
+    subst (λ b. HasShape b shift kind m items run answer) (sym (kept-capture list bytes records kept.kept).0)
     (inl (record {
       departures = ds;
-      leave = subst (λ n. LeaveInTime m n kind (end_of options) run.stamps ds) run_is.group said.1;
+      leave = subst (λ n. LeaveInTime m n kind (end_of shift) run.stamps ds) run_is.group said.1;
       text = end.bytes.items;
       prints = text;
       answer_is = e;
     }))
 
-pub capture-late : (m : Media) (kind : Kind) (options : FlowOptions) (first : ℕ) (j : Judged) (bytes : Vec ℕ Global) (begun walk gone : Walk) (leaver : Leaver) (late : Late)
-    (answer : Answer)
+pub capture-late : (m : Media) (kind : Kind) (shift : Shift) (first : ℕ) (j : Judged) (bytes : Vec ℕ Global) (begun walk gone : Walk) (leaver : Leaver)
+    (late : Late) (answer : Answer)
     → ((records : List Record) → bytes.items ≡ file_head ++ came_text records → All CanBeHeld records → IsBefore begun file_head records)
     → PassesAll j.head begun walk
     → ((done : List ℕ) (r : Record) (rest : List Record) → IsBefore walk done (r ∷ rest) → first ≡ r.stamp)
-    → HasLet (part_of m kind options first j) leaver [] [] → Departs j.packets leaver walk gone (Err late)
-    → answer ≡ not_shaped late.packet → IsShapeOf m kind options j (Capture bytes) answer
-capture-late m kind options first j bytes begun walk gone leaver late answer new passed is given departs e = λ list items run run_is kept.
-    let said = captured-run m kind options first j bytes begun walk gone leaver (Err late) new passed is given departs list items run run_is kept in
+    → HasLet (part_of m kind shift first j) leaver [] [] → Departs j.packets leaver walk gone (Err late)
+    → answer ≡ not_shaped late.packet → IsShapeOf m kind shift j (Capture bytes) answer
+capture-late m kind shift first j bytes begun walk gone leaver late answer new passed is given departs e = λ list items run run_is kept.
+    let said = captured-run m kind shift first j bytes begun walk gone leaver (Err late) new passed is given departs list items run run_is kept in
     inr (record {
       packet = late.packet;
-      late = subst (λ n. IsLate m n kind (end_of options) run.stamps late.packet) run_is.group said;
+      late = subst (λ n. IsLate m n kind (end_of shift) run.stamps late.packet) run_is.group said;
       answer_is = e;
     })

@@ -10,6 +10,7 @@ use Rattle.flow_shaper.specs.declared.departure.Departure.{Departure}
 use Rattle.flow_shaper.specs.declared.departure.Late.{Late}
 use Rattle.flow_shaper.specs.declared.shaper.Shaper.{Shaper}
 use Rattle.timing_base.specs.Media.{Media}
+use Rattle.timing_base.specs.Shifts.{Shift, shifted}
 use Rattle.timing_base.specs.declared.media.Kind.{Kind}
 use Rattle.timing_reach.specs.shape.Leaving.{HasLet, IsFit, Leaves, LeavesSo, Part}
 use Rattle.timing_reach.specs.Shapes.{IsLate, LeaveInTime, end_of}
@@ -39,38 +40,38 @@ can-follow s stamps origin at is fit =
 
 -- these leave in time
 pub let-in-time : (w : Part) (l : Leaver) (stamps departures : List ℕ) → HasLet w l stamps departures
-    → LeaveInTime w.media w.n w.kind (end_of w.options) stamps departures
+    → LeaveInTime w.media w.n w.kind (end_of w.shift) stamps departures
 let-in-time w l stamps departures h =
-    retold (λ m n kind end. LeaveInTime m n kind end stamps departures) l.params.media w.media l.params.n w.n l.shaper.kind w.kind l.shaper.end (end_of w.options)
+    retold (λ m n kind end. LeaveInTime m n kind end stamps departures) l.params.media w.media l.params.n w.n l.shaper.kind w.kind l.shaper.end (end_of w.shift)
     h.media h.group h.kind h.end (record { shaped = h.stands.shaped; in_time = h.stands.in_time })
 
 -- what its shaper says of a packet
-pub one-leaves : (w : Part) (old new : Leaver) (stamps departures : List ℕ) (at : ℕ) (result : Result Departure Late) → new.params ≡ old.params
-    → new.added ≡ old.added → new.shaper.kind ≡ old.shaper.kind → new.shaper.origin ≡ old.shaper.origin → new.shaper.end ≡ old.shaper.end
-    → ((arrivals departures : List ℕ) → StandsFor old.params old.shaper arrivals departures → CanFollow old.shaper arrivals (at + old.added)
-    → IfOk result (λ d. BoundAt old.params.media old.params.n old.shaper.kind (arrivals ++ (at + old.added) ∷ []) (departures ++ d.at ∷ [])
+pub one-leaves : (w : Part) (old new : Leaver) (stamps departures : List ℕ) (at came : ℕ) (result : Result Departure Late) → came ≡ shifted old.shift at
+    → new.params ≡ old.params → new.shift ≡ old.shift → new.shaper.kind ≡ old.shaper.kind → new.shaper.origin ≡ old.shaper.origin → new.shaper.end ≡ old.shaper.end
+    → ((arrivals departures : List ℕ) → StandsFor old.params old.shaper arrivals departures → CanFollow old.shaper arrivals came
+    → IfOk result (λ d. BoundAt old.params.media old.params.n old.shaper.kind (arrivals ++ came ∷ []) (departures ++ d.at ∷ [])
     (length arrivals) d.bound))
-    → ((arrivals departures : List ℕ) → StandsFor old.params old.shaper arrivals departures → CanFollow old.shaper arrivals (at + old.added)
-    → IfOk result (λ d. StandsFor new.params new.shaper (arrivals ++ (at + old.added) ∷ []) (departures ++ d.at ∷ [])))
-    → ((arrivals departures : List ℕ) → StandsFor old.params old.shaper arrivals departures → CanFollow old.shaper arrivals (at + old.added)
+    → ((arrivals departures : List ℕ) → StandsFor old.params old.shaper arrivals departures → CanFollow old.shaper arrivals came
+    → IfOk result (λ d. StandsFor new.params new.shaper (arrivals ++ came ∷ []) (departures ++ d.at ∷ [])))
+    → ((arrivals departures : List ℕ) → StandsFor old.params old.shaper arrivals departures → CanFollow old.shaper arrivals came
     → (late : Late) → result ≡ Err late
-    → (late.packet ≡ length arrivals) × NoneInTime old.params old.shaper (arrivals ++ (at + old.added) ∷ []) (length arrivals))
-    → HasLet w old stamps departures → Leaves w new stamps departures (at + w.options * 10 ^ 9) result
-one-leaves w old new stamps departures at result params added kind origin end bound stands late h =
-    subst (λ x. Leaves w new stamps departures (at + x) result) h.added
-    (λ fit. by result (bound stamps departures h.stands (can-follow old.shaper stamps w.origin (at + old.added) h.origin fit))
-    (stands stamps departures h.stands (can-follow old.shaper stamps w.origin (at + old.added) h.origin fit))
-    (late stamps departures h.stands (can-follow old.shaper stamps w.origin (at + old.added) h.origin fit)))
+    → (late.packet ≡ length arrivals) × NoneInTime old.params old.shaper (arrivals ++ came ∷ []) (length arrivals))
+    → HasLet w old stamps departures → Leaves w new stamps departures (shifted w.shift at) result
+one-leaves w old new stamps departures at came result is params shift kind origin end bound stands late h =
+    subst (λ x. Leaves w new stamps departures x result) (is ∙ ap (λ (x : Shift). shifted x at) h.shift)
+    (λ fit. by result (bound stamps departures h.stands (can-follow old.shaper stamps w.origin came h.origin fit))
+    (stands stamps departures h.stands (can-follow old.shaper stamps w.origin came h.origin fit))
+    (late stamps departures h.stands (can-follow old.shaper stamps w.origin came h.origin fit)))
   where
     by : (result : Result Departure Late)
-        → IfOk result (λ d. BoundAt old.params.media old.params.n old.shaper.kind (stamps ++ (at + old.added) ∷ []) (departures ++ d.at ∷ []) (length stamps)
-        d.bound)
-        → IfOk result (λ d. StandsFor new.params new.shaper (stamps ++ (at + old.added) ∷ []) (departures ++ d.at ∷ []))
+        → IfOk result (λ d. BoundAt old.params.media old.params.n old.shaper.kind (stamps ++ came ∷ []) (departures ++ d.at ∷ [])
+        (length stamps) d.bound)
+        → IfOk result (λ d. StandsFor new.params new.shaper (stamps ++ came ∷ []) (departures ++ d.at ∷ []))
         → ((late : Late) → result ≡ Err late
-        → (late.packet ≡ length stamps) × NoneInTime old.params old.shaper (stamps ++ (at + old.added) ∷ []) (length stamps))
-        → LeavesSo w new stamps departures (at + old.added) result
+        → (late.packet ≡ length stamps) × NoneInTime old.params old.shaper (stamps ++ came ∷ []) (length stamps))
+        → LeavesSo w new stamps departures came result
     by (Ok d) bound stands late = (
-      retold (λ m n kind end. BoundAt m n kind (stamps ++ (at + old.added) ∷ []) (departures ++ d.at ∷ []) (length stamps) d.bound)
+      retold (λ m n kind end. BoundAt m n kind (stamps ++ came ∷ []) (departures ++ d.at ∷ []) (length stamps) d.bound)
           old.params.media w.media old.params.n w.n old.shaper.kind w.kind 0 0 h.media h.group h.kind refl bound,
       record {
         media = ap (λ x. x.media) params ∙ h.media;
@@ -78,16 +79,16 @@ one-leaves w old new stamps departures at result params added kind origin end bo
         kind = kind ∙ h.kind;
         origin = origin ∙ h.origin;
         end = end ∙ h.end;
-        added = added ∙ h.added;
+        shift = shift ∙ h.shift;
         stands = stands;
       },
     )
     by (Err e) bound stands late =
         let none = late e refl in (
           none.0,
-          retold (λ m n kind end. IsLate m n kind end (stamps ++ (at + old.added) ∷ []) (length stamps))
-              old.params.media w.media old.params.n w.n old.shaper.kind w.kind old.shaper.end (end_of w.options) h.media h.group h.kind h.end
-              (late-last old.params.media old.params.n old.shaper.kind old.shaper.end stamps departures (at + old.added)
+          retold (λ m n kind end. IsLate m n kind end (stamps ++ came ∷ []) (length stamps))
+              old.params.media w.media old.params.n w.n old.shaper.kind w.kind old.shaper.end (end_of w.shift) h.media h.group h.kind h.end
+              (late-last old.params.media old.params.n old.shaper.kind old.shaper.end stamps departures came
               (record { shaped = h.stands.shaped; in_time = h.stands.in_time }) none.1),
         )
 
@@ -117,12 +118,12 @@ next-leaves w old new stamps departures i at d within is fit leaves =
     (left.0, subst (λ l. HasLet w new l (departures ++ d.at ∷ [])) (sym more) left.1)
 
 pub next-late : (w : Part) (old new : Leaver) (stamps departures : List ℕ) (i at : ℕ) (late : Late) → i < length stamps → at ≡ slice_index stamps i
-    → IsFit w.origin stamps → Leaves w new (take i stamps) departures at (Err late) → IsLate w.media w.n w.kind (end_of w.options) stamps late.packet
+    → IsFit w.origin stamps → Leaves w new (take i stamps) departures at (Err late) → IsLate w.media w.n w.kind (end_of w.shift) stamps late.packet
 next-late w old new stamps departures i at late within is fit leaves =
     let more : take (i + 1) stamps ≡ take i stamps ++ at ∷ [] = take_more stamps i 0 within ∙ ap (λ x. take i stamps ++ x ∷ []) (sym is) in
     let said = leaves (subst (IsFit w.origin) more (fit-take w.origin stamps (i + 1) (omega (arith, within)) fit)) in
     let all : (take i stamps ++ at ∷ []) ++ drop (i + 1) stamps ≡ stamps =
     ap (λ l. l ++ drop (i + 1) stamps) (sym more) ∙ take-append-drop (i + 1) stamps in
-    subst (λ k. IsLate w.media w.n w.kind (end_of w.options) stamps k) (sym said.0)
-    (subst (λ l. IsLate w.media w.n w.kind (end_of w.options) l (length (take i stamps))) all
-    (late-more w.media w.n w.kind (end_of w.options) (take i stamps ++ at ∷ []) (drop (i + 1) stamps) (length (take i stamps)) said.1))
+    subst (λ k. IsLate w.media w.n w.kind (end_of w.shift) stamps k) (sym said.0)
+    (subst (λ l. IsLate w.media w.n w.kind (end_of w.shift) l (length (take i stamps))) all
+    (late-more w.media w.n w.kind (end_of w.shift) (take i stamps ++ at ∷ []) (drop (i + 1) stamps) (length (take i stamps)) said.1))

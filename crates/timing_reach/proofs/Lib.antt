@@ -13,6 +13,7 @@ pub mod Unique
 mod Listings
 mod Copies
 mod Resent
+mod Numbers
 mod Rejudged
 pub mod OneShape
 mod Leavings

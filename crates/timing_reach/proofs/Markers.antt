@@ -7,7 +7,7 @@ use Rattle.timing_base.specs.Flows.{has_marker, markers, no_packet, packet, plac
 use Rattle.timing_base.specs.declared.packet.FlowPacket.{FlowPacket}
 
 -- places go by what the test says below the end
-places-same : (test other : ℕ → Bool) (from n : ℕ) → ((k : ℕ) → k < n → test k ≡ other k) → places test from n ≡ places other from n
+pub places-same : (test other : ℕ → Bool) (from n : ℕ) → ((k : ℕ) → k < n → test k ≡ other k) → places test from n ≡ places other from n
 places-same test other from zero same = refl
 places-same test other from (suc n) same =
     ap (λ l. l ++ (if nat_le from n && test n then n ∷ [] else [])) (places-same test other from n (λ k h. same k (omega (arith, h))))

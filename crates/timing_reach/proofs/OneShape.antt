@@ -5,7 +5,7 @@ use Rattle.std.specs.List.{count_by}
 use Rattle.std.proofs.lemmas.Bool.{cases_lt}
 use Rattle.std.proofs.lemmas.Grind.{same_number_lists}
 use Rattle.std.proofs.lemmas.List.{ext_get_or, get_or-take, length-take-le}
-use Rattle.timing_base.specs.Shifts.{FlowOptions}
+use Rattle.timing_base.specs.Shifts.{Shift}
 use Rattle.flow_shaper.specs.Bounds.{IsBound}
 use Rattle.flow_shaper.specs.Plan.{IsPlan, Models, Plan, models_of}
 use Rattle.flow_shaper.proofs.Exists.{least-once}
@@ -126,24 +126,26 @@ list-once m n kind stamps departures a b h k =
     h.text_is ∙ ap (λ (bounds : List Bound). packet_lines 0 ds bounds ++ delays_line (count_by (nat_lt 0) ds) (length ds) (greatest ds))
     (bounds-once m n kind stamps departures h.bounds k.bounds h.are k.are) ∙ sym k.text_is
 
-prints-once : (list : Bool) (options : FlowOptions) (kind : Kind) (m : Media) (items : List Record) (run : JudgedRun) (departures a b : List ℕ)
-    → Prints list options kind m items run departures a → Prints list options kind m items run departures b → a ≡ b
-prints-once true options kind m items run departures a b h k = list-once m run.n kind run.stamps departures a b h k
-prints-once false options kind m items run departures a b h k = h ∙ sym k
+prints-once : (list : Bool) (shift : Shift) (kind : Kind) (m : Media) (items : List Record) (run : JudgedRun) (departures a b : List ℕ)
+    → Prints list shift kind m items run departures a → Prints list shift kind m items run departures b → a ≡ b
+prints-once true shift kind m items run departures a b h k = list-once m run.n kind run.stamps departures a b h k
+prints-once false shift kind m items run departures a b h k = h ∙ sym k
 
-plan-once : (list : Bool) (options : FlowOptions) (kind : Kind) (m : Media) (items : List Record) (run : JudgedRun) (a b : Answer) → HasPlan list options kind m items run a
-    → HasPlan list options kind m items run b → a ≡ b
-plan-once list options kind m items run a b h k =
-    let same : h.departures ≡ k.departures = leave-once m run.n kind (end_of options) run.stamps h.departures k.departures h.leave k.leave in
+plan-once : (list : Bool) (shift : Shift) (kind : Kind) (m : Media) (items : List Record) (run : JudgedRun) (a b : Answer)
+    → HasPlan list shift kind m items run a
+    → HasPlan list shift kind m items run b → a ≡ b
+plan-once list shift kind m items run a b h k =
+    let same : h.departures ≡ k.departures = leave-once m run.n kind (end_of shift) run.stamps h.departures k.departures h.leave k.leave in
     let text : h.text ≡ k.text =
-    prints-once list options kind m items run k.departures h.text k.text (subst (λ d. Prints list options kind m items run d h.text) same h.prints) k.prints in
+    prints-once list shift kind m items run k.departures h.text k.text (subst (λ d. Prints list shift kind m items run d h.text) same h.prints) k.prints in
     h.answer_is ∙ ap (λ (t : List ℕ). record { text = t; status = status.Pass }) text ∙ sym k.answer_is
 
 -- of a run
-pub shape-once : (list : Bool) (options : FlowOptions) (kind : Kind) (m : Media) (items : List Record) (run : JudgedRun) (a b : Answer) → HasShape list options kind m items run a
-    → HasShape list options kind m items run b → a ≡ b
-shape-once list options kind m items run a b (inl h) (inl k) = plan-once list options kind m items run a b h k
-shape-once list options kind m items run a b (inl h) (inr k) = absurd (late-not m run.n kind (end_of options) run.stamps h.departures k.packet k.late h.leave)
-shape-once list options kind m items run a b (inr h) (inl k) = absurd (late-not m run.n kind (end_of options) run.stamps k.departures h.packet h.late k.leave)
-shape-once list options kind m items run a b (inr h) (inr k) =
-    h.answer_is ∙ ap not_shaped (late-once m run.n kind (end_of options) run.stamps h.packet k.packet h.late k.late) ∙ sym k.answer_is
+pub shape-once : (list : Bool) (shift : Shift) (kind : Kind) (m : Media) (items : List Record) (run : JudgedRun) (a b : Answer)
+    → HasShape list shift kind m items run a
+    → HasShape list shift kind m items run b → a ≡ b
+shape-once list shift kind m items run a b (inl h) (inl k) = plan-once list shift kind m items run a b h k
+shape-once list shift kind m items run a b (inl h) (inr k) = absurd (late-not m run.n kind (end_of shift) run.stamps h.departures k.packet k.late h.leave)
+shape-once list shift kind m items run a b (inr h) (inl k) = absurd (late-not m run.n kind (end_of shift) run.stamps k.departures h.packet h.late k.leave)
+shape-once list shift kind m items run a b (inr h) (inr k) =
+    h.answer_is ∙ ap not_shaped (late-once m run.n kind (end_of shift) run.stamps h.packet k.packet h.late k.late) ∙ sym k.answer_is

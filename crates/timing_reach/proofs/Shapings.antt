@@ -4,9 +4,8 @@ use Rattle.std.proofs.Common.{◌≡◌, ◌≤◌, ◌<◌, ◌+◌, ◌-◌, �
 use Rattle.std.proofs.Common.{subst, inl, inr}
 use Rattle.std.proofs.Common.{append_assoc, length-append}
 use Rattle.std.specs.List.{count_by}
-use Rattle.std.proofs.Math.Seq.{get_or-append_seam}
 use Rattle.std.proofs.lemmas.List.{drop_more, get_or-map, get_or-take, length-map, length-take-le, take_all, take_more}
-use Rattle.timing_base.specs.Shifts.{FlowOptions}
+use Rattle.timing_base.specs.Shifts.{Shift, shifted, unshifted}
 use Rattle.flow_shaper.specs.Bounds.{BoundAt}
 use Rattle.flow_shaper.specs.declared.departure.Departure.{Departure}
 use Rattle.flow_shaper.specs.declared.departure.Late.{Late}
@@ -22,7 +21,7 @@ use Rattle.timing_reach.specs.shape.Walking.{CanSkip, IsBefore, PassesOne}
 use Rattle.timing_reach.specs.declared.shape.delays.Delays.{Delays}
 use Rattle.timing_reach.specs.declared.shape.leaver.Leaver.{Leaver}
 use Rattle.timing_reach.specs.declared.shape.walk.Walk.{Walk}
-use Rattle.timing_reach.proofs.Copies.{capture-judged}
+use Rattle.timing_reach.proofs.Copies.{capture-judged, last-more}
 use Rattle.timing_reach.proofs.Leavings.{let-in-time, next-late, next-leaves}
 use Rattle.timing_reach.proofs.Listings.{bounds-more, count-more, delays-more, greatest-more, length-delays, lines-more}
 
@@ -59,45 +58,45 @@ listed-more w stamps departures old new packet at delay d same number late bound
       most = most ∙ ap (λ k. max k delay) h.most ∙ sym (greatest-more ds delay) ∙ ap greatest (sym more);
     }
 
--- the stamp of packet i in TAI
-pub options-at : (options : FlowOptions) (stamps : List ℕ) (i : ℕ) → i < length stamps → slice_index stamps i + options * 10 ^ 9 ≡ slice_index (in_tai options stamps) i
-options-at options stamps i within = sym (get_or-map (λ at. at + options * 10 ^ 9) stamps i 0 0 within)
+-- the stamp of packet i after the shift
+pub shifted-at : (shift : Shift) (stamps : List ℕ) (i : ℕ) → i < length stamps → shifted shift (slice_index stamps i) ≡ slice_index (in_tai shift stamps) i
+shifted-at shift stamps i within = sym (get_or-map (shifted shift) stamps i 0 0 within)
 
 pub listed-next : (w : Part) (old new : Leaver) (before after : Delays) (stamps : List ℕ) (i at delay : ℕ) (d : Departure) → i < length stamps
-    → at ≡ slice_index stamps i → new.added ≡ old.added → delay ≡ d.at - (at + new.added)
-    → ((w : Part) (stamps departures : List ℕ) → HasLet w old stamps departures → Leaves w new stamps departures (at + w.options * 10 ^ 9) (Ok d))
+    → at ≡ slice_index stamps i → new.shift ≡ old.shift → delay ≡ d.at - shifted new.shift at
+    → ((w : Part) (stamps departures : List ℕ) → HasLet w old stamps departures → Leaves w new stamps departures (shifted w.shift at) (Ok d))
     → string_bytes after.lines ≡ string_bytes before.lines ++ packet_line i delay d.bound
     → after.delayed ≡ before.delayed + cond (nat_lt 0 delay) 1 0 → after.greatest ≡ max before.greatest delay
-    → IsFit w.origin (in_tai w.options stamps) → HasListed w old before (in_tai w.options stamps) i → HasListed w new after (in_tai w.options stamps) (i + 1)
-listed-next w old new before after stamps i at delay d within is added late leaves lines delayed most fit h =
-    let all = in_tai w.options stamps in
-    let long : length all ≡ length stamps = length-map stamps (λ at. at + w.options * 10 ^ 9) in
-    let came : at + w.options * 10 ^ 9 ≡ slice_index all i = ap (λ x. x + w.options * 10 ^ 9) is ∙ options-at w.options stamps i within in
-    let next = next-leaves w old new all h.departures i (at + w.options * 10 ^ 9) d (omega (arith, within, long)) came fit
+    → IsFit w.origin (in_tai w.shift stamps) → HasListed w old before (in_tai w.shift stamps) i → HasListed w new after (in_tai w.shift stamps) (i + 1)
+listed-next w old new before after stamps i at delay d within is same late leaves lines delayed most fit h =
+    let all = in_tai w.shift stamps in
+    let long : length all ≡ length stamps = length-map stamps (shifted w.shift) in
+    let came : shifted w.shift at ≡ slice_index all i = ap (shifted w.shift) is ∙ shifted-at w.shift stamps i within in
+    let next = next-leaves w old new all h.departures i (shifted w.shift at) d (omega (arith, within, long)) came fit
     (leaves w (take i all) h.departures h.left) in
     let size : length (take i all) ≡ i = length-take-le i all (omega (arith, within, long)) in
-    let more : take (i + 1) all ≡ take i all ++ (at + w.options * 10 ^ 9) ∷ [] =
+    let more : take (i + 1) all ≡ take i all ++ shifted w.shift at ∷ [] =
     take_more all i 0 (omega (arith, within, long)) ∙ ap (λ x. take i all ++ x ∷ []) (sym came) in
     record {
       departures = h.departures ++ d.at ∷ [];
       left = next.1;
       listed = subst (λ l. IsListed w l (h.departures ++ d.at ∷ []) after) (sym more)
-          (listed-more w (take i all) h.departures before after i (at + w.options * 10 ^ 9) delay d (let-count w old (take i all) h.departures h.left) (sym size)
-          (late ∙ ap (λ x. d.at - (at + x)) (added ∙ h.left.added)) next.0 lines delayed most h.listed);
+          (listed-more w (take i all) h.departures before after i (shifted w.shift at) delay d (let-count w old (take i all) h.departures h.left) (sym size)
+          (late ∙ ap (λ (x : Shift). d.at - shifted x at) (same ∙ h.left.shift)) next.0 lines delayed most h.listed);
     }
 
 -- a packet is late
 pub lists-late : (w : Part) (old new : Leaver) (before : Delays) (stamps : List ℕ) (i at : ℕ) (late : Late) (answer : Answer) → i < length stamps
     → at ≡ slice_index stamps i → answer ≡ not_shaped late.packet
-    → ((w : Part) (stamps departures : List ℕ) → HasLet w old stamps departures → Leaves w new stamps departures (at + w.options * 10 ^ 9) (Err late))
-    → IsFit w.origin (in_tai w.options stamps) → HasListed w old before (in_tai w.options stamps) i → ListsSo w (in_tai w.options stamps) answer
+    → ((w : Part) (stamps departures : List ℕ) → HasLet w old stamps departures → Leaves w new stamps departures (shifted w.shift at) (Err late))
+    → IsFit w.origin (in_tai w.shift stamps) → HasListed w old before (in_tai w.shift stamps) i → ListsSo w (in_tai w.shift stamps) answer
 lists-late w old new before stamps i at late answer within is e leaves fit h =
-    let all = in_tai w.options stamps in
-    let long : length all ≡ length stamps = length-map stamps (λ at. at + w.options * 10 ^ 9) in
-    let came : at + w.options * 10 ^ 9 ≡ slice_index all i = ap (λ x. x + w.options * 10 ^ 9) is ∙ options-at w.options stamps i within in
+    let all = in_tai w.shift stamps in
+    let long : length all ≡ length stamps = length-map stamps (shifted w.shift) in
+    let came : shifted w.shift at ≡ slice_index all i = ap (shifted w.shift) is ∙ shifted-at w.shift stamps i within in
     inr (record {
       packet = late.packet;
-      late = next-late w old new all h.departures i (at + w.options * 10 ^ 9) late (omega (arith, within, long)) came fit
+      late = next-late w old new all h.departures i (shifted w.shift at) late (omega (arith, within, long)) came fit
           (leaves w (take i all) h.departures h.left);
       answer_is = e;
     })
@@ -120,10 +119,10 @@ listed-text w stamps departures packets d each size h =
 
 pub lists-all : (w : Part) (l : Leaver) (d : Delays) (stamps : List ℕ) (answer : Answer)
     → answer ≡ record { text = string_bytes d.lines ++ delays_line d.delayed (length stamps) d.greatest; status = status.Pass }
-    → HasListed w l d (in_tai w.options stamps) (length stamps) → ListsSo w (in_tai w.options stamps) answer
+    → HasListed w l d (in_tai w.shift stamps) (length stamps) → ListsSo w (in_tai w.shift stamps) answer
 lists-all w l d stamps answer is h =
-    let all = in_tai w.options stamps in
-    let long : length all ≡ length stamps = length-map stamps (λ at. at + w.options * 10 ^ 9) in
+    let all = in_tai w.shift stamps in
+    let long : length all ≡ length stamps = length-map stamps (shifted w.shift) in
     let whole : take (length stamps) all ≡ all = take_all (length stamps) all (omega (arith, long)) in
     let left : HasLet w l all h.departures = subst (λ x. HasLet w l x h.departures) whole h.left in
     let listed : IsListed w all h.departures d = subst (λ x. IsListed w x h.departures d) whole h.listed in
@@ -140,29 +139,29 @@ abbrev no_record : Record
 no_record = record { number = 0; stamp = 0; bytes = [] }
 
 -- the judged packets, by their records
-judged-at : (options : FlowOptions) (count i : ℕ) (records : List Record) → i < count → count ≤ length records
-    → slice_index (in_tai options (stamps_of (take count records))) i ≡ (slice_index_or records i no_record).stamp + options * 10 ^ 9
-judged-at options count i records low few =
+judged-at : (shift : Shift) (count i : ℕ) (records : List Record) → i < count → count ≤ length records
+    → slice_index (in_tai shift (stamps_of (take count records))) i ≡ shifted shift (slice_index_or records i no_record).stamp
+judged-at shift count i records low few =
     let part = take count records in
     let size : length part ≡ count = length-take-le count records few in
     let long : length (stamps_of part) ≡ count = length-map part (λ (r : Record). r.stamp) ∙ size in
-    get_or-map (λ at. at + options * 10 ^ 9) (stamps_of part) i 0 0 (omega (arith, low, long))
-    ∙ ap (λ x. x + options * 10 ^ 9) (get_or-map (λ (r : Record). r.stamp) part i no_record 0 (omega (arith, low, size)))
-    ∙ ap (λ (r : Record). r.stamp + options * 10 ^ 9) (get_or-take count records i no_record low)
+    get_or-map (shifted shift) (stamps_of part) i 0 0 (omega (arith, low, long))
+    ∙ ap (shifted shift) (get_or-map (λ (r : Record). r.stamp) part i no_record 0 (omega (arith, low, size)))
+    ∙ ap (λ (r : Record). shifted shift r.stamp) (get_or-take count records i no_record low)
 
-judged-count : (options : FlowOptions) (count : ℕ) (records : List Record) → count ≤ length records → length (in_tai options (stamps_of (take count records))) ≡ count
-judged-count options count records few =
-    length-map (stamps_of (take count records)) (λ at. at + options * 10 ^ 9) ∙ length-map (take count records) (λ (r : Record). r.stamp)
+judged-count : (shift : Shift) (count : ℕ) (records : List Record) → count ≤ length records → length (in_tai shift (stamps_of (take count records))) ≡ count
+judged-count shift count records few =
+    length-map (stamps_of (take count records)) (shifted shift) ∙ length-map (take count records) (λ (r : Record). r.stamp)
     ∙ length-take-le count records few
 
 -- what is known of the next packet
 pub record IsNext (w : Part) (walk : Walk) (stamp : ℕ) (done : List ℕ) (records : List Record) (stamps : List ℕ) (i : ℕ) : Type 0 where
   pub within : i < length stamps
-  pub came : stamp + w.options * 10 ^ 9 ≡ slice_index stamps i
+  pub came : shifted w.shift stamp ≡ slice_index stamps i
   pub before : IsBefore walk done (slice_index_or records i no_record ∷ drop (i + 1) records)
 
 pub next-one : (w : Part) (walk : Walk) (stamp : ℕ) (done : List ℕ) (records : List Record) (stamps : List ℕ) (count i : ℕ) → i < count → count ≤ length records
-    → stamps ≡ in_tai w.options (stamps_of (take count records))
+    → stamps ≡ in_tai w.shift (stamps_of (take count records))
     → ((done : List ℕ) (r : Record) (rest : List Record) → IsBefore walk done (r ∷ rest) → stamp ≡ r.stamp)
     → IsBefore walk done (drop i records) → IsNext w walk stamp done records stamps i
 next-one w walk stamp done records stamps count i low few are is h =
@@ -170,64 +169,63 @@ next-one w walk stamp done records stamps count i low few are is h =
     let before : IsBefore walk done (r ∷ drop (i + 1) records) =
     subst (λ (l : List Record). IsBefore walk done l) (drop_more records i no_record (omega (arith, low, few))) h in
     record {
-      within = omega (arith, low, ap length are, judged-count w.options count records few);
-      came = ap (λ x. x + w.options * 10 ^ 9) (is done r (drop (i + 1) records) before) ∙ sym (judged-at w.options count i records low few)
+      within = omega (arith, low, ap length are, judged-count w.shift count records few);
+      came = ap (shifted w.shift) (is done r (drop (i + 1) records) before) ∙ sym (judged-at w.shift count i records low few)
           ∙ ap (λ l. slice_index l i) (sym are);
       before = before;
     }
 
 -- a judged packet more leaves
 pub left-next : (w : Part) (old new : Leaver) (walk mid next : Walk) (before stamp left : ℕ) (head records : List Record) (stamps : List ℕ) (count i : ℕ)
-    (d : Departure) → i < count → count ≤ length records → stamps ≡ in_tai w.options (stamps_of (take count records)) → IsFit w.origin stamps
+    (d : Departure) → i < count → count ≤ length records → stamps ≡ in_tai w.shift (stamps_of (take count records)) → IsFit w.origin stamps
     → ((done : List ℕ) (r : Record) (rest : List Record) → IsBefore walk done (r ∷ rest) → stamp ≡ r.stamp)
-    → ((w : Part) (stamps departures : List ℕ) → HasLet w old stamps departures → Leaves w new stamps departures (stamp + w.options * 10 ^ 9) (Ok d))
-    → new.added ≡ old.added → left ≡ d.at - new.added
+    → ((w : Part) (stamps departures : List ℕ) → HasLet w old stamps departures → Leaves w new stamps departures (shifted w.shift stamp) (Ok d))
+    → new.shift ≡ old.shift → left ≡ unshifted new.shift d.at
     → ((done : List ℕ) (r : Record) (rest : List Record) → IsBefore walk done (r ∷ rest) → IsBefore mid done (restamped left r ∷ rest))
     → PassesOne mid next → HasLeft w old walk before head records stamps i → HasLeft w new next left head records stamps (i + 1)
-left-next w old new walk mid next before stamp left head records stamps count i d low few are fit is leaves added at stamped one h =
+left-next w old new walk mid next before stamp left head records stamps count i d low few are fit is leaves same at stamped one h =
     let r = slice_index_or records i no_record in
     let ds = h.departures in
     let more = ds ++ d.at ∷ [] in
     let front = head ++ take i records in
-    let done = shaped_capture w.options (length head) ds front in
+    let done = shaped_capture w.shift (length head) ds front in
     let known = next-one w walk stamp done records stamps count i low few are is h.before in
-    let gone = next-leaves w old new stamps ds i (stamp + w.options * 10 ^ 9) d known.within known.came fit (leaves w (take i stamps) ds h.let_go) in
+    let gone = next-leaves w old new stamps ds i (shifted w.shift stamp) d known.within known.came fit (leaves w (take i stamps) ds h.let_go) in
     let within : i < length records = omega (arith, low, few) in
     let size : length (take i records) ≡ i = length-take-le i records (omega (arith, within)) in
     let seen : length (take i stamps) ≡ i = length-take-le i stamps (omega (arith, known.within)) in
     let place : length front ≡ length head + length ds =
     omega (arith, length-append head (take i records), size, seen, let-count w old (take i stamps) ds h.let_go) in
-    let here : left ≡ d.at - w.options * 10 ^ 9 = at ∙ ap (λ x. d.at - x) (added ∙ h.let_go.added) in
-    let last : length more - 1 ≡ length ds = omega (arith, length-append ds (d.at ∷ [])) in
-    let text : done ++ record_text (restamped left r) ≡ shaped_capture w.options (length head) more (head ++ take (i + 1) records) =
-    ap (λ x. done ++ record_text (restamped x r)) here ∙ sym (capture-judged w.options (length head) ds d.at front r place)
-    ∙ ap (shaped_capture w.options (length head) more) (append_assoc head (take i records) (r ∷ [])
+    let here : left ≡ unshifted w.shift d.at = at ∙ ap (λ (x : Shift). unshifted x d.at) (same ∙ h.let_go.shift) in
+    let text : done ++ record_text (restamped left r) ≡ shaped_capture w.shift (length head) more (head ++ take (i + 1) records) =
+    ap (λ x. done ++ record_text (restamped x r)) here ∙ sym (capture-judged w.shift (length head) ds d.at front r place)
+    ∙ ap (shaped_capture w.shift (length head) more) (append_assoc head (take i records) (r ∷ [])
     ∙ ap (λ (l : List Record). head ++ l) (sym (take_more records i no_record within))) in
     record {
       departures = more;
       let_go = gone.1;
-      last = here ∙ ap (λ x. x - w.options * 10 ^ 9) (sym (ap (slice_index more) last ∙ get_or-append_seam ds d.at [] 0));
+      last = here ∙ sym (last-more w.shift ds d.at);
       before = subst (λ l. IsBefore next l (drop (i + 1) records)) text
           (one done (restamped left r) (drop (i + 1) records) (stamped done r (drop (i + 1) records) known.before));
     }
 
 -- one is late
 pub departs-late : (w : Part) (old new : Leaver) (walk : Walk) (before stamp : ℕ) (head records : List Record) (stamps : List ℕ) (count i : ℕ) (late : Late)
-    → i < count → count ≤ length records → stamps ≡ in_tai w.options (stamps_of (take count records)) → IsFit w.origin stamps
+    → i < count → count ≤ length records → stamps ≡ in_tai w.shift (stamps_of (take count records)) → IsFit w.origin stamps
     → ((done : List ℕ) (r : Record) (rest : List Record) → IsBefore walk done (r ∷ rest) → stamp ≡ r.stamp)
-    → ((w : Part) (stamps departures : List ℕ) → HasLet w old stamps departures → Leaves w new stamps departures (stamp + w.options * 10 ^ 9) (Err late))
-    → HasLeft w old walk before head records stamps i → IsLate w.media w.n w.kind (end_of w.options) stamps late.packet
+    → ((w : Part) (stamps departures : List ℕ) → HasLet w old stamps departures → Leaves w new stamps departures (shifted w.shift stamp) (Err late))
+    → HasLeft w old walk before head records stamps i → IsLate w.media w.n w.kind (end_of w.shift) stamps late.packet
 departs-late w old new walk before stamp head records stamps count i late low few are fit is leaves h =
     let known =
-    next-one w walk stamp (shaped_capture w.options (length head) h.departures (head ++ take i records)) records stamps count i low few are is h.before in
-    next-late w old new stamps h.departures i (stamp + w.options * 10 ^ 9) late known.within known.came fit (leaves w (take i stamps) h.departures h.let_go)
+    next-one w walk stamp (shaped_capture w.shift (length head) h.departures (head ++ take i records)) records stamps count i low few are is h.before in
+    next-late w old new stamps h.departures i (shifted w.shift stamp) late known.within known.came fit (leaves w (take i stamps) h.departures h.let_go)
 
 -- all left
 pub departs-all : (w : Part) (l : Leaver) (walk : Walk) (left : ℕ) (head records : List Record) (stamps : List ℕ) (count : ℕ) → count ≤ length records
-    → stamps ≡ in_tai w.options (stamps_of (take count records)) → HasLeft w l walk left head records stamps count
+    → stamps ≡ in_tai w.shift (stamps_of (take count records)) → HasLeft w l walk left head records stamps count
     → DepartsSo w walk head records stamps count (Ok left)
 departs-all w l walk left head records stamps count few are h =
-    let whole : take count stamps ≡ stamps = take_all count stamps (omega (arith, ap length are, judged-count w.options count records few)) in
+    let whole : take count stamps ≡ stamps = take_all count stamps (omega (arith, ap length are, judged-count w.shift count records few)) in
     let gone : HasLet w l stamps h.departures = subst (λ x. HasLet w l x h.departures) whole h.let_go in
     (h.departures, let-in-time w l stamps h.departures gone, h.last, h.before)
 

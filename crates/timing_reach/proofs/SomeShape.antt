@@ -6,7 +6,7 @@ use Rattle.std.proofs.Common.{inr, add-one, length-append}
 use Rattle.std.proofs.Math.Seq.{get_or-append_seam, take-length}
 use Rattle.std.proofs.lemmas.Bool.{cases_lt}
 use Rattle.std.proofs.lemmas.List.{get_or_append_left, length-take-le}
-use Rattle.timing_base.specs.Shifts.{FlowOptions}
+use Rattle.timing_base.specs.Shifts.{Shift}
 use Rattle.timing_base.specs.Captures.{Record}
 use Rattle.timing_base.specs.Jobs.{ShapeJob}
 use Rattle.timing_base.specs.Judged.{JudgedRun, judged}
@@ -108,26 +108,26 @@ bounds-some m n kind stamps departures is few shaped =
     (λ i within. bound-some m n kind stamps departures i is few shaped within) in
     (all.items, record { each = all.each; bound = all.are })
 
-prints-some : (list : Bool) (options : FlowOptions) (kind : Kind) (m : Media) (items : List Record) (run : JudgedRun) (departures : List ℕ) → IsMedia m → run.n ≤ 262144
-    → Shaped m run.n kind run.stamps departures → (text : List ℕ) × Prints list options kind m items run departures text
-prints-some true options kind m items run departures is few shaped =
+prints-some : (list : Bool) (shift : Shift) (kind : Kind) (m : Media) (items : List Record) (run : JudgedRun) (departures : List ℕ) → IsMedia m → run.n ≤ 262144
+    → Shaped m run.n kind run.stamps departures → (text : List ℕ) × Prints list shift kind m items run departures text
+prints-some true shift kind m items run departures is few shaped =
     let ds = delays run.stamps departures in
     let bounds = bounds-some m run.n kind run.stamps departures is few shaped in (
       packet_lines 0 ds bounds.0 ++ delays_line (count_by (nat_lt 0) ds) (length ds) (greatest ds),
       record { bounds = bounds.0; are = bounds.1; text_is = refl },
     )
-prints-some false options kind m items run departures is few shaped = (shaped_capture options run.head departures (flow_records m items), refl)
+prints-some false shift kind m items run departures is few shaped = (shaped_capture shift run.head departures (flow_records m items), refl)
 
 -- of a run
-pub shape-some : (list : Bool) (options : FlowOptions) (kind : Kind) (m : Media) (items : List Record) (run : JudgedRun) → IsMedia m → 1 ≤ run.n → run.n ≤ 262144
-    → (answer : Answer) × HasShape list options kind m items run answer
-shape-some list options kind m items run is some few =
-    elim (leave-or-late m run.n kind (end_of options) run.stamps (length run.stamps) is some (omega arith))
-    as (λ _. (answer : Answer) × HasShape list options kind m items run answer) [
+pub shape-some : (list : Bool) (shift : Shift) (kind : Kind) (m : Media) (items : List Record) (run : JudgedRun) → IsMedia m → 1 ≤ run.n → run.n ≤ 262144
+    → (answer : Answer) × HasShape list shift kind m items run answer
+shape-some list shift kind m items run is some few =
+    elim (leave-or-late m run.n kind (end_of shift) run.stamps (length run.stamps) is some (omega arith))
+    as (λ _. (answer : Answer) × HasShape list shift kind m items run answer) [
       | inl found ↦
-          let leave : LeaveInTime m run.n kind (end_of options) run.stamps found.0 =
-          subst (λ l. LeaveInTime m run.n kind (end_of options) l found.0) (take-length run.stamps) found.1 in
-          let text = prints-some list options kind m items run found.0 is few leave.shaped in
+          let leave : LeaveInTime m run.n kind (end_of shift) run.stamps found.0 =
+          subst (λ l. LeaveInTime m run.n kind (end_of shift) l found.0) (take-length run.stamps) found.1 in
+          let text = prints-some list shift kind m items run found.0 is few leave.shaped in
           let answer : Answer = record { text = text.0; status = status.Pass } in
           (answer, inl (record { departures = found.0; leave = leave; text = text.0; prints = text.1; answer_is = refl }))
       | inr late ↦ (not_shaped late.0, inr (record { packet = late.0; late = late.1; answer_is = refl }))
@@ -139,12 +139,12 @@ some-shape job texts media files notes are unsettled records =
     let options = job.flow.options in
     let items = only_file files in
     some-on-media media job.flow.media (λ m answer. DefinesShape job m items (only_note notes) answer) unsettled
-    (λ m found. some-on m (HasShape job.list options job.kind m items) (judged (flow items m) m.pt options) (judged-size (flow items m) m.pt options)
-    (λ run size. shape-some job.list options job.kind m items run (all-media IsMedia media job.flow.media m are found) size.some size.few))
+    (λ m found. some-on m (HasShape job.list options.shift job.kind m items) (judged (flow items m) m.pt options) (judged-size (flow items m) m.pt options)
+    (λ run size. shape-some job.list options.shift job.kind m items run (all-media IsMedia media job.flow.media m are found) size.some size.few))
 
 -- and not two
 pub once-shape : (job : ShapeJob) → DefinesOnce (shape_query job)
 once-shape job =
     once-flow job.flow (DefinesShape job)
-    (λ m items note a b h k. once-on m (HasShape job.list job.flow.options job.kind m items) (judged (flow items m) m.pt job.flow.options) a b
-    (λ run x y. shape-once job.list job.flow.options job.kind m items run a b x y) h k)
+    (λ m items note a b h k. once-on m (HasShape job.list job.flow.options.shift job.kind m items) (judged (flow items m) m.pt job.flow.options) a b
+    (λ run x y. shape-once job.list job.flow.options.shift job.kind m items run a b x y) h k)

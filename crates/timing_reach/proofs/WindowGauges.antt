@@ -5,7 +5,7 @@ use Rattle.std.proofs.Common.{drop, take, map, inl, inr, length-append}
 use Rattle.std.proofs.Math.Seq.{take-suc}
 use Rattle.std.proofs.lemmas.Bool.{cases_lt}
 use Rattle.std.proofs.lemmas.List.{drop-append-le, get_or_append_left, length-drop, take-append-le}
-use Rattle.timing_base.specs.Shifts.{FlowOptions}
+use Rattle.timing_base.specs.Shifts.{Shift}
 use Rattle.timing_base.specs.Flows.{has_marker, last_place, markers, packet, read_or_zeros}
 use Rattle.timing_base.specs.Judged.{stamp_of}
 use Rattle.timing_base.specs.Media.{Media}
@@ -25,18 +25,18 @@ use Rattle.timing_reach.specs.declared.window.meters.WindowMeters.{WindowMeters}
 use Rattle.timing_reach.proofs.Markers.{markers-before, packet-last}
 
 -- the packets up to a place, where one packet more comes behind them
-stamps-before : (packets : List FlowPacket) (p : FlowPacket) (options : FlowOptions) (from to : ℕ) → to ≤ length packets
-    → stamps_from (packets ++ p ∷ []) options from to ≡ stamps_from packets options from to
-stamps-before packets p options from to within =
+stamps-before : (packets : List FlowPacket) (p : FlowPacket) (shift : Shift) (from to : ℕ) → to ≤ length packets
+    → stamps_from (packets ++ p ∷ []) shift from to ≡ stamps_from packets shift from to
+stamps-before packets p shift from to within =
     let size : length (drop from packets) ≡ length packets - from = length-drop from packets in
-    elim (cases_lt (length packets) from) as (λ _. stamps_from (packets ++ p ∷ []) options from to ≡ stamps_from packets options from to) [
+    elim (cases_lt (length packets) from) as (λ _. stamps_from (packets ++ p ∷ []) shift from to ≡ stamps_from packets shift from to) [
       | inl past ↦
           let none : to - from ≡ 0 = omega (arith, past, within) in
-          ap (λ k. map (stamp_of options) (take k (drop from (packets ++ p ∷ [])))) none
-          ∙ sym (ap (λ k. map (stamp_of options) (take k (drop from packets))) none)
+          ap (λ k. map (stamp_of shift) (take k (drop from (packets ++ p ∷ [])))) none
+          ∙ sym (ap (λ k. map (stamp_of shift) (take k (drop from packets))) none)
       | inr low ↦
-          ap (λ l. map (stamp_of options) (take (to - from) l)) (drop-append-le from packets (p ∷ []) low)
-          ∙ ap (map (stamp_of options)) (take-append-le (to - from) (drop from packets) (p ∷ []) (omega (arith, size, within)))
+          ap (λ l. map (stamp_of shift) (take (to - from) l)) (drop-append-le from packets (p ∷ []) low)
+          ∙ ap (map (stamp_of shift)) (take-append-le (to - from) (drop from packets) (p ∷ []) (omega (arith, size, within)))
     ]
 
 -- a run in groups by its stamps
@@ -48,34 +48,34 @@ groups_by-same : (head n groups : ℕ) (whole more_whole stamps more_stamps : Li
 groups_by-same head n groups whole more_whole stamps more_stamps e f = cc
 
 -- what the flow has come to doesn't change by a packet behind it
-by-before : (packets : List FlowPacket) (p : FlowPacket) (options : FlowOptions) (marks : List ℕ) → (1 ≤ length marks → last_place marks < length packets)
-    → so_far_by (packets ++ p ∷ []) options 0 (length packets) marks ≡ so_far_by packets options 0 (length packets) marks
-by-before packets p options [] below = refl
-by-before packets p options (a ∷ []) below =
-    ap (in_first (a + 1 - 0)) (stamps-before packets p options (a + 1) (length packets) (omega arith))
-by-before packets p options (a ∷ b ∷ rest) below =
+by-before : (packets : List FlowPacket) (p : FlowPacket) (shift : Shift) (marks : List ℕ) → (1 ≤ length marks → last_place marks < length packets)
+    → so_far_by (packets ++ p ∷ []) shift 0 (length packets) marks ≡ so_far_by packets shift 0 (length packets) marks
+by-before packets p shift [] below = refl
+by-before packets p shift (a ∷ []) below =
+    ap (in_first (a + 1 - 0)) (stamps-before packets p shift (a + 1) (length packets) (omega arith))
+by-before packets p shift (a ∷ b ∷ rest) below =
     let last : last_place (a ∷ b ∷ rest) + 1 ≤ length packets = omega (arith, below (omega arith)) in
     groups_by-same (a + 1 - 0) (b - a) (length (a ∷ b ∷ rest) - 1) _ _ _ _
-    (stamps-before packets p options (a + 1) (last_place (a ∷ b ∷ rest) + 1) last)
-    (stamps-before packets p options (a + 1) (length packets) (omega arith))
+    (stamps-before packets p shift (a + 1) (last_place (a ∷ b ∷ rest) + 1) last)
+    (stamps-before packets p shift (a + 1) (length packets) (omega arith))
 
-so_far-before : (packets : List FlowPacket) (p : FlowPacket) (options : FlowOptions)
-    → so_far_at (packets ++ p ∷ []) options 0 (length packets) ≡ so_far_at packets options 0 (length packets)
-so_far-before packets p options =
-    ap (so_far_by (packets ++ p ∷ []) options 0 (length packets)) (markers-before packets p)
-    ∙ by-before packets p options (markers packets 0 (length packets)) (λ some. (places-below (has_marker packets) 0 (length packets) some).1)
+so_far-before : (packets : List FlowPacket) (p : FlowPacket) (shift : Shift)
+    → so_far_at (packets ++ p ∷ []) shift 0 (length packets) ≡ so_far_at packets shift 0 (length packets)
+so_far-before packets p shift =
+    ap (so_far_by (packets ++ p ∷ []) shift 0 (length packets)) (markers-before packets p)
+    ∙ by-before packets p shift (markers packets 0 (length packets)) (λ some. (places-below (has_marker packets) 0 (length packets) some).1)
 
 -- one packet more
-pub so_far-more : (packets : List FlowPacket) (p : FlowPacket) (options : FlowOptions)
-    → so_far_at (packets ++ p ∷ []) options 0 (length (packets ++ p ∷ []))
-    ≡ so_far_next (so_far_at packets options 0 (length packets)) (stamp_of options p) (read_or_zeros p.rtp).marker
-so_far-more packets p options =
+pub so_far-more : (packets : List FlowPacket) (p : FlowPacket) (shift : Shift)
+    → so_far_at (packets ++ p ∷ []) shift 0 (length (packets ++ p ∷ []))
+    ≡ so_far_next (so_far_at packets shift 0 (length packets)) (stamp_of shift p) (read_or_zeros p.rtp).marker
+so_far-more packets p shift =
     let long : length (packets ++ p ∷ []) ≡ length packets + 1 = length-append packets (p ∷ []) in
-    ap (so_far_at (packets ++ p ∷ []) options 0) long
-    ∙ so_far_at-next (packets ++ p ∷ []) options 0 (length packets) (omega arith) (omega (arith, long))
-    ∙ ap (λ s. so_far_next s (stamp_of options (packet (packets ++ p ∷ []) (length packets))) (has_marker (packets ++ p ∷ []) (length packets)))
-    (so_far-before packets p options)
-    ∙ ap (λ (q : FlowPacket). so_far_next (so_far_at packets options 0 (length packets)) (stamp_of options q) (read_or_zeros q.rtp).marker) (packet-last packets p)
+    ap (so_far_at (packets ++ p ∷ []) shift 0) long
+    ∙ so_far_at-next (packets ++ p ∷ []) shift 0 (length packets) (omega arith) (omega (arith, long))
+    ∙ ap (λ s. so_far_next s (stamp_of shift (packet (packets ++ p ∷ []) (length packets))) (has_marker (packets ++ p ∷ []) (length packets)))
+    (so_far-before packets p shift)
+    ∙ ap (λ (q : FlowPacket). so_far_next (so_far_at packets shift 0 (length packets)) (stamp_of shift q) (read_or_zeros q.rtp).marker) (packet-last packets p)
 
 -- the meters of one stamp more of a slice
 pub fed-next : (params : Params) (anchor : ℤ) (meters : WindowMeters) (stamps : List ℕ) (i : ℕ) → i < length stamps
@@ -147,20 +147,20 @@ comes-whole m old before now g so_far at marker was e pushed whole h =
     ends (in_groups so_far) h = absurd h
 
 -- a packet was passed
-pub passes-on : (old new : Gauge) (p : FlowPacket) (at : ℕ) (marker : Bool) → at ≡ p.at + old.added → marker ≡ (read_or_zeros p.rtp).marker
-    → new.media ≡ old.media → new.added ≡ old.added
+pub passes-on : (old new : Gauge) (p : FlowPacket) (at : ℕ) (marker : Bool) → at ≡ stamp_of old.shift p → marker ≡ (read_or_zeros p.rtp).marker
+    → new.media ≡ old.media → new.shift ≡ old.shift
     → ((so_far : SoFar) → HasCome old.media old.part so_far → HasCome old.media new.part (so_far_next so_far at marker))
-    → (m : Media) (options : FlowOptions) (packets : List FlowPacket) → IsGauged m options old packets → IsGauged m options new (packets ++ p ∷ [])
-passes-on old new p at marker is last media added comes m options packets h =
-    let stamp : at ≡ stamp_of options p = is ∙ ap (λ x. p.at + x) h.added in
-    let before = so_far_at packets options 0 (length packets) in
+    → (m : Media) (shift : Shift) (packets : List FlowPacket) → IsGauged m shift old packets → IsGauged m shift new (packets ++ p ∷ [])
+passes-on old new p at marker is last media same comes m shift packets h =
+    let stamp : at ≡ stamp_of shift p = is ∙ ap (λ (x : Shift). stamp_of x p) h.shift_is in
+    let before = so_far_at packets shift 0 (length packets) in
     let now : HasCome m new.part (so_far_next before at marker) =
     subst (λ (x : Media). HasCome x new.part (so_far_next before at marker)) h.media
     (comes before (subst (λ (x : Media). HasCome x old.part before) (sym h.media) h.come)) in
     record {
       media = media ∙ h.media;
-      added = added ∙ h.added;
-      come = subst (HasCome m new.part) (sym (so_far-more packets p options))
-          (subst (λ b. HasCome m new.part (so_far_next before (stamp_of options p) b)) last
+      shift_is = same ∙ h.shift_is;
+      come = subst (HasCome m new.part) (sym (so_far-more packets p shift))
+          (subst (λ b. HasCome m new.part (so_far_next before (stamp_of shift p) b)) last
           (subst (λ (x : ℕ). HasCome m new.part (so_far_next before x marker)) stamp now));
     }

@@ -1,6 +1,7 @@
 -- What the reading of a flow finds that is measured while it is judged.
 use Rattle.std.specs.Prelude.{IsSome, Option, Some, None}
 use Rattle.std.proofs.Common.{◌≡◌, ◌≤◌, ◌+◌, ℕ, List, [], ◌∷◌, refl, arith, ap, ◌∙◌, subst}
+use Rattle.timing_base.specs.Numbered.{numbered}
 use Rattle.timing_base.specs.Shifts.{FlowOptions}
 use Rattle.timing_base.specs.Captures.{Record}
 use Rattle.timing_base.specs.Judged.{JudgedRun, in_one_run, judged, whole_frames}
@@ -34,7 +35,7 @@ pub reads-packet : (old new : Reading) (p : FlowPacket) (frame : List ℕ)
     → ReadsOn m old new (r ∷ [])
 reads-packet old new p frame takes passes = λ m r is carried key options packets h. record {
   judge = judge-took m key options old.judge new.judge (r ∷ []) packets (takes m r is carried) h.judge;
-  gauge = one-packet (IsGauged m options new.gauge) packets (Some p) (flow_packet m r) is (passes m options packets h.gauge);
+  gauge = one-packet (IsGauged m options.shift new.gauge) packets (Some p) (flow_packet m r) is (passes m options.shift packets h.gauge);
 }
 
 -- room after a packet was passed to the judge and to the gauge
@@ -44,18 +45,20 @@ pub room-on : (count : ℕ) (old new : Reading) → (JudgeHasRoom (count + 1) ol
 room-on count old new leaves kept room = record { judge = leaves room.judge; gauge = omega (arith, kept, room.gauge) }
 
 -- the windows of a flow that is judged in one run
-windows-of : (m : Media) (options : FlowOptions) (packets : List FlowPacket) (x : Measured) (j : Judged) → IsMeasured m options packets x → x.verdict ≡ verdict.Judged j
+windows-of : (m : Media) (options : FlowOptions) (packets : List FlowPacket) (x : Measured) (j : Judged) → IsMeasured m options packets x
+    → x.verdict ≡ verdict.Judged j
     → (run : JudgedRun) × (judged packets m.pt options ≡ in_one_run (whole_frames run)) × AreWindowsIn m (whole_frames run) x.windows
 windows-of m options packets x j h is =
     let run = judged-of m j (judged packets m.pt options) x.verdict h.verdict_is is in
-    (run.0, run.1, subst (λ o. AreWindowsIn m o x.windows) (run-of packets m.pt options run.0 run.1) h.windows_are)
+    (run.0, run.1, subst (λ o. AreWindowsIn m o x.windows) (run-of (numbered options.seq16 packets) m.pt options.shift run.0 run.1) h.windows_are)
 
 some-windows : (m : Media) (run : JudgedRun) (w : Option Windows) → HasSize run → AreWindowsIn m (whole_frames run) w → IsSome w
 some-windows m run (Some w) size are = refl
 some-windows m run None size are = absurd (omega (arith, are, size.few))
 
 -- few records were read, so there are some of this flow
-pub has-windows : (m : Media) (key : FlowKey) (options : FlowOptions) (most : ℕ) (old new : Reading) (x : Measured) → IsReading m key options old [] → TakesFew (ReadsOn m) most old new
+pub has-windows : (m : Media) (key : FlowKey) (options : FlowOptions) (most : ℕ) (old new : Reading) (x : Measured) → IsReading m key options old []
+    → TakesFew (ReadsOn m) most old new
     → ((packets : List FlowPacket) → IsReading m key options new packets → IsMeasured m options packets x) → HasWindows x
 has-windows m key options most old new x start t finish = λ j is.
     let packets = flow t.items m in

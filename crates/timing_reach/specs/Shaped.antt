@@ -15,7 +15,8 @@ use Rattle.timing_reach.specs.Shapes.{HasShape}
 -- the answer of `shape` for the flow of this media in a capture with these packet records, however it ends
 abbrev pub DefinesShape : ShapeJob → Media → List Record → FileNote → Answer → Type 0
 DefinesShape job m items note answer =
-    OnRun m (HasShape job.list job.flow.options job.kind m items) (judged (flow items m) m.pt job.flow.options) answer
+    OnRun m (HasShape job.list job.flow.options.shift job.kind m items) (judged (flow items m) m.pt job.flow.options)
+    answer
 
 -- what `shape` asks
 abbrev pub shape_query : ShapeJob → Query

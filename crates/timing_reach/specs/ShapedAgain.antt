@@ -1,4 +1,4 @@
--- A capture that `shape` wrote, read again with the same `--tai`. Capture timestamps are nanoseconds. This project's
+-- A capture that `shape` wrote, read again with the same options. Capture timestamps are nanoseconds. This project's
 -- profile.
 use Rattle.std.specs.Prelude.{◌≡◌, ◌≤◌, ◌^◌, ℕ, List, length}
 use Rattle.timing_base.specs.Shifts.{FlowOptions}
@@ -18,8 +18,7 @@ pub record CanBeHeld (r : Record) : Type 0 where
 abbrev pub came_at : JudgedRun → (stamps : List ℕ) → JudgedRun
 came_at run stamps = record run { stamps = stamps }
 
--- a capture with these contents is whole, and the flow of this media in it is judged in this one run; `tai` is in
--- seconds
+-- a capture with these contents is whole, and with these options the flow of this media in it is judged in this one run
 pub record IsJudgedAs (options : FlowOptions) (m : Media) (text : List ℕ) (run : JudgedRun) : Type 0 where
   pub items : List Record
   pub records : Records text (2 ^ 40) items End

@@ -1,12 +1,13 @@
 -- The output of `shape` for a flow that is judged in one run. Its packets leave by the plan in which each leaves as
 -- early as in any plan that never overfills the leaky bucket or the virtual receiver buffer of a sender type (SMPTE ST
 -- 2110-21). The output is a list of the delayed packets, or the flow as a capture (pcap-savefile(5)). Capture
--- timestamps and departures are nanoseconds. Packets, judged packets and reads count from 0. This project's profile.
+-- timestamps are nanoseconds, and departures too, as they are after the shift of the flow. Packets, judged packets and
+-- reads count from 0. This project's profile.
 use Rattle.std.specs.Prelude.{◌≡◌, ◌⊎◌, ◌<◌, ◌≤◌, ◌+◌, ◌-◌, ◌*◌, ◌^◌, ℕ, Bool, true, false, nat_lt, max, if◌then◌else◌}
 use Rattle.std.specs.Prelude.{List, [], ◌∷◌, ◌++◌, length, take, slice_index, slice_index_or, is_some, codes}
 use Rattle.std.specs.Fmt.{decimal}
 use Rattle.std.specs.List.{count_by, filter}
-use Rattle.timing_base.specs.Shifts.{FlowOptions}
+use Rattle.timing_base.specs.Shifts.{Shift, shifted, unshifted}
 use Rattle.pcap_reader.specs.WrittenHeads.{file_head, record_head}
 use Rattle.flow_shaper.specs.Bounds.{BoundAt}
 use Rattle.flow_shaper.specs.Plan.{Plan, Shaped}
@@ -20,10 +21,10 @@ use Rattle.timing_report.specs.declared.status.Status.TheVariants as status
 use Rattle.timing_steps.specs.Answers.{Answer}
 use Rattle.udp_rtp.specs.Flow.{flow_packet}
 
--- the first instant of TAI that a capture can't have as a timestamp if its clock is `tai` seconds behind, in
--- nanoseconds
-abbrev pub end_of : (options : FlowOptions) → ℕ
-end_of options = (2 ^ 32 + options) * 10 ^ 9
+-- the first instant that no capture timestamp reaches after this shift, in nanoseconds: a capture holds timestamps
+-- below 2^32 seconds
+abbrev pub end_of : Shift → ℕ
+end_of shift = shifted shift (2 ^ 32 * 10 ^ 9)
 
 -- packets with these capture timestamps leave at these instants: as early as in any plan, and all before `end`
 pub record LeaveInTime (m : Media) (n : ℕ) (kind : Kind) (end : ℕ) (stamps departures : List ℕ) : Type 0 where
@@ -97,13 +98,18 @@ pub record IsList (m : Media) (n : ℕ) (kind : Kind) (stamps departures : List 
 abbrev pub flow_records : Media → List Record → List Record
 flow_records m items = filter (λ r. is_some (flow_packet m r)) items
 
--- the departure of packet k of a flow as a timestamp of its capture. A packet before the judged ones keeps its own
--- timestamp, a judged one leaves as planned, and one behind them leaves no earlier than the last of them.
-abbrev pub leaves_at : (options : FlowOptions) (head : ℕ) → (departures : List ℕ) → (k stamp : ℕ) → ℕ
-leaves_at options head departures k stamp =
+-- the capture timestamp that the last of these departures has; 0 without one
+abbrev pub last_left : Shift → (departures : List ℕ) → ℕ
+last_left shift [] = 0
+last_left shift (d ∷ ds) = unshifted shift (slice_index (d ∷ ds) (length ds))
+
+-- the capture timestamp with which packet k of a flow leaves, by the one with which it came. A packet before the judged
+-- ones keeps its own, a judged one leaves as planned, and one behind them leaves no earlier than the last of them.
+abbrev pub leaves_at : Shift → (head : ℕ) → (departures : List ℕ) → (k stamp : ℕ) → ℕ
+leaves_at shift head departures k stamp =
     if nat_lt k head then stamp
-    else if nat_lt k (head + length departures) then slice_index departures (k - head) - options * 10 ^ 9
-    else max (stamp + options * 10 ^ 9) (slice_index departures (length departures - 1)) - options * 10 ^ 9
+    else if nat_lt k (head + length departures) then unshifted shift (slice_index departures (k - head))
+    else max stamp (last_left shift departures)
 
 -- the packet records of packets that leave at these instants, the first of which is packet k
 abbrev pub records_text : (leaves : ℕ → ℕ → ℕ) → (k : ℕ) → List Record → List ℕ
@@ -111,23 +117,25 @@ records_text leaves k [] = []
 records_text leaves k (r ∷ rs) =
     record_head (leaves k r.stamp) (length r.bytes) ++ (r.bytes ++ records_text leaves (k + 1) rs)
 
--- the capture of a flow with these packet records; the judged packets, behind `head` others, leave at these instants
-abbrev pub shaped_capture : (options : FlowOptions) (head : ℕ) → (departures : List ℕ) → List Record → List ℕ
-shaped_capture options head departures records = file_head ++ records_text (leaves_at options head departures) 0 records
+-- the capture of a flow with these packet records; the judged packets, behind `head` others, leave at these instants,
+-- as they are after the shift
+abbrev pub shaped_capture : Shift → (head : ℕ) → (departures : List ℕ) → List Record → List ℕ
+shaped_capture shift head departures records = file_head ++ records_text (leaves_at shift head departures) 0 records
 
 -- the output for packets that leave at these instants: their list, or the capture
-abbrev pub Prints : (list : Bool) → (options : FlowOptions) → Kind → Media → List Record → JudgedRun → (departures text : List ℕ)
+abbrev pub Prints : (list : Bool) → Shift → Kind → Media → List Record → JudgedRun → (departures text : List ℕ)
     → Type 0
-Prints true options kind m items run departures text = IsList m run.n kind run.stamps departures text
-Prints false options kind m items run departures text = text ≡ shaped_capture options run.head departures (flow_records m items)
+Prints true shift kind m items run departures text = IsList m run.n kind run.stamps departures text
+Prints false shift kind m items run departures text =
+    text ≡ shaped_capture shift run.head departures (flow_records m items)
 
 -- all judged packets leave in time
-pub record HasPlan (list : Bool) (options : FlowOptions) (kind : Kind) (m : Media) (items : List Record) (run : JudgedRun)
+pub record HasPlan (list : Bool) (shift : Shift) (kind : Kind) (m : Media) (items : List Record) (run : JudgedRun)
     (answer : Answer) : Type 0 where
   pub departures : List ℕ
-  pub leave : LeaveInTime m run.n kind (end_of options) run.stamps departures
+  pub leave : LeaveInTime m run.n kind (end_of shift) run.stamps departures
   pub text : List ℕ
-  pub prints : Prints list options kind m items run departures text
+  pub prints : Prints list shift kind m items run departures text
   pub answer_is : answer ≡ record { text = text; status = status.Pass }
 
 -- `not shaped: packet I`, with the newline
@@ -138,11 +146,12 @@ not_shaped packet = record {
 }
 
 -- a judged packet is late
-pub record HasLate (options : FlowOptions) (kind : Kind) (m : Media) (run : JudgedRun) (answer : Answer) : Type 0 where
+pub record HasLate (shift : Shift) (kind : Kind) (m : Media) (run : JudgedRun) (answer : Answer) : Type 0 where
   pub packet : ℕ
-  pub late : IsLate m run.n kind (end_of options) run.stamps packet
+  pub late : IsLate m run.n kind (end_of shift) run.stamps packet
   pub answer_is : answer ≡ not_shaped packet
 
 -- the answer for the judged packets of this media, in a capture with these packet records
-abbrev pub HasShape : (list : Bool) → (options : FlowOptions) → Kind → Media → List Record → JudgedRun → Answer → Type 0
-HasShape list options kind m items run answer = HasPlan list options kind m items run answer ⊎ HasLate options kind m run answer
+abbrev pub HasShape : (list : Bool) → Shift → Kind → Media → List Record → JudgedRun → Answer → Type 0
+HasShape list shift kind m items run answer =
+    HasPlan list shift kind m items run answer ⊎ HasLate shift kind m run answer

@@ -55,9 +55,8 @@ pub record HasLines (m : Media) (run : JudgedRun) (answer : Answer) : Type 0 whe
   pub are : AreWindowsOf m run.n run.stamps windows
   pub answer_is : answer ≡ record { text = windows_text windows; status = status.Pass }
 
--- the answer of `window` for the flow of this media in a capture with these packet records, however it ends; `tai` is
--- in seconds
-abbrev pub DefinesWindow : (options : FlowOptions) → Media → List Record → FileNote → Answer → Type 0
+-- the answer of `window` for the flow of this media in a capture with these packet records, however it ends
+abbrev pub DefinesWindow : FlowOptions → Media → List Record → FileNote → Answer → Type 0
 DefinesWindow options m items note answer = OnRun m (HasLines m) (judged (flow items m) m.pt options) answer
 
 -- what `window` asks

@@ -2,6 +2,7 @@
 -- nanoseconds.
 use Rattle.std.specs.Prelude.{ℕ, List, [], ◌∷◌, ◌+◌, ◌*◌, ◌^◌, replicate}
 use Rattle.timing_base.specs.Captures.{Record}
+use Rattle.timing_base.specs.Shifts.{Shift}
 use Rattle.timing_base.specs.Judged.{JudgedRun}
 
 -- a run of packets with these capture timestamps, behind a head of one
@@ -21,6 +22,13 @@ abbrev pub five_records : List Record
 five_records = record_at 5 9 (0xaa ∷ []) ∷ record_at 6 0 (1 ∷ []) ∷ record_at 6 0 (2 ∷ 3 ∷ []) ∷ record_at 6 0 (4 ∷ [])
     ∷ record_at 9 0 (5 ∷ []) ∷ []
 
--- departures of the two judged ones, in nanoseconds of TAI
+-- a clock one second behind, without a delay and with one of 7 nanoseconds
+abbrev pub second_behind : Shift
+second_behind = record { tai = 1; delay = 0 }
+
+abbrev pub second_behind_delayed : Shift
+second_behind_delayed = record { tai = 1; delay = 7 }
+
+-- departures of the two judged ones, in nanoseconds after the shift
 abbrev pub two_departures : List ℕ
 two_departures = 7000000001 ∷ 8000000002 ∷ []

@@ -10,7 +10,6 @@ mod walk;
 mod words;
 
 ghost use Rattle.std.specs.Prelude.{◌≡◌, ◌≤◌, ◌∷◌, [], Bool, List, None, Some, IfErr, IfOk, ℕ, false, slice_get, true};
-ghost use Rattle.timing_base.specs.Shifts.{FlowOptions as FlowOptionsValue};
 ghost use Rattle.timing_base.specs.Captures.{Record};
 ghost use Rattle.timing_base.specs.Judged.{judged};
 ghost use Rattle.timing_outside.specs.Causes.{Rose};
@@ -30,7 +29,7 @@ use crate::judged::words::not_judged;
 use crate::shape::reading::{KeptFlow, Reading};
 use crate::shape::shaping::shape_kept;
 use std::alloc::{AllocError as OutOfMemory, Global};
-use timing_base::{FileName, Kind, Media, Session, ShapeJob, Verdict};
+use timing_base::{FileName, FlowOptions, Kind, Media, Session, ShapeJob, Verdict};
 use timing_outside::{Shelf, Sink};
 use timing_report::Input;
 use timing_steps::{Answer, Command, Failure, early_of_media, media_of};
@@ -43,16 +42,16 @@ fn told_of(
     options: FlowOptions,
     kept: KeptFlow,
 ) -> Result<Answer, OutOfMemory>
-    requires read { (list : Bool) × IsRead media.now options list kept }
+    requires { (list : Bool) × IsRead media.now options list kept }
     ensures ends { IfOk result (λ answer. judged_ends false answer.status ≡ true) }
     ensures answers { IfOk result (λ answer. (list : Bool) (items : List Record)
         → IsKeptFlow media.now options list items kept
-        → OnRun media.now (HasShape list options kind media.now items)
+        → OnRun media.now (HasShape list options.shift kind media.now items)
         (judged (flow items media.now) media.now.pt options) answer) }
 {
     let KeptFlow { verdict, packets } = kept;
     match &verdict {
-        Verdict::Judged(judged) => shape_kept(alloc, media, kind, options, judged, packets),
+        Verdict::Judged(judged) => shape_kept(alloc, media, kind, options.shift, judged, packets),
         verdict => not_judged(alloc, media, verdict),
     }
 }
@@ -91,7 +90,7 @@ fn answer_kept(
     ensures some { IfOk result (λ answer. AnswersSome job.now media.now answer) }
     ensures answers { IfOk result (λ answer. (items : List Record)
         → IsKeptFlow media.now job.now.flow.options job.now.list items kept
-        → OnRun media.now (HasShape job.now.list job.now.flow.options job.now.kind media.now items)
+        → OnRun media.now (HasShape job.now.list job.now.flow.options.shift job.now.kind media.now items)
         (judged (flow items media.now) media.now.pt job.now.flow.options) answer) }
 {
     let flow = &job.flow;

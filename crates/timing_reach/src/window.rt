@@ -6,7 +6,7 @@ mod reading;
 mod windows;
 
 ghost use Rattle.std.specs.Prelude.{◌≡◌, ◌∷◌, [], ℕ, List, None, Some, IfErr, IfOk, false, slice_get, true};
-ghost use Rattle.timing_base.specs.Shifts.{FlowOptions};
+ghost use Rattle.timing_base.specs.Shifts.{FlowOptions as FlowOptionsValue};
 ghost use Rattle.timing_base.specs.Judged.{judged};
 ghost use Rattle.timing_base.specs.declared.packet.FlowPacket.{FlowPacket as PacketValue};
 ghost use Rattle.timing_outside.specs.Causes.{Rose};
@@ -33,7 +33,7 @@ use timing_steps::{Answer, Command, Failure, early_of_media, media_of};
 fn told_of(alloc: Global, media: &Media, measured: &Measured) -> Result<Answer, OutOfMemory>
     requires { HasWindows measured.now }
     ensures ends { IfOk result (λ answer. judged_ends false answer.status ≡ true) }
-    ensures answers { IfOk result (λ answer. (options : FlowOptions) (packets : List PacketValue)
+    ensures answers { IfOk result (λ answer. (options : FlowOptionsValue) (packets : List PacketValue)
         → IsMeasured media.now options packets measured.now
         → OnRun media.now (HasLines media.now) (judged packets media.now.pt options) answer) }
 {

@@ -32,10 +32,10 @@ pub record IsKept (m : Media) (list : Bool) (packets : Kept) (items : List Recor
   pub held : All CanBeHeld (flow_records m items)
 
 -- the flow of this media in these packet records was passed to the judge, and is kept
-pub record IsReading (m : Media) (key : FlowKey) (options : FlowOptions) (list : Bool) (r : Reading) (items : List Record) : Type 0
-  where
-    pub judge : StandsFor m key options r.judge.judge (flow items m)
-    pub packets : IsKept m list r.packets items
+pub record IsReading (m : Media) (key : FlowKey) (options : FlowOptions) (list : Bool) (r : Reading)
+    (items : List Record) : Type 0 where
+  pub judge : StandsFor m key options r.judge.judge (flow items m)
+  pub packets : IsKept m list r.packets items
 
 -- the number of packets that were passed
 abbrev pub count_read : Reading → ℕ
@@ -94,7 +94,8 @@ reads_more m x y z a b first second key options list items h =
     (second key options list (items ++ a) (first key options list items h))
 
 -- the result of reading the flow of this media in these packet records; its judged runs are in order
-pub record IsKeptFlow (m : Media) (options : FlowOptions) (list : Bool) (items : List Record) (f : KeptFlow) : Type 0 where
+pub record IsKeptFlow (m : Media) (options : FlowOptions) (list : Bool) (items : List Record) (f : KeptFlow) : Type 0
+  where
   pub verdict_is : f.verdict ≡ verdict_of m (judged (flow items m) m.pt options)
   pub packets : IsKept m list f.packets items
   pub grouped : IsGroupedVerdict (judged (flow items m) m.pt options)
@@ -114,5 +115,5 @@ pub record IsRead (m : Media) (options : FlowOptions) (list : Bool) (f : KeptFlo
 -- the answer of `shape` is that for the flow of this media in some packet records
 pub record AnswersSome (job : ShapeJob) (m : Media) (answer : Answer) : Type 0 where
   pub items : List Record
-  pub on_run : OnRun m (HasShape job.list job.flow.options job.kind m items)
+  pub on_run : OnRun m (HasShape job.list job.flow.options.shift job.kind m items)
       (judged (flow items m) m.pt job.flow.options) answer

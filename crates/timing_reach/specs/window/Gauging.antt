@@ -1,7 +1,7 @@
 -- The measurements of a gauge, up to a packet of the flow. Packets count from 0; times are nanoseconds of TAI.
-use Rattle.std.specs.Prelude.{◌≡◌, ◌≤◌, ◌<◌, ◌*◌, ◌^◌, ℕ, ℤ, ⊤, Bool, true, false, List, [], ◌∷◌, ◌++◌, length}
+use Rattle.std.specs.Prelude.{◌≡◌, ◌≤◌, ◌<◌, ℕ, ℤ, ⊤, Bool, true, false, List, [], ◌∷◌, ◌++◌, length}
 use Rattle.std.specs.Prelude.{slice_index, Option, Some, None}
-use Rattle.timing_base.specs.Shifts.{FlowOptions}
+use Rattle.timing_base.specs.Shifts.{Shift}
 use Rattle.fail_interval.specs.SoFar.{Groups as GroupsSoFar, SoFar, in_first, in_groups, in_head, so_far_at}
 use Rattle.timing_base.specs.Judged.{RunOutcome, no_whole_frame, whole_frames}
 use Rattle.timing_base.specs.Media.{Media}
@@ -68,10 +68,10 @@ AreWindowsIn m (whole_frames run) (Some windows) = AreWindowsOf m run.n run.stam
 AreWindowsIn m (whole_frames run) None = 262144 < run.n
 
 -- the packets were passed to the gauge of this media, and no others
-pub record IsGauged (m : Media) (options : FlowOptions) (g : Gauge) (packets : List FlowPacket) : Type 0 where
+pub record IsGauged (m : Media) (shift : Shift) (g : Gauge) (packets : List FlowPacket) : Type 0 where
   pub media : g.media ≡ m
-  pub added : g.added ≡ options * 10 ^ 9
-  pub come : HasCome m g.part (so_far_at packets options 0 (length packets))
+  pub shift_is : g.shift ≡ shift
+  pub come : HasCome m g.part (so_far_at packets shift 0 (length packets))
 
 -- a bound on the number of arrivals in the gauge
 abbrev pub count_gauged : Gauge → ℕ
@@ -79,5 +79,5 @@ count_gauged g = count_kept g.part
 
 -- this packet was passed after those before
 abbrev pub Passes : FlowPacket → (old new : Gauge) → Type 0
-Passes p old new = (m : Media) (options : FlowOptions) (packets : List FlowPacket) → IsGauged m options old packets
-    → IsGauged m options new (packets ++ p ∷ [])
+Passes p old new = (m : Media) (shift : Shift) (packets : List FlowPacket) → IsGauged m shift old packets
+    → IsGauged m shift new (packets ++ p ∷ [])

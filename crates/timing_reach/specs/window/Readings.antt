@@ -5,8 +5,9 @@ use Rattle.std.proofs.Common.{arith, sym, subst, append-nil, append_assoc, ap, �
 use Rattle.std.proofs.lemmas.List.Elements.{filter_map-append}
 use Rattle.timing_base.specs.Shifts.{FlowOptions}
 use Rattle.timing_base.specs.Captures.{Record}
-use Rattle.timing_base.specs.Judged.{judged, run_outcome}
+use Rattle.timing_base.specs.Judged.{RunOutcome, judged, run_outcome}
 use Rattle.timing_base.specs.Media.{Media}
+use Rattle.timing_base.specs.Numbered.{numbered}
 use Rattle.timing_base.specs.Verdicts.{Judged}
 use Rattle.timing_base.specs.declared.capture.FileNote.{FileNote}
 use Rattle.timing_base.specs.declared.key.FlowKey.{FlowKey}
@@ -22,9 +23,10 @@ use Rattle.timing_reach.specs.declared.window.reading.Measured.{Measured}
 use Rattle.timing_reach.specs.declared.window.reading.Reading.{Reading}
 
 -- the packets were passed to the judge of this media and to its gauge, and no others
-pub record IsReading (m : Media) (key : FlowKey) (options : FlowOptions) (r : Reading) (packets : List FlowPacket) : Type 0 where
+pub record IsReading (m : Media) (key : FlowKey) (options : FlowOptions) (r : Reading) (packets : List FlowPacket)
+    : Type 0 where
   pub judge : StandsFor m key options r.judge.judge packets
-  pub gauge : IsGauged m options r.gauge packets
+  pub gauge : IsGauged m options.shift r.gauge packets
 
 -- `count` more packets can be passed
 pub record HasRoom (count : ℕ) (r : Reading) : Type 0 where
@@ -62,10 +64,16 @@ reads_more m x y z a b first second key options packets h =
     ∙ ap (λ l. packets ++ l) (sym (filter_map-append (flow_packet m) a b)))
     (second key options (packets ++ flow a m) (first key options packets h))
 
+-- what is judged of the packets of a flow that has no gap
+abbrev pub whole_outcome : FlowOptions → List FlowPacket → RunOutcome
+whole_outcome options packets =
+    let packets_judged = numbered options.seq16 packets in
+    run_outcome packets_judged options.shift 0 (length packets_judged)
+
 -- the result of reading a flow of these packets
 pub record IsMeasured (m : Media) (options : FlowOptions) (packets : List FlowPacket) (x : Measured) : Type 0 where
   pub verdict_is : x.verdict ≡ verdict_of m (judged packets m.pt options)
-  pub windows_are : AreWindowsIn m (run_outcome packets options 0 (length packets)) x.windows
+  pub windows_are : AreWindowsIn m (whole_outcome options packets) x.windows
 
 -- the result of reading the flow of a media in a capture with these contents
 pub record IsMeasuredIn (m : Media) (options : FlowOptions) (text : List ℕ) (x : Measured) : Type 0 where

@@ -1,7 +1,7 @@
 //! Reads a flow once: it is kept while it is judged.
 
 ghost use Rattle.std.specs.Prelude.{◌≡◌, ◌<◌, ◌≤◌, ◌^◌, [], ℕ, Bool, List, IfOk};
-ghost use Rattle.timing_base.specs.Shifts.{FlowOptions as FlowOptionsValue};
+ghost use Rattle.timing_base.specs.Shifts.{AreFlowOptions, FlowOptions as FlowOptionsValue};
 ghost use Rattle.timing_base.specs.Captures.{Record};
 ghost use Rattle.timing_base.specs.Media.{Media as MediaValue};
 ghost use Rattle.timing_base.specs.declared.key.FlowKey.{FlowKey as KeyValue};
@@ -10,7 +10,7 @@ use crate::shape::kept::Kept;
 use fail_interval::Metered;
 use flow_demux::FlowTaker;
 use std::alloc::{AllocError as OutOfMemory, Global};
-use timing_base::{FlowKey, FlowPacket, Media, Rtp, Verdict};
+use timing_base::{FlowKey, FlowOptions, FlowPacket, Media, Rtp, Verdict};
 
 /// The result of reading a flow: the verdict on it, and its packets.
 #[derive(Drop)]
@@ -31,8 +31,8 @@ pub struct Reading {
 impl Reading {
     ghost use Rattle.timing_reach.specs.shape.Readings.{HasRoom, IsKeptFlow, IsReading, count_read};
 
-    /// Returns a reading of the flow of this media before the first packet record, for a list or for a capture. `tai`
-    /// seconds are added to every capture timestamp. Returns `Err` if memory runs out.
+    /// Returns a reading of the flow of this media before the first packet record, with the options of the flow, for a
+    /// list or for a capture. Returns `Err` if memory runs out.
     pub fn new(
         alloc: Global,
         media: &Media,
@@ -57,8 +57,9 @@ impl Reading {
     /// Returns the result if the flow ends here. Returns `Err` if memory runs out.
     pub fn finish(self) -> Result<KeptFlow, OutOfMemory>
         requires { count_read self < 2 ^ 41 }
-        ensures { IfOk result (λ kept. (m : MediaValue) (key : KeyValue) (options : FlowOptionsValue) (list : Bool) (items : List Record)
-            → options ≤ 1000 → IsReading m key options list self items → IsKeptFlow m options list items kept) }
+        ensures { IfOk result (λ kept. (m : MediaValue) (key : KeyValue) (options : FlowOptionsValue) (list : Bool)
+            (items : List Record) → AreFlowOptions options → IsReading m key options list self items
+            → IsKeptFlow m options list items kept) }
     {
         let Reading { judge, packets } = self;
         let (row, _) = judge.finish()?;

@@ -1,7 +1,6 @@
 //! Lets the judged packets of a kept flow leave as planned, and makes the output.
 
-ghost use Rattle.std.specs.Prelude.{◌≡◌, ◌≤◌, ◌+◌, ◌*◌, ◌^◌, [], List, All, IfOk, false, length, true};
-ghost use Rattle.timing_base.specs.Shifts.{FlowOptions as FlowOptionsValue};
+ghost use Rattle.std.specs.Prelude.{◌≡◌, ◌≤◌, ◌^◌, [], List, All, IfOk, false, length, true};
 ghost use Rattle.timing_base.specs.Captures.{IsStamp};
 ghost use Rattle.timing_steps.specs.Queries.{judged_ends};
 ghost use Rattle.timing_reach.specs.Shapes.{HasShape};
@@ -17,7 +16,7 @@ use crate::shape::walk::Walk;
 use crate::shape::words::not_shaped;
 use flow_shaper::Late;
 use std::alloc::{AllocError as OutOfMemory, Global};
-use timing_base::{Judged, Kind, Media};
+use timing_base::{Judged, Kind, Media, Shift};
 use timing_report::Status;
 use timing_steps::Answer;
 
@@ -29,14 +28,14 @@ fn list_delays(alloc: Global, mut leaver: Leaver, stamps: &[u64]) -> Result<Answ
     requires few { length stamps.now ≤ 2 ^ 41 }
     ensures ends { IfOk result (λ answer. judged_ends false answer.status ≡ true) }
     ensures lists { IfOk result (λ answer. (w : Part) → HasLet w leaver [] []
-        → IsFit w.origin (in_tai w.options stamps.now)
-        → ListsSo w (in_tai w.options stamps.now) answer) }
+        → IsFit w.origin (in_tai w.shift stamps.now)
+        → ListsSo w (in_tai w.shift stamps.now) answer) }
 {
     let mut delays = Delays::new(alloc);
     for (packet, at) in stamps.iter().enumerate() {
         match leaver.leave(*at) {
             Ok(departure) => {
-                let delay = departure.at.saturating_sub(*at + leaver.added);
+                let delay = leaver.delay(*at, departure.at);
                 delays.add(packet as u64, delay, departure.bound)?;
             }
             Err(late) => return not_shaped(alloc, late.packet),
@@ -45,8 +44,8 @@ fn list_delays(alloc: Global, mut leaver: Leaver, stamps: &[u64]) -> Result<Answ
     delays.finish(stamps.len() as u64)
 }
 
-/// Lets the next `count` packets of a capture leave, and returns when the last one left, in nanoseconds of the
-/// capture's clock. Returns `Err` with the first packet that can't leave in time.
+/// Lets the next `count` packets of a capture leave, and returns the capture timestamp of the last one, in nanoseconds.
+/// Returns `Err` with the first packet that can't leave in time.
 fn depart(walk: &mut Walk, mut leaver: Leaver, count: u64) -> Result<u64, Late>
     requires none { count_left leaver ≡ 0 }
     requires few { count ≤ 2 ^ 41 }
@@ -58,7 +57,7 @@ fn depart(walk: &mut Walk, mut leaver: Leaver, count: u64) -> Result<u64, Late>
     let mut left = 0;
     for _ in 0..count {
         let departure = leaver.leave(walk.stamp())?;
-        left = departure.at.saturating_sub(leaver.added);
+        left = leaver.captured(departure.at);
         walk.restamp(left);
         walk.pass();
     }
@@ -71,17 +70,17 @@ fn shape_list(
     alloc: Global,
     media: &Media,
     kind: Kind,
-    options: FlowOptions,
+    shift: Shift,
     judged: &Judged,
     stamps: Vec<u64>,
 ) -> Result<Answer, OutOfMemory>
-    requires can { CanShape media.now options judged.now (Stamps stamps) }
+    requires { CanShape media.now shift judged.now (Stamps stamps) }
     ensures ends { IfOk result (λ answer. judged_ends false answer.status ≡ true) }
-    ensures shape { IfOk result (λ answer. IsShapeOf media.now kind options judged.now (Stamps stamps) answer) }
+    ensures shape { IfOk result (λ answer. IsShapeOf media.now kind shift judged.now (Stamps stamps) answer) }
 {
     let head = judged.head as usize;
     let judged_stamps = &stamps[head..head + judged.packets as usize];
-    let leaver = Leaver::new(media, judged, kind, judged_stamps[0], options);
+    let leaver = Leaver::new(media, judged, kind, judged_stamps[0], shift);
     list_delays(alloc, leaver, judged_stamps)
 }
 
@@ -90,17 +89,17 @@ fn shape_capture(
     alloc: Global,
     media: &Media,
     kind: Kind,
-    options: FlowOptions,
+    shift: Shift,
     judged: &Judged,
     bytes: Vec<u8>,
 ) -> Result<Answer, OutOfMemory>
-    requires can { CanShape media.now options judged.now (Capture bytes) }
+    requires { CanShape media.now shift judged.now (Capture bytes) }
     ensures ends { IfOk result (λ answer. judged_ends false answer.status ≡ true) }
-    ensures shape { IfOk result (λ answer. IsShapeOf media.now kind options judged.now (Capture bytes) answer) }
+    ensures shape { IfOk result (λ answer. IsShapeOf media.now kind shift judged.now (Capture bytes) answer) }
 {
     let mut walk = Walk::new(bytes);
     walk.skip(judged.head);
-    let leaver = Leaver::new(media, judged, kind, walk.stamp(), options);
+    let leaver = Leaver::new(media, judged, kind, walk.stamp(), shift);
     match depart(&mut walk, leaver, judged.packets) {
         Ok(left) => walk.hold_back(left),
         Err(late) => return not_shaped(alloc, late.packet),
@@ -116,16 +115,16 @@ pub fn shape_kept(
     alloc: Global,
     media: &Media,
     kind: Kind,
-    options: FlowOptions,
+    shift: Shift,
     judged: &Judged,
     packets: Kept,
 ) -> Result<Answer, OutOfMemory>
-    requires can { CanShape media.now options judged.now packets }
+    requires { CanShape media.now shift judged.now packets }
     ensures ends { IfOk result (λ answer. judged_ends false answer.status ≡ true) }
-    ensures shape { IfOk result (λ answer. IsShapeOf media.now kind options judged.now packets answer) }
+    ensures shape { IfOk result (λ answer. IsShapeOf media.now kind shift judged.now packets answer) }
 {
     match packets {
-        Kept::Stamps(stamps) => shape_list(alloc, media, kind, options, judged, stamps),
-        Kept::Capture(bytes) => shape_capture(alloc, media, kind, options, judged, bytes),
+        Kept::Stamps(stamps) => shape_list(alloc, media, kind, shift, judged, stamps),
+        Kept::Capture(bytes) => shape_capture(alloc, media, kind, shift, judged, bytes),
     }
 }

@@ -1,7 +1,7 @@
 //! Measures the judged packets of a flow while it is read.
 
-ghost use Rattle.std.specs.Prelude.{◌≡◌, ◌≤◌, ◌<◌, ◌+◌, ◌*◌, ◌^◌, ◌++◌, ◌∷◌, [], ℕ, List, All, IfOk, length};
-ghost use Rattle.timing_base.specs.Shifts.{FlowOptions as FlowOptionsValue};
+ghost use Rattle.std.specs.Prelude.{◌≡◌, ◌≤◌, ◌<◌, ◌+◌, ◌^◌, ◌++◌, ◌∷◌, [], ℕ, List, All, IfOk, length};
+ghost use Rattle.timing_base.specs.Shifts.{Shift as ShiftValue};
 ghost use Rattle.timing_base.specs.Captures.{IsStamp};
 ghost use Rattle.timing_base.specs.Flows.{read_or_zeros};
 ghost use Rattle.timing_base.specs.Media.{Media as MediaValue};
@@ -11,7 +11,7 @@ use crate::window::meters::WindowMeters;
 use crate::window::windows::Windows;
 use sender_params::Params;
 use std::alloc::{AllocError as OutOfMemory, Global};
-use timing_base::{FlowPacket, Media};
+use timing_base::{FlowPacket, Media, Shift};
 
 /// The greatest number of packets in a frame or field (this project's profile).
 const MOST: usize = 262_144;
@@ -173,25 +173,24 @@ impl Part {
 pub struct Gauge {
     alloc: Global,
     media: Media,
-    /// The time that is added to every capture timestamp, in nanoseconds.
-    added: u64,
+    /// The shift of every capture timestamp.
+    shift: Shift,
     part: Part,
-    ghost added_small: { added ≤ 10 ^ 12 },
 }
 
 impl Gauge {
     ghost use Rattle.timing_base.specs.Judged.{run_outcome};
     ghost use Rattle.timing_reach.specs.window.Gauging.{AreWindowsIn, IsGauged, Passes, count_gauged};
 
-    /// Returns the gauge of this media before the first packet. `tai` seconds are added to every capture timestamp.
-    pub fn new(alloc: Global, media: &Media, options: FlowOptions) -> Gauge
+    /// Returns the gauge of this media before the first packet, with the shift of every capture timestamp.
+    pub fn new(alloc: Global, media: &Media, shift: Shift) -> Gauge
         ensures kept { count_gauged result ≡ 0 }
-        ensures stands { IsGauged media.now options result [] }
+        ensures stands { IsGauged media.now shift result [] }
     {
         Gauge {
             alloc,
             media: *media,
-            added: options * 1_000_000_000,
+            shift,
             part: Part::Head,
         }
     }
@@ -204,15 +203,15 @@ impl Gauge {
         ensures kept { IfOk result (λ _. count_gauged self.new ≤ count_gauged self.old + 1) }
         ensures passes { IfOk result (λ _. Passes packet.now self.old self.new) }
     {
-        let at = packet.at + self.added;
+        let at = self.shift.stamp(packet.at);
         self.part
             .feed(self.alloc, &self.media, at, is_last_of_group(packet))
     }
 
     /// Returns the windows of the judged packets, if the flow ends here and has a whole frame or field.
     pub fn windows(&self) -> Option<Windows>
-        ensures { (m : MediaValue) (options : FlowOptionsValue) (packets : List _) → IsGauged m options self.now packets
-            → AreWindowsIn m (run_outcome packets options 0 (length packets)) result }
+        ensures { (m : MediaValue) (shift : ShiftValue) (packets : List _) → IsGauged m shift self.now packets
+            → AreWindowsIn m (run_outcome packets shift 0 (length packets)) result }
     {
         self.part.windows()
     }

@@ -11,7 +11,7 @@ use crate::window::windows::Windows;
 use fail_interval::Metered;
 use flow_demux::FlowTaker;
 use std::alloc::{AllocError as OutOfMemory, Global};
-use timing_base::{FlowKey, FlowPacket, Media, Rtp, Verdict};
+use timing_base::{FlowKey, FlowOptions, FlowPacket, Media, Rtp, Verdict};
 
 /// The result of reading a flow: the verdict on it, and the windows of its judged packets if it is judged in one run.
 #[derive(Drop)]
@@ -32,8 +32,7 @@ pub struct Reading {
 impl Reading {
     ghost use Rattle.timing_reach.specs.window.Readings.{HasRoom, IsMeasured, IsReading};
 
-    /// Returns a reading of the flow of this media before the first packet record. `tai` seconds are added to every
-    /// capture timestamp.
+    /// Returns a reading of the flow of this media before the first packet record, with the options of the flow.
     pub fn new(alloc: Global, media: &Media, number: u32, options: FlowOptions) -> Reading
         ensures room { HasRoom (2 ^ 36) result }
         ensures stands { IsReading media.now (record { file = 0; media = number }) options result [] }
@@ -44,14 +43,15 @@ impl Reading {
         };
         Reading {
             judge: Metered::new(alloc, media, key, options, ()),
-            gauge: Gauge::new(alloc, media, options),
+            gauge: Gauge::new(alloc, media, options.shift),
         }
     }
 
     /// Returns the result if the flow ends here. Returns `Err` if memory runs out.
     pub fn finish(self) -> Result<Measured, OutOfMemory>
-        ensures { IfOk result (λ measured. (m : MediaValue) (key : KeyValue) (options : FlowOptionsValue) (packets : List PacketValue)
-            → IsReading m key options self packets → IsMeasured m options packets measured) }
+        ensures { IfOk result (λ measured. (m : MediaValue) (key : KeyValue) (options : FlowOptionsValue)
+            (packets : List PacketValue) → IsReading m key options self packets
+            → IsMeasured m options packets measured) }
     {
         let Reading { judge, gauge } = self;
         let (row, _) = judge.finish()?;

@@ -2,6 +2,7 @@ use Rattle.std.proofs.Common.{◌≡◌, ◌≤◌, ◌<◌, ℕ, zero, suc, Lis
 use Rattle.std.specs.Prelude.{codes, slice_index}
 use Rattle.flow_shaper.specs.Plan.{IsPlan, Models, models_of}
 use Rattle.sender_params.specs.Worked.{hd_50}
+use Rattle.timing_base.specs.Shifts.{no_shift}
 use Rattle.timing_base.specs.declared.media.Kind.TheVariants.{N}
 use Rattle.timing_report.proofs.Numerals.{numerals}
 use Rattle.timing_report.specs.declared.status.Status.TheVariants as status
@@ -34,14 +35,14 @@ plan = record {
   buffer = λ i few. omega (arith, few);
 }
 
-leave : LeaveInTime hd_50 20 N (end_of 0) (last_nanosecond 4) (last_nanosecond 4)
+leave : LeaveInTime hd_50 20 N (end_of no_shift) (last_nanosecond 4) (last_nanosecond 4)
 leave = record {
   shaped = record { plan = plan; least = λ others p i few. p.after i few };
   in_time = λ i few. omega (arith, each i few);
 }
 
 -- the fifth leaves a tick after the first
-later : (others : List ℕ) → IsPlan w (last_nanosecond 5) others → end_of 0 ≤ slice_index others 4
+later : (others : List ℕ) → IsPlan w (last_nanosecond 5) others → end_of no_shift ≤ slice_index others 4
 later others p =
     omega (
       arith,
@@ -51,7 +52,7 @@ later others p =
       p.bucket 0 4 (omega arith) (omega (arith, p.each)),
     )
 
-late : IsLate hd_50 20 N (end_of 0) (last_nanosecond 5) 4
+late : IsLate hd_50 20 N (end_of no_shift) (last_nanosecond 5) 4
 late = record { within = omega arith; departures = last_nanosecond 4; before = leave; late = later }
 
 lines : not_shaped 4 ≡ record { text = codes "not shaped: packet 4\n"; status = status.NotAllJudged }
@@ -60,5 +61,6 @@ lines = refl
 
 pub returns : goal.returns
 returns c = λ list items answer h.
-    shape-once list 0 N hd_50 items (run_of_stamps (last_nanosecond 5)) answer (not_shaped 4) h (inr (record { packet = 4; late = late; answer_is = refl }))
+    shape-once list no_shift N hd_50 items (run_of_stamps (last_nanosecond 5)) answer (not_shaped 4) h
+    (inr (record { packet = 4; late = late; answer_is = refl }))
     ∙ lines

@@ -9,6 +9,7 @@ use Rattle.flow_shaper.specs.declared.departure.Bound.{Bound}
 use Rattle.flow_shaper.specs.declared.departure.Bound.TheVariants.{Arrival, Bucket}
 use Rattle.sender_params.specs.Worked.{at_once, hd_50}
 use Rattle.timing_base.specs.Captures.{Record}
+use Rattle.timing_base.specs.Shifts.{no_shift}
 use Rattle.timing_base.specs.declared.media.Kind.TheVariants.{N}
 use Rattle.timing_report.proofs.Numerals.{numerals}
 use Rattle.timing_report.specs.declared.status.Status.TheVariants as status
@@ -34,12 +35,12 @@ unfolding bounds numerals
 lines = refl
 
 has : (items : List Record) → Shaped hd_50 20 N (at_once 5) burst_shaped → BoundAt hd_50 20 N (at_once 5) burst_shaped 4 (Bucket 0)
-    → HasShape true 0 N hd_50 items (run_of_stamps (at_once 5)) (record { text = text; status = status.Pass })
+    → HasShape true no_shift N hd_50 items (run_of_stamps (at_once 5)) (record { text = text; status = status.Pass })
 has items shaped last = inl (record {
   departures = burst_shaped;
   leave = record {
     shaped = shaped;
-    in_time = five (λ i. slice_index burst_shaped i < end_of 0) (omega arith) (omega arith) (omega arith) (omega arith)
+    in_time = five (λ i. slice_index burst_shaped i < end_of no_shift) (omega arith) (omega arith) (omega arith) (omega arith)
         (omega arith);
   };
   text = text;
@@ -49,6 +50,6 @@ has items shaped last = inl (record {
 
 pub returns : goal.returns
 returns c = λ items answer h.
-    shape-once true 0 N hd_50 items (run_of_stamps (at_once 5)) answer (record { text = text; status = status.Pass }) h
+    shape-once true no_shift N hd_50 items (run_of_stamps (at_once 5)) answer (record { text = text; status = status.Pass }) h
     (has items c.burst_by_hand.ensures.shaped c.burst_by_hand.ensures.bound)
     ∙ ap (λ (t : List ℕ). record { text = t; status = status.Pass }) lines

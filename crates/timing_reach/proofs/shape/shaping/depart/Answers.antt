@@ -1,10 +1,28 @@
-use Rattle.std.proofs.Common.{rules, arith, ◌<◌, ◌≡◌, ℕ, ap, ◌∙◌, subst, sym, Err, Result}
+use Rattle.std.proofs.Common.{rules, arith, ◌<◌, ◌≡◌, ℕ, List, [], length, ap, append-nil, refl, ◌∙◌, subst, sym, Err, Result}
+use Rattle.timing_base.specs.Captures.{Record}
 use Rattle.flow_shaper.specs.declared.departure.Late.{Late}
 use Rattle.std.proofs.lemmas.Result.{err_from_is_err_and}
+use Rattle.timing_reach.specs.Shapes.{shaped_capture}
 use Rattle.timing_reach.specs.shape.Shaping.{DepartsSo, HasLeft}
+use Rattle.timing_reach.specs.shape.Walking.{IsBefore}
 use Rattle.timing_reach.proofs.Shapings.{departs-all, departs-late, left-next, skip-on, skip-record}
 use Rattle.timing_reach.proofs.Walkings.{has-head, stamp-held}
 use Rattle.timing_reach.proofs.shape.shaping.depart.Goals as goal
+
+pub loop-init : goal.loop-init
+loop-init c =
+    let can = c.requires.can in
+    record {
+      few = omega (arith, c.requires.none);
+      stamp = omega arith;
+      can = record { done = can.done; rest = can.rest; before = can.before; many = omega (arith, can.many) };
+      departs = λ w head records stamps given before few are fit. record {
+        departures = [];
+        let_go = given;
+        last = refl;
+        before = subst (λ (l : List Record). IsBefore c.args.walk.now (shaped_capture w.shift (length head) [] l) records) (sym (append-nil head)) before;
+      };
+    }
 
 pub stamp-requires : goal.stamp-requires
 stamp-requires c =
@@ -42,13 +60,13 @@ loop-preserved c =
     let low : c.loop.counter < c.args.count = search rules in
     record {
       few = omega (arith, c.leave.ensures.count, c.loop.invariant.few);
-      stamp = omega (arith, c.in_ok-departure.ensures.in_time, c.saturating_sub-left.ensures, c.leave.ensures.added);
-      can = skip-on c.loop.walk c.restamp.new.self c.pass.new.self c.saturating_sub-left.result c.args.count c.loop.counter low c.loop.invariant.can
+      stamp = c.captured-left.ensures.stamp;
+      can = skip-on c.loop.walk c.restamp.new.self c.pass.new.self c.captured-left.result c.args.count c.loop.counter low c.loop.invariant.can
           c.restamp.ensures.restamps c.pass.ensures.passes;
       departs = λ w head records stamps given before few are fit.
-          left-next w c.loop.leaver c.leave.new.self c.loop.walk c.restamp.new.self c.pass.new.self c.loop.left c.stamp.result c.saturating_sub-left.result
+          left-next w c.loop.leaver c.leave.new.self c.loop.walk c.restamp.new.self c.pass.new.self c.loop.left c.stamp.result c.captured-left.result
           head records stamps c.args.count c.loop.counter c.in_ok-departure.departure low few are fit c.stamp.ensures c.in_ok-departure.ensures.leaves
-          c.leave.ensures.added c.saturating_sub-left.ensures c.restamp.ensures.restamps c.pass.ensures.passes
+          c.leave.ensures.shift c.captured-left.ensures.is c.restamp.ensures.restamps c.pass.ensures.passes
           (c.loop.invariant.departs w head records stamps given before few are fit);
     }
 

@@ -13,7 +13,7 @@ invariant-loop l = record {
   stamp : IsStamp l.left;
   can : CanSkip (l.count - l.counter) l.walk;
   departs : (w : Part) (head records : List Record) (stamps : List ℕ) → HasLet w l.fn.leaver [] []
-      → IsBefore l.fn.walk (shaped_capture w.options (length head) [] head) records → l.count ≤ length records
-      → stamps ≡ in_tai w.options (stamps_of (take l.count records)) → IsFit w.origin stamps
+      → IsBefore l.fn.walk (shaped_capture w.shift (length head) [] head) records → l.count ≤ length records
+      → stamps ≡ in_tai w.shift (stamps_of (take l.count records)) → IsFit w.origin stamps
       → HasLeft w l.leaver l.walk l.left head records stamps l.counter;
 }

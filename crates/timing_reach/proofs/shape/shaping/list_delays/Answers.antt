@@ -21,10 +21,10 @@ loop-packet-preserved c =
     let within : i < length stamps = search rules in
     record {
       left = omega (arith, c.leave.ensures.count, c.loop-packet.invariant.left);
-      delayed = omega (arith, c.add.ensures.delayed, c.loop-packet.invariant.delayed, at-most-one (nat_lt 0 c.saturating_sub-delay.result));
+      delayed = omega (arith, c.add.ensures.delayed, c.loop-packet.invariant.delayed, at-most-one (nat_lt 0 c.delay-delay.result));
       listed = λ w given fit.
           listed-next w c.loop-packet.leaver c.leave.new.self c.loop-packet.delays c.add.new.self stamps i (slice_index_or stamps i 0)
-          c.saturating_sub-delay.result c.in-Ok.departure within refl c.leave.ensures.added c.saturating_sub-delay.ensures c.in-Ok.ensures.leaves
+          c.delay-delay.result c.in-Ok.departure within refl c.leave.ensures.shift c.delay-delay.ensures c.in-Ok.ensures.leaves
           c.in_ok-add-in-Ok.ensures.lines c.add.ensures.delayed c.add.ensures.greatest fit (c.loop-packet.invariant.listed w given fit);
     }
 
@@ -34,5 +34,5 @@ returns-clause-lists c =
     let end : c.loop-packet.packet ≡ length stamps = search rules in
     if-ok c.finish.result
     (λ answer is w given fit. lists-all w c.loop-packet.leaver c.loop-packet.delays stamps answer is
-    (subst (λ k. HasListed w c.loop-packet.leaver c.loop-packet.delays (in_tai w.options stamps) k) end (c.loop-packet.invariant.listed w given fit)))
+    (subst (λ k. HasListed w c.loop-packet.leaver c.loop-packet.delays (in_tai w.shift stamps) k) end (c.loop-packet.invariant.listed w given fit)))
     c.finish.ensures

@@ -7,6 +7,6 @@ abbrev pub invariant-loop-packet : goal.invariant-loop-packet
 invariant-loop-packet l = record {
   left : count_left l.leaver ≤ l.packet;
   delayed : l.delays.delayed ≤ l.packet;
-  listed : (w : Part) → HasLet w l.fn.leaver [] [] → IsFit w.origin (in_tai w.options l.stamps)
-      → HasListed w l.leaver l.delays (in_tai w.options l.stamps) l.packet;
+  listed : (w : Part) → HasLet w l.fn.leaver [] [] → IsFit w.origin (in_tai w.shift l.stamps)
+      → HasListed w l.leaver l.delays (in_tai w.shift l.stamps) l.packet;
 }
