@@ -6,8 +6,9 @@ use Rattle.std.proofs.Common.{◌≡◌, ◌≤◌, ◌<◌, ◌-◌, ◌+◌, �
 use Rattle.std.proofs.Common.{refl, ap, ap₂, ◌∙◌, sym, arith}
 use Rattle.std.proofs.Props.{props}
 use Rattle.std.proofs.lemmas.List.{ext_get_or, length-take-le}
-use Rattle.timing_base.specs.Shifts.{FlowOptions}
+use Rattle.timing_base.specs.Shifts.{FlowOptions, Shift}
 use Rattle.timing_base.specs.Media.{Media}
+use Rattle.timing_base.specs.Numbered.{numbered}
 use Rattle.timing_base.specs.declared.media.Kind.{Kind}
 use Rattle.timing_base.specs.declared.media.Kind.TheVariants.{N, NL, W}
 use Rattle.timing_base.specs.declared.packet.FlowPacket.{FlowPacket}
@@ -205,9 +206,9 @@ numbers-once m n groups stamps records timestamps named x y h k =
     }
 
 -- a judged run of a media is measured in one way
-pub run-once : (m : Media) (options : FlowOptions) (part : JudgedPart) (x y : MeasuredRun) → IsMeasuredRun (HasNumbers m options) part x
-    → IsMeasuredRun (HasNumbers m options) part y → x ≡ y
-run-once m options part x y h k =
+pub run-once : (m : Media) (shift : Shift) (part : JudgedPart) (x y : MeasuredRun) → IsMeasuredRun (HasNumbers m shift) part x
+    → IsMeasuredRun (HasNumbers m shift) part y → x ≡ y
+run-once m shift part x y h k =
     let run = h.run_is ∙ sym k.run_is in
     let rec = h.record_is ∙ sym k.record_is in
     let number = h.number ∙ sym k.number in
@@ -215,14 +216,14 @@ run-once m options part x y h k =
     let numbers = numbers-once m _ _ _ _ _ _ x.numbers y.numbers h.numbers k.numbers in
     λ i. record { run = run i; «record» = rec i; number = number i; judged = judged i; numbers = numbers i }
 
-runs-once : (m : Media) (options : FlowOptions) (parts : List JudgedPart) (xs ys : List MeasuredRun) → AreMeasured (HasNumbers m options) parts xs
-    → AreMeasured (HasNumbers m options) parts ys → xs ≡ ys
-runs-once m options [] [] [] h k = refl
-runs-once m options [] [] (y ∷ ys) h k = absurd k
-runs-once m options [] (x ∷ xs) ys h k = absurd h
-runs-once m options (part ∷ parts) [] ys h k = absurd h
-runs-once m options (part ∷ parts) (x ∷ xs) [] h k = absurd k
-runs-once m options (part ∷ parts) (x ∷ xs) (y ∷ ys) h k = ap₂ (λ a l. a ∷ l) (run-once m options part x y h.0 k.0) (runs-once m options parts xs ys h.1 k.1)
+runs-once : (m : Media) (shift : Shift) (parts : List JudgedPart) (xs ys : List MeasuredRun) → AreMeasured (HasNumbers m shift) parts xs
+    → AreMeasured (HasNumbers m shift) parts ys → xs ≡ ys
+runs-once m shift [] [] [] h k = refl
+runs-once m shift [] [] (y ∷ ys) h k = absurd k
+runs-once m shift [] (x ∷ xs) ys h k = absurd h
+runs-once m shift (part ∷ parts) [] ys h k = absurd h
+runs-once m shift (part ∷ parts) (x ∷ xs) [] h k = absurd k
+runs-once m shift (part ∷ parts) (x ∷ xs) (y ∷ ys) h k = ap₂ (λ a l. a ∷ l) (run-once m shift part x y h.0 k.0) (runs-once m shift parts xs ys h.1 k.1)
 
 -- and so is its flow
 pub flow-once : (m : Media) (number : ℕ) (options : FlowOptions) (packets : List FlowPacket) (f g : MeasuredFlow) → IsMeasuredFlow m number options packets f
@@ -232,5 +233,5 @@ flow-once m number options packets f g h k =
     let count = h.count ∙ sym k.count in
     let source = h.source ∙ sym k.source in
     let found = h.verdict_is ∙ sym k.verdict_is in
-    let runs = runs-once m options (judged_parts m packets options) f.runs g.runs h.runs k.runs in
+    let runs = runs-once m options.shift (judged_parts m (numbered options.seq16 packets) options.shift) f.runs g.runs h.runs k.runs in
     λ i. record { media = media i; packets = count i; ssrc = source i; verdict = found i; runs = runs i }

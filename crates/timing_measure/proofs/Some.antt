@@ -5,15 +5,17 @@ use Rattle.std.specs.Prelude.{All, slice_index_or}
 use Rattle.std.specs.List.{cons_option}
 use Rattle.std.proofs.lemmas.List.{length-map}
 use Rattle.std.proofs.lemmas.List.Elements.{All-append, All-cons, All-drop, All-get_or, All-head, All-nil, All-tail, All-take}
-use Rattle.timing_base.specs.Shifts.{FlowOptions}
+use Rattle.timing_base.specs.Shifts.{AreFlowOptions, FlowOptions, IsShift, Shift}
 use Rattle.timing_base.specs.Captures.{IsStamp, Record}
 use Rattle.timing_base.specs.Flows.{AreStamped, cuts, no_packet, packet, read_or_zeros}
 use Rattle.timing_base.specs.Jobs.{CaptureJob, IsCaptureJob}
 use Rattle.timing_base.specs.Judged.{FlowVerdict, RunOutcome, absent, gap, in_one_run, in_runs, judged, no_whole_frame, refused, run_outcome, stamp_of}
 use Rattle.timing_base.specs.Judged.{whole_frames}
 use Rattle.timing_base.specs.Media.{IsMedia, Media}
+use Rattle.timing_base.specs.Numbered.{numbered}
 use Rattle.timing_base.specs.declared.capture.FileNote.{FileNote}
 use Rattle.timing_base.specs.declared.packet.FlowPacket.{FlowPacket}
+use Rattle.timing_base.proofs.Numberings.{length-numbered, stamped-numbered}
 use Rattle.fail_interval.specs.Row.{verdict_of}
 use Rattle.flow_measure.specs.declared.numbers.MeasuredFlow.{MeasuredFlow}
 use Rattle.flow_measure.specs.declared.numbers.MeasuredRun.{MeasuredRun}
@@ -44,26 +46,26 @@ held-part m packets number from to (no_whole_frame head) h = All-nil HasStamps
 held-part m packets number from to (whole_frames run) h =
     All-cons HasStamps _ [] (All-take (λ (p : FlowPacket). IsStamp p.at) _ _ (All-drop (λ (p : FlowPacket). IsStamp p.at) _ packets h)) (All-nil HasStamps)
 
-held-between : (m : Media) (packets : List FlowPacket) (options : FlowOptions) (to number from : ℕ) (places : List ℕ) → AreStamped packets
-    → All HasStamps (parts_between m packets options to number from places)
-held-between m packets options to number from [] h = held-part m packets number from to (run_outcome packets options from to) h
-held-between m packets options to number from (cut ∷ rest) h =
-    All-append HasStamps (part_between m packets options number from cut) (parts_between m packets options to (number + 1) cut rest)
-    (held-part m packets number from cut (run_outcome packets options from cut) h) (held-between m packets options to (number + 1) cut rest h)
+held-between : (m : Media) (packets : List FlowPacket) (shift : Shift) (to number from : ℕ) (places : List ℕ) → AreStamped packets
+    → All HasStamps (parts_between m packets shift to number from places)
+held-between m packets shift to number from [] h = held-part m packets number from to (run_outcome packets shift from to) h
+held-between m packets shift to number from (cut ∷ rest) h =
+    All-append HasStamps (part_between m packets shift number from cut) (parts_between m packets shift to (number + 1) cut rest)
+    (held-part m packets number from cut (run_outcome packets shift from cut) h) (held-between m packets shift to (number + 1) cut rest h)
 
-held-in : (m : Media) (packets : List FlowPacket) (options : FlowOptions) (v : FlowVerdict) → AreStamped packets → All HasStamps (parts_in m packets options v)
-held-in m packets options absent h = All-nil HasStamps
-held-in m packets options (refused rec fault) h = All-nil HasStamps
-held-in m packets options (gap rec expected got) h = All-nil HasStamps
-held-in m packets options (in_one_run o) h = held-part m packets 1 0 (length packets) o h
-held-in m packets options (in_runs runs) h = held-between m packets options (length packets) 1 0 (cuts packets (length packets)) h
+held-in : (m : Media) (packets : List FlowPacket) (shift : Shift) (v : FlowVerdict) → AreStamped packets → All HasStamps (parts_in m packets shift v)
+held-in m packets shift absent h = All-nil HasStamps
+held-in m packets shift (refused rec fault) h = All-nil HasStamps
+held-in m packets shift (gap rec expected got) h = All-nil HasStamps
+held-in m packets shift (in_one_run o) h = held-part m packets 1 0 (length packets) o h
+held-in m packets shift (in_runs runs) h = held-between m packets shift (length packets) 1 0 (cuts packets (length packets)) h
 
 -- the stamp of a packet of a list
-stamp-at : (options : FlowOptions) (packets : List FlowPacket) (i : ℕ) → i < length packets
-    → slice_index (stamps_of options packets) i ≡ stamp_of options (slice_index_or packets i no_packet)
-stamp-at options [] i few = absurd (omega (arith, few))
-stamp-at options (p ∷ packets) zero few = refl
-stamp-at options (p ∷ packets) (suc i) few = stamp-at options packets i (omega arith)
+stamp-at : (shift : Shift) (packets : List FlowPacket) (i : ℕ) → i < length packets
+    → slice_index (stamps_of shift packets) i ≡ stamp_of shift (slice_index_or packets i no_packet)
+stamp-at shift [] i few = absurd (omega (arith, few))
+stamp-at shift (p ∷ packets) zero few = refl
+stamp-at shift (p ∷ packets) (suc i) few = stamp-at shift packets i (omega arith)
 
 -- the packets of a flow have the stamps of their records
 stamped-option : (o : Option FlowPacket) (packets : List FlowPacket) → ((p : FlowPacket) → o ≡ Some p → IsStamp p.at) → AreStamped packets
@@ -79,15 +81,15 @@ flow-stamped m (r ∷ items) h =
     (flow-stamped m items (All-tail (λ (r : Record). IsStamp r.stamp) r items h))
 
 -- a judged run has its numbers
-some-run : (m : Media) (options : FlowOptions) (part : JudgedPart) → IsMedia m → options ≤ 1000 → IsWhole options part → HasStamps part
-    → (x : MeasuredRun) × IsMeasuredRun (HasNumbers m options) part x
-some-run m options part is few whole held =
-    let stamps = stamps_of options part.packets in
-    let long : length stamps ≡ length part.packets = length-map part.packets (stamp_of options) in
+some-run : (m : Media) (shift : Shift) (part : JudgedPart) → IsMedia m → IsShift shift → IsWhole shift part → HasStamps part
+    → (x : MeasuredRun) × IsMeasuredRun (HasNumbers m shift) part x
+some-run m shift part is limits whole held =
+    let stamps = stamps_of shift part.packets in
+    let long : length stamps ≡ length part.packets = length-map part.packets (stamp_of shift) in
     let low : (i : ℕ) → i < length stamps → slice_index stamps i < 2 ^ 63 =
     λ i within.
-    let one : slice_index stamps i ≡ stamp_of options (slice_index_or part.packets i no_packet) = stamp-at options part.packets i (omega (arith, within, long)) in
-    omega (arith, one, All-get_or (λ (p : FlowPacket). IsStamp p.at) part.packets i no_packet (omega (arith, within, long)) held, few) in
+    let one : slice_index stamps i ≡ stamp_of shift (slice_index_or part.packets i no_packet) = stamp-at shift part.packets i (omega (arith, within, long)) in
+    omega (arith, one, All-get_or (λ (p : FlowPacket). IsStamp p.at) part.packets i no_packet (omega (arith, within, long)) held, limits.tai_most) in
     let numbers =
     some-numbers m part.values.n part.values.frames stamps (records_of part.packets) (timestamps_of part.packets) (map named_by part.values.kinds) is whole.some
     whole.some_groups (long ∙ whole.whole) (omega (arith, long, whole.bounded)) low in (
@@ -101,21 +103,26 @@ some-run m options part is few whole held =
       record { run_is = refl; record_is = refl; number = refl; judged_is = refl; numbers = numbers.1 },
     )
 
-some-runs : (m : Media) (options : FlowOptions) (parts : List JudgedPart) → IsMedia m → options ≤ 1000 → All (IsWhole options) parts → All HasStamps parts
-    → (xs : List MeasuredRun) × AreMeasured (HasNumbers m options) parts xs
-some-runs m options [] is few whole held = ([], tt)
-some-runs m options (part ∷ parts) is few whole held =
-    let x = some-run m options part is few (All-head (IsWhole options) part parts whole) (All-head HasStamps part parts held) in
-    let xs = some-runs m options parts is few (All-tail (IsWhole options) part parts whole) (All-tail HasStamps part parts held) in
+some-runs : (m : Media) (shift : Shift) (parts : List JudgedPart) → IsMedia m → IsShift shift → All (IsWhole shift) parts → All HasStamps parts
+    → (xs : List MeasuredRun) × AreMeasured (HasNumbers m shift) parts xs
+some-runs m shift [] is limits whole held = ([], tt)
+some-runs m shift (part ∷ parts) is limits whole held =
+    let x = some-run m shift part is limits (All-head (IsWhole shift) part parts whole) (All-head HasStamps part parts held) in
+    let xs = some-runs m shift parts is limits (All-tail (IsWhole shift) part parts whole) (All-tail HasStamps part parts held) in
     (x.0 ∷ xs.0, (x.1, xs.1))
 
 -- so has a flow
-some-flow : (m : Media) (number : ℕ) (options : FlowOptions) (packets : List FlowPacket) → IsMedia m → options ≤ 1000 → length packets < 2 ^ 41 → AreStamped packets
+some-flow : (m : Media) (number : ℕ) (options : FlowOptions) (packets : List FlowPacket) → IsMedia m → AreFlowOptions options → length packets < 2 ^ 41
+    → AreStamped packets
     → (f : MeasuredFlow) × IsMeasuredFlow m number options packets f
-some-flow m number options packets is seconds few stamped =
+some-flow m number options packets is limits few stamped =
+    let shift = options.shift in
+    let counted = numbered options.seq16 packets in
+    let held = stamped-numbered options.seq16 packets stamped in
     let runs =
-    some-runs m options (judged_parts m packets options) is seconds (parts-whole m packets options few seconds stamped)
-    (held-in m packets options (judged packets m.pt options) stamped) in (
+    some-runs m shift (judged_parts m counted shift) is limits
+    (parts-whole m counted shift (omega (arith, few, length-numbered options.seq16 packets)) limits held)
+    (held-in m counted shift (judged packets m.pt options) held) in (
       record {
         media = number;
         packets = length packets;
@@ -126,21 +133,22 @@ some-flow m number options packets is seconds few stamped =
       record { media = refl; count = refl; source = refl; verdict_is = refl; runs = runs.1 },
     )
 
-some-flows : (options : FlowOptions) (items : List Record) (number : ℕ) (media : List Media) → All IsMedia media → options ≤ 1000 → length items < 2 ^ 41
+some-flows : (options : FlowOptions) (items : List Record) (number : ℕ) (media : List Media) → All IsMedia media → AreFlowOptions options
+    → length items < 2 ^ 41
     → All (λ (r : Record). IsStamp r.stamp) items
     → (flows : List MeasuredFlow) × EachOf (λ n m f. IsMeasuredFlow m n options (flow items m) f) number media flows
-some-flows options items number [] is seconds few held = ([], tt)
-some-flows options items number (m ∷ media) is seconds few held =
+some-flows options items number [] is limits few held = ([], tt)
+some-flows options items number (m ∷ media) is limits few held =
     let f =
-    some-flow m number options (flow items m) (All-head IsMedia m media is) seconds (omega (arith, few, flow-few m items)) (flow-stamped m items held) in
-    let fs = some-flows options items (number + 1) media (All-tail IsMedia m media is) seconds few held in
+    some-flow m number options (flow items m) (All-head IsMedia m media is) limits (omega (arith, few, flow-few m items)) (flow-stamped m items held) in
+    let fs = some-flows options items (number + 1) media (All-tail IsMedia m media is) limits few held in
     (f.0 ∷ fs.0, (f.1, fs.1))
 
 -- the answer over packet records of a capture
 pub measure-defined : (job : CaptureJob) (media : List Media) (items : List Record) (note : FileNote) → IsCaptureJob job → All IsMedia media → AreHeld items
     → (answer : Answer) × DefinesMeasure job media items note answer
 measure-defined job media items note is all held =
-    let flows = some-flows job.options items 0 media all is.tai_most held.few held.stamps in
+    let flows = some-flows job.options items 0 media all is.options_are held.few held.stamps in
     (measured job.capture note media flows.0, record { flows = flows.0; are = flows.1; answer_is = refl })
 
 pub some-measure : (job : CaptureJob) (texts : List (List ℕ)) → IsCaptureJob job → HaveStamps texts → DefinesSome (measure_query job) texts

@@ -26,7 +26,8 @@ use Rattle.timing_measure.specs.declared.flows.take.TakenFlows.{TakenFlows}
 use Rattle.timing_measure.proofs.Eaches.{each-pairs}
 
 -- a flow that was begun
-pub new-flow : {M O Past : Type 0} (wants : Bool) (stands : Standing M) (tells : Telling Past O) (options : FlowOptions) (n : ℕ) (m : Media) (meter : FlowMeter M O)
+pub new-flow : {M O Past : Type 0} (wants : Bool) (stands : Standing M) (tells : Telling Past O) (options : FlowOptions) (n : ℕ) (m : Media)
+    (meter : FlowMeter M O)
     (f : MediaFlow (FlowMeter M O)) → f.media ≡ m → f.taker ≡ meter
     → ((past : Past) → StandsFor wants stands tells past m n options meter [])
     → IsFlowOf wants stands tells options [] n m f
@@ -54,7 +55,8 @@ zip-pairs takes (x ∷ olds) [] items h = absurd h
 zip-pairs takes (x ∷ olds) (y ∷ news) items h = (h.0, zip-pairs takes olds news items h.1)
 
 -- so of all media
-pub flows-fed : {M O Past : Type 0} (wants : Bool) (stands : Standing M) (tells : Telling Past O) (options : FlowOptions) (media : List Media) (items : List Record)
+pub flows-fed : {M O Past : Type 0} (wants : Bool) (stands : Standing M) (tells : Telling Past O) (options : FlowOptions) (media : List Media)
+    (items : List Record)
     (olds news : List (MediaFlow (FlowMeter M O))) → AreMetered wants stands tells options media [] olds
     → TakesAll (λ m x y l. TakesOn wants stands tells m x y l) olds news items → AreMetered wants stands tells options media items news
 flows-fed wants stands tells options media items olds news h taken =
@@ -68,7 +70,8 @@ abbrev pub BothTake : {M O B Past : Type 0} → (wants : Bool) → Standing M �
 BothTake wants stands tells takes old new items =
     TakesAll (λ m x y l. TakesOn wants stands tells m x y l) (flows_of old.first) (flows_of new.first) items × takes old.second new.second items
 
-pub taken-in : {M O B Past : Type 0} (wants : Bool) (stands : Standing M) (tells : Telling Past O) (takes : B → B → List Record → Type 0) (options : FlowOptions)
+pub taken-in : {M O B Past : Type 0} (wants : Bool) (stands : Standing M) (tells : Telling Past O) (takes : B → B → List Record → Type 0)
+    (options : FlowOptions)
     (media : List Media) (text : List ℕ) (old new : Both (Demux (FlowMeter M O)) B) (read : Taken) (taken : TakenFlows M O B)
     → AreMetered wants stands tells options media [] (flows_of old.first) → TakesText (BothTake wants stands tells takes) text 0 old new read
     → taken.note ≡ read.note → taken.flows.items ≡ flows_of new.first → taken.beside ≡ new.second
@@ -101,7 +104,8 @@ flows-room few many flows le h =
 
 -- what the flows come to, one by one
 pub flows-end : {M O E Past : Type 0} (wants : Bool) (stands : Standing M) (tells : Telling Past O) (past : Past)
-    (Ends : MediaFlow (FlowMeter M O) → E → Type 0) (IsEnd : Media → (number : ℕ) (options : FlowOptions) → List FlowPacket → E → Type 0) (options : FlowOptions)
+    (Ends : MediaFlow (FlowMeter M O) → E → Type 0) (IsEnd : Media → (number : ℕ) (options : FlowOptions) → List FlowPacket → E → Type 0)
+    (options : FlowOptions)
     (media : List Media) (items : List Record) (flows : List (MediaFlow (FlowMeter M O))) (ends : List E)
     → ((f : MediaFlow (FlowMeter M O)) (e : E) → Ends f e → (m : Media) (number : ℕ) (packets : List FlowPacket)
     → StandsFor wants stands tells past m number options f.taker packets → IsEnd m number options packets e)

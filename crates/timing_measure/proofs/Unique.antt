@@ -14,5 +14,6 @@ pub once-measure : (job : CaptureJob) → DefinesOnce (measure_query job)
 once-measure job media files notes a b h k =
     let items = only_file files in
     let flows : h.flows ≡ k.flows =
-    each-once (λ n m f. IsMeasuredFlow m n job.options (flow items m) f) (λ n m. flow-once m n job.options (flow items m)) 0 media h.flows k.flows h.are k.are in
+    each-once (λ n m f. IsMeasuredFlow m n job.options (flow items m) f) (λ n m. flow-once m n job.options (flow items m)) 0 media
+    h.flows k.flows h.are k.are in
     h.answer_is ∙ ap (measured job.capture (only_note notes) media) flows ∙ sym k.answer_is

@@ -4,6 +4,7 @@ use Rattle.std.specs.Prelude.{◌≡◌, ℕ, List, [], ◌∷◌, length, Optio
 use Rattle.timing_base.specs.Shifts.{FlowOptions}
 use Rattle.timing_base.specs.Judged.{judged}
 use Rattle.timing_base.specs.Media.{Media}
+use Rattle.timing_base.specs.Numbered.{numbered}
 use Rattle.timing_base.specs.declared.packet.FlowPacket.{FlowPacket}
 use Rattle.timing_base.specs.declared.packet.PacketFault.{PacketFault}
 use Rattle.timing_base.specs.declared.packet.Rtp.{Rtp}
@@ -22,10 +23,12 @@ abbrev pub first_source : List FlowPacket → Option ℕ
 first_source [] = None
 first_source (p ∷ packets) = source_or p.rtp (first_source packets)
 
--- the flow with these packets, of the media with this number, has these numbers; `tai` is in seconds
-pub record IsMeasuredFlow (m : Media) (number : ℕ) (options : FlowOptions) (packets : List FlowPacket) (flow : MeasuredFlow) : Type 0 where
+-- the flow with these packets, of the media with this number, has these numbers, by the options of the flow
+pub record IsMeasuredFlow (m : Media) (number : ℕ) (options : FlowOptions) (packets : List FlowPacket)
+    (flow : MeasuredFlow) : Type 0 where
   pub media : flow.media ≡ number
   pub count : flow.packets ≡ length packets
   pub source : flow.ssrc ≡ first_source packets
   pub verdict_is : flow.verdict ≡ verdict_of m (judged packets m.pt options)
-  pub runs : AreMeasured (HasNumbers m options) (judged_parts m packets options) flow.runs
+  pub runs : AreMeasured (HasNumbers m options.shift)
+      (judged_parts m (numbered options.seq16 packets) options.shift) flow.runs

@@ -1,6 +1,7 @@
 -- The output and status of `measure`, by the contents of its inputs: the numbers of every judged run of every media of
 -- a session, in one capture, as JSON (RFC 8259). The SDP is read first, then the capture. Capture timestamps are
--- nanoseconds of TAI, with `--tai` added; media count from 0, and packet records from 1. This project's profile.
+-- nanoseconds of TAI, after the shift (`--tai`, `--delay`); media count from 0, and packet records from 1. This
+-- project's profile.
 use Rattle.std.specs.Prelude.{◌≡◌, ◌&&◌, if◌then◌else◌, ℕ, Bool, not, nat_lt, List, length, map}
 use Rattle.std.specs.List.{list_any}
 use Rattle.timing_base.specs.Shifts.{FlowOptions}
@@ -22,7 +23,7 @@ use Rattle.timing_measure.specs.Each.{EachOf}
 use Rattle.timing_measure.specs.Measured.{IsMeasuredFlow}
 
 -- the numbers of the flow of each media of a session, in a capture with these packet records
-abbrev pub AreFlows : (options : FlowOptions) → List Media → List Record → List MeasuredFlow → Type 0
+abbrev pub AreFlows : FlowOptions → List Media → List Record → List MeasuredFlow → Type 0
 AreFlows options media items flows =
     EachOf (λ number m f. IsMeasuredFlow m number options (flow items m) f) 0 media flows
 

@@ -1,7 +1,6 @@
--- The result of a flow that has ended. `tells` relates the output of the meters of its runs to the runs; `tai` is in
--- seconds.
+-- The result of a flow that has ended. `tells` relates the output of the meters of its runs to the runs.
 use Rattle.std.specs.Prelude.{◌≡◌, ℕ, true, List, [], length, Option}
-use Rattle.timing_base.specs.Shifts.{FlowOptions}
+use Rattle.timing_base.specs.Shifts.{FlowOptions, Shift}
 use Rattle.timing_base.specs.Judged.{judged}
 use Rattle.timing_base.specs.Media.{Media}
 use Rattle.timing_base.specs.declared.packet.FlowPacket.{FlowPacket}
@@ -24,8 +23,8 @@ use Rattle.timing_measure.specs.declared.flows.flow.FlowEnd.{FlowEnd}
 use Rattle.timing_measure.specs.declared.flows.flow.FlowMeter.{FlowMeter}
 
 -- the result of the flow with these packets, of the media with this number
-pub record IsEndOf {Past O : Type 0} (tells : Telling Past O) (past : Past) (m : Media) (number : ℕ) (options : FlowOptions)
-    (packets : List FlowPacket) (end : FlowEnd O) : Type 0 where
+pub record IsEndOf {Past O : Type 0} (tells : Telling Past O) (past : Past) (m : Media) (number : ℕ)
+    (options : FlowOptions) (packets : List FlowPacket) (end : FlowEnd O) : Type 0 where
   pub media : end.media ≡ number
   pub count : end.packets ≡ length packets
   pub source : end.ssrc ≡ first_source packets
@@ -33,11 +32,12 @@ pub record IsEndOf {Past O : Type 0} (tells : Telling Past O) (past : Past) (m :
   pub told : TellsOfAll tells past m options packets end.out
 
 -- the output has the numbers of the judged runs
-abbrev pub TellsNumbers : Unit {0} → MeasuredRuns → Media → (options : FlowOptions) → List JudgedPart → Option OpenPart → Type 0
-TellsNumbers past out m options over part = AreMeasured (HasNumbers m options) over out.runs.items
+abbrev pub TellsNumbers : Unit {0} → MeasuredRuns → Media → Shift → List JudgedPart → Option OpenPart → Type 0
+TellsNumbers past out m shift over part = AreMeasured (HasNumbers m shift) over out.runs.items
 
 -- the result of a flow with meters that write these numbers
-abbrev pub IsMeasuredEnd : Media → (number : ℕ) (options : FlowOptions) → List FlowPacket → FlowEnd MeasuredRuns → Type 0
+abbrev pub IsMeasuredEnd : Media → (number : ℕ) (options : FlowOptions) → List FlowPacket → FlowEnd MeasuredRuns
+    → Type 0
 IsMeasuredEnd m number options packets end = IsEndOf TellsNumbers tt m number options packets end
 
 -- the measured runs; none if the flow isn't judged

@@ -1,5 +1,5 @@
 -- The packets of a flow that a `FlowMeter` has taken. `wants` is whether the meters of its runs are fed packets,
--- `stands` which packets such a meter was fed, and `tells` relates their output to the runs. `tai` is in seconds.
+-- `stands` which packets such a meter was fed, and `tells` relates their output to the runs.
 use Rattle.std.specs.Prelude.{◌≡◌, ◌≤◌, ℕ, Bool, List, [], ◌∷◌, ◌++◌, Option, None}
 use Rattle.timing_base.specs.Shifts.{FlowOptions}
 use Rattle.timing_base.specs.Captures.{Record}

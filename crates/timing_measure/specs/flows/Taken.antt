@@ -1,4 +1,4 @@
--- The flows of the media of a session, taken from a capture. Media count from 0; `tai` is in seconds.
+-- The flows of the media of a session, taken from a capture. Media count from 0.
 use Rattle.std.specs.Prelude.{◌≡◌, ◌^◌, ℕ, Bool, List, ◌++◌}
 use Rattle.timing_base.specs.Shifts.{FlowOptions}
 use Rattle.timing_base.specs.Captures.{Record}
@@ -15,15 +15,17 @@ use Rattle.timing_measure.specs.declared.flows.take.TakenFlows.{TakenFlows}
 use Rattle.timing_measure.specs.declared.measured.MeasuredCapture.{MeasuredCapture}
 
 -- the taker of the flow of this media took the flow in these packet records
-pub record IsFlowOf {M O Past : Type 0} (wants : Bool) (stands : Standing M) (tells : Telling Past O) (options : FlowOptions)
-    (items : List Record) (number : ℕ) (m : Media) (f : MediaFlow (FlowMeter M O)) : Type 0 where
+pub record IsFlowOf {M O Past : Type 0} (wants : Bool) (stands : Standing M) (tells : Telling Past O)
+    (options : FlowOptions) (items : List Record) (number : ℕ) (m : Media) (f : MediaFlow (FlowMeter M O))
+    : Type 0 where
   pub media_is : f.media ≡ m
   pub stood : (past : Past) → StandsFor wants stands tells past m number options f.taker (flow items m)
 
 -- the takers of all media took their flows in these packet records
-abbrev pub AreMetered : {M O Past : Type 0} → (wants : Bool) → Standing M → Telling Past O → (options : FlowOptions) → List Media
-    → List Record → List (MediaFlow (FlowMeter M O)) → Type 0
-AreMetered wants stands tells options media items flows = EachOf (IsFlowOf wants stands tells options items) 0 media flows
+abbrev pub AreMetered : {M O Past : Type 0} → (wants : Bool) → Standing M → Telling Past O → FlowOptions
+    → List Media → List Record → List (MediaFlow (FlowMeter M O)) → Type 0
+AreMetered wants stands tells options media items flows =
+    EachOf (IsFlowOf wants stands tells options items) 0 media flows
 
 -- the takers, and the taker beside them, took the packet records of the capture with these contents
 pub record AreTakenIn {M O B Past : Type 0} (wants : Bool) (stands : Standing M) (tells : Telling Past O)
@@ -35,8 +37,8 @@ pub record AreTakenIn {M O B Past : Type 0} (wants : Bool) (stands : Standing M)
   pub beside : takes old taken.beside items
 
 -- the takers took some packet records, also if the contents of the capture aren't known
-pub record AreTakenOf {M O B Past : Type 0} (wants : Bool) (stands : Standing M) (tells : Telling Past O) (options : FlowOptions)
-    (media : List Media) (taken : TakenFlows M O B) : Type 0 where
+pub record AreTakenOf {M O B Past : Type 0} (wants : Bool) (stands : Standing M) (tells : Telling Past O)
+    (options : FlowOptions) (media : List Media) (taken : TakenFlows M O B) : Type 0 where
   pub items : List Record
   pub are : AreMetered wants stands tells options media items taken.flows.items
 

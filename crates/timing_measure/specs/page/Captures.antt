@@ -1,4 +1,4 @@
--- The part of a page that comes from its capture. `tai` is in seconds.
+-- The part of a page that comes from its capture.
 use Rattle.std.specs.Prelude.{◌^◌, ℕ, List}
 use Rattle.timing_base.specs.Shifts.{FlowOptions}
 use Rattle.timing_base.specs.Captures.{Record}

@@ -1,6 +1,6 @@
--- The part of a page for a flow that has ended. `tai` is in seconds; runs count from 1.
+-- The part of a page for a flow that has ended. Runs count from 1.
 use Rattle.std.specs.Prelude.{◌≡◌, ℕ, ⊤, true, All, List, ◌∷◌, ◌++◌, Option, Some, None}
-use Rattle.timing_base.specs.Shifts.{FlowOptions}
+use Rattle.timing_base.specs.Shifts.{FlowOptions, Shift}
 use Rattle.timing_base.specs.Media.{Media}
 use Rattle.timing_base.specs.declared.packet.FlowPacket.{FlowPacket}
 use Rattle.run_meter.specs.Runs.{JudgedPart, OpenPart, RunOf}
@@ -24,18 +24,19 @@ use Rattle.timing_measure.specs.declared.flows.flow.FlowEnd.{FlowEnd}
 use Rattle.timing_measure.specs.declared.flows.flow.FlowMeter.{FlowMeter}
 
 -- both meters of a run were fed these packets
-abbrev pub PairStandsFor : Pair NumbersMeter DrawingMeter → Media → (options : FlowOptions) → RunOf
+abbrev pub PairStandsFor : Pair NumbersMeter DrawingMeter → Media → Shift → RunOf
     → (fed committed : List FlowPacket) → Type 0
-PairStandsFor x m options r fed committed =
-    NumbersStandsFor x.first m options r fed committed × DrawingStandsFor x.second m options r fed committed
+PairStandsFor x m shift r fed committed =
+    NumbersStandsFor x.first m shift r fed committed × DrawingStandsFor x.second m shift r fed committed
 
 -- the outputs of both meters have the results of the runs
-abbrev pub TellsPair : Unit {0} × Unit {0} → MeasuredRuns × LongestRun → Media → (options : FlowOptions) → List JudgedPart
+abbrev pub TellsPair : Unit {0} × Unit {0} → MeasuredRuns × LongestRun → Media → Shift → List JudgedPart
     → Option OpenPart → Type 0
-TellsPair past out m options over part = TellsNumbers past.0 out.0 m options over part × Tells m options over out.1
+TellsPair past out m shift over part = TellsNumbers past.0 out.0 m shift over part × Tells m shift over out.1
 
 -- the result of a flow with meters that write numbers and drawings
-abbrev pub IsPageEnd : Media → (number : ℕ) (options : FlowOptions) → List FlowPacket → FlowEnd (MeasuredRuns × LongestRun) → Type 0
+abbrev pub IsPageEnd : Media → (number : ℕ) (options : FlowOptions) → List FlowPacket
+    → FlowEnd (MeasuredRuns × LongestRun) → Type 0
 IsPageEnd m number options packets end = IsEndOf TellsPair (tt, tt) m number options packets end
 
 -- the part of a page for a flow, from its taker at the end of the capture

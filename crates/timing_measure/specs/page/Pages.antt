@@ -1,9 +1,9 @@
 -- The output and status of `page`, by the contents of its inputs: the report of a capture as one page (HTML Standard,
--- with SVG 2 inside). The SDP is read first, then the capture. Capture timestamps are nanoseconds of TAI, with `--tai`
--- added; media count from 0, and packet records from 1. This project's profile.
+-- with SVG 2 inside). The SDP is read first, then the capture. Capture timestamps are nanoseconds of TAI, after
+-- the shift (`--tai`, `--delay`); media count from 0, and packet records from 1. This project's profile.
 use Rattle.std.specs.Prelude.{◌≡◌, ◌&&◌, if◌then◌else◌, not, ℕ, Bool, List}
 use Rattle.std.specs.List.{list_any}
-use Rattle.timing_base.specs.Shifts.{FlowOptions}
+use Rattle.timing_base.specs.Shifts.{FlowOptions, Shift}
 use Rattle.timing_base.specs.Captures.{Record}
 use Rattle.timing_base.specs.Jobs.{CaptureJob}
 use Rattle.timing_base.specs.Media.{Media}
@@ -25,8 +25,9 @@ use Rattle.udp_rtp.specs.Flow.{flow}
 use Rattle.timing_measure.specs.page.Shown.{IsFlowPage}
 
 -- the part of a page for the flow of each media of a session, in a capture with these packet records
-abbrev pub ArePages : (options : FlowOptions) → List Media → List Record → List FlowPage → Type 0
-ArePages options media items pages = EachOf (λ number m page. IsFlowPage m number options (flow items m) page) 0 media pages
+abbrev pub ArePages : FlowOptions → List Media → List Record → List FlowPage → Type 0
+ArePages options media items pages =
+    EachOf (λ number m page. IsFlowPage m number options (flow items m) page) 0 media pages
 
 -- the flow has a judged run
 abbrev pub is_judged : FlowPage → Bool
@@ -39,9 +40,9 @@ page_status note pages =
 
 -- the answer for a capture with this name that ends in this way, with these flows of a session and this result of a
 -- scan
-abbrev pub paged : (name : List ℕ) → FileNote → (options : FlowOptions) → List Media → List FlowPage → Contents → Answer
-paged name note options media pages c = record {
-  text = page_of name note options media pages (contents_text name note c);
+abbrev pub paged : (name : List ℕ) → FileNote → Shift → List Media → List FlowPage → Contents → Answer
+paged name note shift media pages c = record {
+  text = page_of name note shift media pages (contents_text name note c);
   status = page_status note pages;
 }
 
@@ -50,7 +51,7 @@ pub record DefinesPage (job : CaptureJob) (media : List Media) (items : List Rec
     (answer : Answer) : Type 0 where
   pub pages : List FlowPage
   pub are : ArePages job.options media items pages
-  pub answer_is : answer ≡ paged job.capture note job.options media pages (contents items)
+  pub answer_is : answer ≡ paged job.capture note job.options.shift media pages (contents items)
 
 -- what `page` asks: the answer is over all media of the SDP
 abbrev pub page_query : CaptureJob → Query

@@ -14,8 +14,8 @@ use Rattle.timing_measure.specs.series.Stands.{StandsFor}
 use Rattle.timing_measure.specs.declared.series.flow.SeriesFlow.{SeriesFlow}
 
 -- what was written and this rest are the answer for the flow of this media, in these packet records
-pub record IsRestOf (frames : Bool) (m : Media) (options : FlowOptions) (note : FileNote) (items : List Record) (gone : List ℕ)
-    (rest : Answer) : Type 0 where
+pub record IsRestOf (frames : Bool) (m : Media) (options : FlowOptions) (note : FileNote) (items : List Record)
+    (gone : List ℕ) (rest : Answer) : Type 0 where
   pub rows : List ℕ
   pub are : AreRowsOfFlow frames m options (flow items m) rows
   pub whole : record { text = gone ++ rest.text; status = rest.status }

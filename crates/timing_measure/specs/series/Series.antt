@@ -28,10 +28,9 @@ series_of frames m note found (byte ∷ rows) = record {
   status = series_status note found;
 }
 
--- the answer of `series` for the flow of this media, in the packet records of a capture that ends in this way; `tai` is
--- in seconds
-pub record DefinesSeries (frames : Bool) (options : FlowOptions) (m : Media) (items : List Record) (note : FileNote) (answer : Answer)
-    : Type 0 where
+-- the answer of `series` for the flow of this media, in the packet records of a capture that ends in this way
+pub record DefinesSeries (frames : Bool) (options : FlowOptions) (m : Media) (items : List Record) (note : FileNote)
+    (answer : Answer) : Type 0 where
   pub rows : List ℕ
   pub are : AreRowsOfFlow frames m options (flow items m) rows
   pub answer_is : answer ≡ series_of frames m note (verdict_of m (judged (flow items m) m.pt options)) rows

@@ -35,8 +35,8 @@ Waits frames gone waiting =
     ⊎ ((waiting ≡ 0) × (length (header_text frames) < length gone))
 
 -- these packet records were taken for the flow of this media, and `gone` was written of its text
-pub record StandsFor (frames : Bool) (m : Media) (number : ℕ) (options : FlowOptions) (gone : List ℕ) (x : SeriesFlow) (items : List Record)
-    : Type 0 where
+pub record StandsFor (frames : Bool) (m : Media) (number : ℕ) (options : FlowOptions) (gone : List ℕ) (x : SeriesFlow)
+    (items : List Record) : Type 0 where
   pub media_is : x.flow.media ≡ m
   pub fed : IsFed true RowsStandsFor Tells (past_of frames gone) m (key_of 0 number) options x.flow.taker (flow items m)
   pub waits : Waits frames gone x.waiting

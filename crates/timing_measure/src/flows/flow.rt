@@ -10,7 +10,7 @@ use fail_interval::Metered;
 use flow_demux::FlowTaker;
 use run_meter::RunMeter;
 use std::alloc::{AllocError as OutOfMemory, Global};
-use timing_base::{FlowKey, FlowPacket, Media, Rtp, Verdict};
+use timing_base::{FlowKey, FlowOptions, FlowPacket, Media, Rtp, Verdict};
 
 /// The result of a flow that has ended.
 #[derive(Drop)]
@@ -40,11 +40,16 @@ impl<M: RunMeter<Out = O>, O: Drop> FlowMeter<M, O> {
     ghost use Rattle.timing_measure.specs.flows.Meters.{HasRoom, StandsFor};
     ghost use Rattle.timing_measure.specs.flows.Ends.{IsEndOf};
 
-    /// Returns the taker of the flow of a media before the first packet, with an empty output. `tai` seconds are added
-    /// to every capture timestamp.
-    pub fn new(alloc: Global, media: &Media, number: u32, options: FlowOptions, out: O) -> FlowMeter<M, O>
+    /// Returns the taker of the flow of a media before the first packet, with an empty output.
+    pub fn new(
+        alloc: Global,
+        media: &Media,
+        number: u32,
+        options: FlowOptions,
+        out: O,
+    ) -> FlowMeter<M, O>
         ensures room { HasRoom (2 ^ 41) result }
-        ensures stands { (past : M.Past) → M.tells past out media.now options [] None
+        ensures stands { (past : M.Past) → M.tells past out media.now options.shift [] None
             → StandsFor M.WANTS_LEVELS M.stands M.tells past media.now number options result [] }
     {
         let key = FlowKey {
@@ -59,8 +64,9 @@ impl<M: RunMeter<Out = O>, O: Drop> FlowMeter<M, O> {
 
     /// Returns the result of the flow if it ends here. Returns `Err` if memory runs out.
     pub fn finish(self) -> Result<FlowEnd<O>, OutOfMemory>
-        ensures { M.WANTS_LEVELS ≡ true → IfOk result (λ end. (past : M.Past) (m : MediaValue) (number : ℕ) (options : FlowOptionsValue)
-            (packets : List PacketValue) → StandsFor M.WANTS_LEVELS M.stands M.tells past m number options self packets
+        ensures { M.WANTS_LEVELS ≡ true → IfOk result (λ end. (past : M.Past) (m : MediaValue) (number : ℕ)
+            (options : FlowOptionsValue) (packets : List PacketValue)
+            → StandsFor M.WANTS_LEVELS M.stands M.tells past m number options self packets
             → IsEndOf M.tells past m number options packets end) }
     {
         let FlowMeter { metered, source } = self;

@@ -1,7 +1,7 @@
 //! Takes the flows of all media of a session from the packet records of a capture.
 
 ghost use Rattle.std.specs.Prelude.{◌≡◌, ◌≤◌, ◌^◌, [], ℕ, All, List, Option, None, Some, IfErr, IfOk, length, true};
-ghost use Rattle.timing_base.specs.Shifts.{FlowOptions as FlowOptionsValue};
+ghost use Rattle.timing_base.specs.Shifts.{Shift as ShiftValue};
 ghost use Rattle.timing_base.specs.Media.{Media as MediaValue};
 ghost use Rattle.timing_outside.specs.Causes.{Rose};
 ghost use Rattle.timing_outside.specs.Shelves.{StaysAs};
@@ -20,7 +20,7 @@ use flow_demux::{Demux, MediaFlow};
 use pcap_reader::{Taken, Taker};
 use run_meter::RunMeter;
 use std::alloc::{AllocError as OutOfMemory, Global};
-use timing_base::{CaptureJob, FileNote, Media};
+use timing_base::{CaptureJob, FileNote, FlowOptions, Media};
 use timing_outside::Shelf;
 use timing_report::Input;
 use timing_steps::{Failure, take_capture};
@@ -43,8 +43,8 @@ fn begin_flows<M: RunMeter<Out = O>, O: FlowOutput>(
     options: FlowOptions,
 ) -> Result<Vec<MediaFlow<FlowMeter<M, O>>>, OutOfMemory>
     requires few { length media.now ≤ 64 }
-    requires begins { (past : M.Past) (out : O) (m : MediaValue) (options : FlowOptionsValue) → O.empty out
-        → M.tells past out m options [] None }
+    requires begins { (past : M.Past) (out : O) (m : MediaValue) (shift : ShiftValue) → O.empty out
+        → M.tells past out m shift [] None }
     ensures stands { IfOk result (λ flows.
         AreMetered M.WANTS_LEVELS M.stands M.tells options media.now [] flows.items) }
     ensures room { IfOk result (λ flows. All (λ f. HasRoom (2 ^ 41) f.taker) flows.items) }
@@ -96,8 +96,8 @@ pub fn take_flows<
     beside: B,
 ) -> Result<TakenFlows<M, O, B>, Failure>
     requires few { length media.now ≤ 64 }
-    requires begins { (past : M.Past) (out : O) (m : MediaValue) (options : FlowOptionsValue) → O.empty out
-        → M.tells past out m options [] None }
+    requires begins { (past : M.Past) (out : O) (m : MediaValue) (shift : ShiftValue) → O.empty out
+        → M.tells past out m shift [] None }
     requires room { B.room 1 (2 ^ 36) beside }
     ensures told { IfOk result (λ taken. (text : List ℕ)
         → classic_texts (H.text shelf.old) job.now.capture ≡ Some text

@@ -52,7 +52,7 @@ pub fn paged(
 ) -> Result<Answer, OutOfMemory>
     requires { AreOfMedia session.now capture.now.flows.items }
     ensures answers { IfOk result (λ answer. answer
-        ≡ paged job.now.capture capture.now.note job.now.options session.now capture.now.flows.items
+        ≡ paged job.now.capture capture.now.note job.now.options.shift session.now capture.now.flows.items
         (contents_of capture.now.found)) }
     ensures ends { IfOk result (λ answer. judged_ends false answer.status ≡ true) }
 {
@@ -64,7 +64,7 @@ pub fn paged(
         alloc,
         name,
         note,
-        job.options as u32,
+        job.options.shift,
         session,
         pages,
         contents.as_str(),

@@ -2,7 +2,6 @@
 
 ghost use Rattle.std.specs.Prelude.{◌≡◌, ◌≤◌, ◌+◌, ◌^◌, ◌∷◌, [], ℕ, List, IfErr, IfOk, length};
 ghost use Rattle.std.specs.Io.KnownBytes.{Appends};
-ghost use Rattle.timing_base.specs.Shifts.{FlowOptions as FlowOptionsValue};
 ghost use Rattle.timing_base.specs.Captures.{IsStamp};
 ghost use Rattle.timing_outside.specs.Causes.{Rose};
 ghost use Rattle.timing_outside.specs.Written.{AppendsFront};
@@ -12,7 +11,7 @@ use fail_interval::Metered;
 use flow_demux::MediaFlow;
 use flow_measure::rows::{Rows, RowsMeter, header};
 use std::alloc::{AllocError as OutOfMemory, Global};
-use timing_base::{FileNote, FlowKey, Media, Verdict};
+use timing_base::{FileNote, FlowKey, FlowOptions, Media, Verdict};
 use timing_outside::{Sink, put_all};
 use timing_reach::judged::words::not_judged;
 use timing_report::{Status, any_refused};
@@ -48,7 +47,7 @@ impl SeriesFlow {
     ghost use Rattle.timing_measure.specs.series.Ends.{EndsSeries};
 
     /// Returns the flow before the first packet record of a capture. Rows are frames or fields if `frames` is true,
-    /// else packets; `tai` seconds are added to every capture timestamp. Returns `Err` if memory runs out.
+    /// else packets. Returns `Err` if memory runs out.
     pub fn new(
         alloc: Global,
         media: &Media,

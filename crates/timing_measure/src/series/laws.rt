@@ -1,9 +1,10 @@
 //! Laws of the definitions. Each function is a theorem: it does nothing, and its clauses are proved.
 
-ghost use Rattle.std.specs.Prelude.{◌≡◌, ◌≤◌, ◌<◌, ◌^◌, ◌∷◌, [], ℕ, All, List, Some, length, slice_get};
+ghost use Rattle.std.specs.Prelude.{◌≡◌, ◌<◌, ◌^◌, ◌∷◌, [], ℕ, All, List, Some, length, slice_get};
 ghost use Rattle.timing_base.specs.Captures.{IsStamp, Record};
 ghost use Rattle.timing_base.specs.Jobs.{SeriesJob};
 ghost use Rattle.timing_base.specs.Media.{IsMedia, Media};
+ghost use Rattle.timing_base.specs.Shifts.{AreFlowOptions};
 ghost use Rattle.timing_base.specs.declared.capture.FileNote.{FileNote};
 ghost use Rattle.pcap_reader.specs.Records.{Records};
 ghost use Rattle.timing_steps.specs.Answers.{Answer};
@@ -15,7 +16,7 @@ ghost use Rattle.timing_measure.specs.series.Series.{series_query};
 pub fn some_series_answer()
     ensures { (job : SeriesJob) (media : List Media) (m : Media) (text : List ℕ) (items : List Record)
         (note : FileNote)
-        → slice_get media job.flow.media ≡ Some m → IsMedia m → job.flow.options ≤ 1000
+        → slice_get media job.flow.media ≡ Some m → IsMedia m → AreFlowOptions job.flow.options
         → Records text (2 ^ 40) items note → length items < 2 ^ 41 → All (λ r. IsStamp r.stamp) items
         → (answer : Answer) × HasAnswer (series_query job) media (text ∷ []) answer }
 {}

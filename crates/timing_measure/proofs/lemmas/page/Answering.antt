@@ -39,7 +39,7 @@ of-media options media r h =
 
 -- the answer on what was read
 pub has-page : (job : CaptureJob) (media : List Media) (text : List ℕ) (r : PageCapture) (answer : Answer) → IsPageIn job.options media text r
-    → answer ≡ paged job.capture r.note job.options media r.flows.items (contents_of r.found) → HasAnswer (page_query job) media (text ∷ []) answer
+    → answer ≡ paged job.capture r.note job.options.shift media r.flows.items (contents_of r.found) → HasAnswer (page_query job) media (text ∷ []) answer
 has-page job media text r answer h e = record {
   files = h.items ∷ [];
   notes = r.note ∷ [];
@@ -47,6 +47,6 @@ has-page job media text r answer h e = record {
   defined = record {
     pages = r.flows.items;
     are = h.are;
-    answer_is = e ∙ ap (paged job.capture r.note job.options media r.flows.items) (found-contents h.items r.found h.found_is);
+    answer_is = e ∙ ap (paged job.capture r.note job.options.shift media r.flows.items) (found-contents h.items r.found h.found_is);
   };
 }

@@ -5,10 +5,11 @@ use Rattle.std.specs.Prelude.{All, slice_index}
 use Rattle.std.proofs.Math.Nat.{mul-le-mul_right}
 use Rattle.std.proofs.lemmas.Bool.{cases_lt}
 use Rattle.std.proofs.lemmas.List.Elements.{All-append, All-cons, All-nil, All-weaker}
-use Rattle.timing_base.specs.Shifts.{FlowOptions}
+use Rattle.timing_base.specs.Shifts.{FlowOptions, Shift}
 use Rattle.timing_base.specs.Captures.{IsStamp, Record}
 use Rattle.timing_base.specs.Jobs.{CaptureJob, IsCaptureJob}
 use Rattle.timing_base.specs.Media.{IsMedia, Media}
+use Rattle.timing_base.specs.Numbered.{numbered}
 use Rattle.timing_base.specs.declared.capture.FileNote.{FileNote}
 use Rattle.timing_base.specs.declared.fail.Broken.{Broken}
 use Rattle.timing_base.specs.declared.fail.Broken.TheVariants.{Bucket, Empty, Over}
@@ -148,10 +149,10 @@ either m n groups stamps records timestamps named x h true = (h.gapped_at, h.gap
 either m n groups stamps records timestamps named x h false = (h.linear_at, h.linear.are)
 
 -- what is shown of a run
-some-shown : (m : Media) (options : FlowOptions) (part : JudgedPart) (run : MeasuredRun) → IsMeasuredRun (HasNumbers m options) part run
-    → (s : ShownRun) × IsShownRun m options part s
-some-shown m options part run h =
-    let stamps = stamps_of options part.packets in
+some-shown : (m : Media) (shift : Shift) (part : JudgedPart) (run : MeasuredRun) → IsMeasuredRun (HasNumbers m shift) part run
+    → (s : ShownRun) × IsShownRun m shift part s
+some-shown m shift part run h =
+    let stamps = stamps_of shift part.packets in
     let curves = some-curves m part.values.n part.values.frames stamps _ (timestamps_of part.packets) _ run.numbers h.numbers in
     let regions = some-regions m part.values.n stamps 0 part.values.kinds (either m part.values.n part.values.frames stamps _ _ _ run.numbers h.numbers) in (
       record {
@@ -218,13 +219,13 @@ run-of N [] after part (r ∷ runs) h = (r, h.0)
 run-of N (p ∷ before) after part [] h = absurd h
 run-of N (p ∷ before) after part (r ∷ runs) h = run-of N before after part runs h.1
 
-some-shows : (m : Media) (options : FlowOptions) (parts : List JudgedPart) (runs : List MeasuredRun) → AreMeasured (HasNumbers m options) parts runs
-    → (s : Option ShownRun) × Shows m options parts s
-some-shows m options [] runs h = (None, refl)
-some-shows m options (p ∷ parts) runs h =
+some-shows : (m : Media) (shift : Shift) (parts : List JudgedPart) (runs : List MeasuredRun) → AreMeasured (HasNumbers m shift) parts runs
+    → (s : Option ShownRun) × Shows m shift parts s
+some-shows m shift [] runs h = (None, refl)
+some-shows m shift (p ∷ parts) runs h =
     let one = some-longest p parts in
-    let run = run-of (HasNumbers m options) one.1.before one.1.after one.0 runs (subst (λ l. AreMeasured (HasNumbers m options) l runs) one.1.whole h) in
-    let s = some-shown m options one.0 run.0 run.1 in
+    let run = run-of (HasNumbers m shift) one.1.before one.1.after one.0 runs (subst (λ l. AreMeasured (HasNumbers m shift) l runs) one.1.whole h) in
+    let s = some-shown m shift one.0 run.0 run.1 in
     (Some s.0, (one.0, one.1, s.1))
 
 -- what a page has of the flows
@@ -235,7 +236,7 @@ some-pages options items number [] [] h = ([], tt)
 some-pages options items number [] (f ∷ flows) h = absurd h
 some-pages options items number (m ∷ media) [] h = absurd h
 some-pages options items number (m ∷ media) (f ∷ flows) h =
-    let s = some-shows m options (judged_parts m (flow items m) options) f.runs (h.0).runs in
+    let s = some-shows m options.shift (judged_parts m (numbered options.seq16 (flow items m)) options.shift) f.runs (h.0).runs in
     let later = some-pages options items (number + 1) media flows h.1 in
     (record { flow = f; shown = s.0 } ∷ later.0, (record { flow_is = h.0; shows = s.1 }, later.1))
 
@@ -245,7 +246,7 @@ page-defined : (job : CaptureJob) (media : List Media) (items : List Record) (no
 page-defined job media items note is all held =
     let measure = (measure-defined job media items note is all held).1 in
     let pages = some-pages job.options items 0 media measure.flows measure.are in
-    (paged job.capture note job.options media pages.0 (contents items), record { pages = pages.0; are = pages.1; answer_is = refl })
+    (paged job.capture note job.options.shift media pages.0 (contents items), record { pages = pages.0; are = pages.1; answer_is = refl })
 
 pub some-page : (job : CaptureJob) (texts : List (List ℕ)) → IsCaptureJob job → HaveStamps texts → DefinesSome (page_query job) texts
 some-page job texts is held media files notes are unsettled records =

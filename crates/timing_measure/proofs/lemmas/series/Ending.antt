@@ -1,12 +1,13 @@
 -- A flow whose rows were written is over: what is left of its answer.
 use Rattle.std.proofs.Common.{◌≡◌, ◌≤◌, ◌<◌, ◌+◌, ◌∙◌, ◌++◌, ◌∷◌, ℕ, Bool, true, false, List, [], length, Option, Some, None, inl, inr, refl, ap, sym, subst}
 use Rattle.std.proofs.Common.{arith, length-append}
-use Rattle.timing_base.specs.Shifts.{FlowOptions}
+use Rattle.timing_base.specs.Shifts.{FlowOptions, Shift}
 use Rattle.timing_base.specs.Captures.{Record}
 use Rattle.timing_base.specs.Flows.{FirstFault, first_fault}
 use Rattle.timing_base.specs.Judged.{judged}
 use Rattle.timing_base.specs.Keys.{key_of}
 use Rattle.timing_base.specs.Media.{Media}
+use Rattle.timing_base.specs.Numbered.{numbered}
 use Rattle.timing_base.specs.declared.capture.FileNote.{FileNote}
 use Rattle.timing_base.specs.declared.key.FlowKey.{FlowKey}
 use Rattle.timing_base.specs.declared.packet.FlowPacket.{FlowPacket}
@@ -24,28 +25,28 @@ use Rattle.flow_measure.specs.declared.rows.rows.Rows.{Rows}
 use Rattle.timing_reach.specs.Asked.{not_judged}
 use Rattle.timing_steps.specs.Answers.{Answer}
 use Rattle.timing_measure.specs.series.Ends.{EndsSeries, IsRestOf}
-use Rattle.timing_measure.specs.series.Rows.{AreRowsOfFlow, AreRowsUpTo}
+use Rattle.timing_measure.specs.series.Rows.{AreRowsAsNumbered, AreRowsOfFlow, AreRowsUpTo}
 use Rattle.timing_measure.specs.series.Series.{series_of}
 use Rattle.timing_measure.specs.series.Stands.{StandsFor, Waits, past_of}
 use Rattle.timing_measure.specs.series.Status.{series_status}
 use Rattle.timing_measure.specs.declared.series.flow.SeriesFlow.{SeriesFlow}
 
 -- these rows were put behind the header, and so much was written
-record HasPut (frames : Bool) (m : Media) (options : FlowOptions) (packets : List FlowPacket) (gone text : List ℕ) : Type 0 where
+record HasPut (frames : Bool) (m : Media) (shift : Shift) (packets : List FlowPacket) (gone text : List ℕ) : Type 0 where
   pub put : List ℕ
-  pub are : AreRowsOfFlow frames m options packets put
+  pub are : AreRowsAsNumbered frames m shift packets put
   pub text_is : gone ++ text ≡ header_text frames ++ put
 
-put-up-to : (frames : Bool) (m : Media) (options : FlowOptions) (packets : List FlowPacket) (gone : List ℕ) (rows : Rows) (o : Option FirstFault)
-    → TellsEnd Tells (past_of frames gone) m options packets o rows
-    → (put : List ℕ) × AreRowsUpTo frames m options packets o put × (gone ++ rows.text.items ≡ header_text frames ++ put)
-put-up-to frames m options packets gone rows None h = (h.put, subst (λ f. AreRowsUpTo f m options packets None h.put) h.frames_is h.are, h.text_is)
-put-up-to frames m options packets gone rows (Some first) h = (h.put, subst (λ f. AreRowsUpTo f m options packets (Some first) h.put) h.frames_is h.are, h.text_is)
+put-up-to : (frames : Bool) (m : Media) (shift : Shift) (packets : List FlowPacket) (gone : List ℕ) (rows : Rows) (o : Option FirstFault)
+    → TellsEnd Tells (past_of frames gone) m shift packets o rows
+    → (put : List ℕ) × AreRowsUpTo frames m shift packets o put × (gone ++ rows.text.items ≡ header_text frames ++ put)
+put-up-to frames m shift packets gone rows None h = (h.put, subst (λ f. AreRowsUpTo f m shift packets None h.put) h.frames_is h.are, h.text_is)
+put-up-to frames m shift packets gone rows (Some first) h = (h.put, subst (λ f. AreRowsUpTo f m shift packets (Some first) h.put) h.frames_is h.are, h.text_is)
 
-has-put : (frames : Bool) (m : Media) (options : FlowOptions) (packets : List FlowPacket) (gone : List ℕ) (rows : Rows)
-    → TellsEnd Tells (past_of frames gone) m options packets (first_fault packets m.pt) rows → HasPut frames m options packets gone rows.text.items
-has-put frames m options packets gone rows h =
-    let p = put-up-to frames m options packets gone rows (first_fault packets m.pt) h in
+has-put : (frames : Bool) (m : Media) (shift : Shift) (packets : List FlowPacket) (gone : List ℕ) (rows : Rows)
+    → TellsEnd Tells (past_of frames gone) m shift packets (first_fault packets m.pt) rows → HasPut frames m shift packets gone rows.text.items
+has-put frames m shift packets gone rows h =
+    let p = put-up-to frames m shift packets gone rows (first_fault packets m.pt) h in
     record { put = p.0; are = p.1; text_is = p.2 }
 
 no-bytes : (xs : List ℕ) → length xs ≡ 0 → xs ≡ []
@@ -54,7 +55,7 @@ no-bytes (x ∷ xs) e = absurd (omega (arith, e))
 
 -- the header still waits, and there is no row
 rest-none : (frames : Bool) (m : Media) (options : FlowOptions) (note : FileNote) (items : List Record) (gone text : List ℕ) (waiting : ℕ) (rest : Answer)
-    → Waits frames gone waiting → 0 < waiting → length text ≤ waiting → HasPut frames m options (flow items m) gone text
+    → Waits frames gone waiting → 0 < waiting → length text ≤ waiting → HasPut frames m options.shift (numbered options.seq16 (flow items m)) gone text
     → rest ≡ not_judged m (verdict_of m (judged (flow items m) m.pt options))
     → IsRestOf frames m options note items gone rest
 rest-none frames m options note items gone text waiting rest (inr w) some few h is = absurd (omega (arith, some, w.0))
@@ -81,7 +82,8 @@ some-put header put gone text e more =
     omega (arith, more, sym (length-append gone text) ∙ ap length e ∙ length-append header put)
 
 rest-rows : (frames : Bool) (m : Media) (options : FlowOptions) (note : FileNote) (items : List Record) (gone : List ℕ) (waiting : ℕ) (rest : Answer)
-    → Waits frames gone waiting → (0 < waiting → waiting < length rest.text) → HasPut frames m options (flow items m) gone rest.text
+    → Waits frames gone waiting → (0 < waiting → waiting < length rest.text)
+    → HasPut frames m options.shift (numbered options.seq16 (flow items m)) gone rest.text
     → 0 < length (header_text frames)
     → rest.status ≡ series_status note (verdict_of m (judged (flow items m) m.pt options))
     → IsRestOf frames m options note items gone rest
@@ -112,15 +114,18 @@ pub record Finishes (x : SeriesFlow) (told : Row × Rows) : Type 0 where
   pub tells : (past : PastRows) (m : Media) (key : FlowKey) (options : FlowOptions) (packets : List FlowPacket)
       → IsFed true RowsStandsFor Tells past m key options x.flow.taker packets → TellsOfAll Tells past m options packets told.1
 
-verdict-is : (x : SeriesFlow) (told : Row × Rows) (frames : Bool) (m : Media) (number : ℕ) (options : FlowOptions) (gone : List ℕ) (items : List Record) → Finishes x told
+verdict-is : (x : SeriesFlow) (told : Row × Rows) (frames : Bool) (m : Media) (number : ℕ) (options : FlowOptions) (gone : List ℕ) (items : List Record)
+    → Finishes x told
     → StandsFor frames m number options gone x items → told.0.verdict ≡ verdict_of m (judged (flow items m) m.pt options)
 verdict-is x told frames m number options gone items f h =
     ap (λ (r : Row). r.verdict) (f.result m (key_of 0 number) options (flow items m) h.fed.judge_is)
 
-rows-put : (x : SeriesFlow) (told : Row × Rows) (frames : Bool) (m : Media) (number : ℕ) (options : FlowOptions) (gone : List ℕ) (items : List Record) → Finishes x told
-    → StandsFor frames m number options gone x items → HasPut frames m options (flow items m) gone told.1.text.items
+rows-put : (x : SeriesFlow) (told : Row × Rows) (frames : Bool) (m : Media) (number : ℕ) (options : FlowOptions) (gone : List ℕ) (items : List Record)
+    → Finishes x told
+    → StandsFor frames m number options gone x items → HasPut frames m options.shift (numbered options.seq16 (flow items m)) gone told.1.text.items
 rows-put x told frames m number options gone items f h =
-    has-put frames m options (flow items m) gone told.1 (f.tells (past_of frames gone) m (key_of 0 number) options (flow items m) h.fed)
+    has-put frames m options.shift (numbered options.seq16 (flow items m)) gone told.1
+    (f.tells (past_of frames gone) m (key_of 0 number) options (flow items m) h.fed)
 
 -- there is no row: the verdict is the answer
 pub ends-none : (note : FileNote) (x : SeriesFlow) (told : Row × Rows) (rest : Answer) → Finishes x told → 0 < x.waiting
@@ -137,5 +142,6 @@ pub ends-rows : (note : FileNote) (x : SeriesFlow) (told : Row × Rows) (rest : 
 ends-rows note x told rest f some text ends frames m number options gone items h =
     rest-rows frames m options note items gone x.waiting rest h.waits
     (λ waits. subst (λ l. x.waiting < length l) (sym text) (some waits))
-    (subst (HasPut frames m options (flow items m) gone) (sym text) (rows-put x told frames m number options gone items f h)) (header-some frames)
+    (subst (HasPut frames m options.shift (numbered options.seq16 (flow items m)) gone) (sym text)
+    (rows-put x told frames m number options gone items f h)) (header-some frames)
     (ends ∙ ap (series_status note) (verdict-is x told frames m number options gone items f h))

@@ -1,7 +1,7 @@
 -- Each judged packet, and each complete frame or field, has a row.
 use Rattle.std.specs.Prelude.{◌≤ℤ◌, slice_index}
 use Rattle.std.proofs.Common.{◌≡◌, ◌<◌, ◌≤◌, ◌-◌, ◌+◌, ◌*◌, ◌/◌, ◌%◌, ◌++◌, ◌∷◌, ℕ, ℤ, pos, Bool, true, false, List, [], length, refl, sym, subst, arith}
-use Rattle.timing_base.specs.Shifts.{FlowOptions}
+use Rattle.timing_base.specs.Shifts.{Shift}
 use Rattle.timing_base.specs.Judged.{stamp_of}
 use Rattle.timing_base.specs.Media.{IsMedia, Media}
 use Rattle.timing_base.specs.declared.packet.FlowPacket.{FlowPacket}
@@ -20,17 +20,17 @@ use Rattle.flow_measure.specs.declared.report.rows.PacketRow.{PacketRow}
 use Rattle.flow_measure.specs.rows.Rows.{Adds, AddsGroup, AreRows, IsHeld, IsOfGroup, IsPacketRow, IsRowOf, ends_group, step_before}
 
 -- a packet has a row
-some-packet : (m : Media) (options : FlowOptions) (number n : ℕ) (before : List FlowPacket) (p : FlowPacket) → IsMedia m → 1 ≤ n
-    → (r : PacketRow) × IsPacketRow m options number n before p r
-some-packet m options number n before p is some =
-    let stamps = stamps_of options (before ++ p ∷ []) in
+some-packet : (m : Media) (shift : Shift) (number n : ℕ) (before : List FlowPacket) (p : FlowPacket) → IsMedia m → 1 ≤ n
+    → (r : PacketRow) × IsPacketRow m shift number n before p r
+some-packet m shift number n before p is some =
+    let stamps = stamps_of shift (before ++ p ∷ []) in
     let gapped = occupancy-some m n stamps true (length before) is some in
     let linear = occupancy-some m n stamps false (length before) is some in (
       record {
         run = number;
         packet = length before;
         rec = p.rec;
-        stamp = stamp_of options p;
+        stamp = stamp_of shift p;
         group = length before / n;
         place = length before % n;
         bucket = bucket_of m n stamps (length before);
@@ -138,25 +138,25 @@ some-group m number n k stamps records timestamp is some =
     )
 
 -- something is printed at each packet, be it nothing
-group-adds : (m : Media) (options : FlowOptions) (number n : ℕ) (packets : List FlowPacket) (ends : Bool) → IsMedia m → 1 ≤ n
-    → (here : List ℕ) × AddsGroup m options number n packets ends here
-group-adds m options number n packets false is some = ([], refl)
-group-adds m options number n packets true is some =
+group-adds : (m : Media) (shift : Shift) (number n : ℕ) (packets : List FlowPacket) (ends : Bool) → IsMedia m → 1 ≤ n
+    → (here : List ℕ) × AddsGroup m shift number n packets ends here
+group-adds m shift number n packets false is some = ([], refl)
+group-adds m shift number n packets true is some =
     let r = some-group m number n _ _ _ _ is some in
     (group_row_text r.0, (r.0, r.1, refl))
 
-some-adds : (frames : Bool) (m : Media) (options : FlowOptions) (number n : ℕ) (before : List FlowPacket) (p : FlowPacket) → IsMedia m → 1 ≤ n
-    → (here : List ℕ) × Adds frames m options number n before p here
-some-adds false m options number n before p is some =
-    let r = some-packet m options number n before p is some in
+some-adds : (frames : Bool) (m : Media) (shift : Shift) (number n : ℕ) (before : List FlowPacket) (p : FlowPacket) → IsMedia m → 1 ≤ n
+    → (here : List ℕ) × Adds frames m shift number n before p here
+some-adds false m shift number n before p is some =
+    let r = some-packet m shift number n before p is some in
     (packet_row_text r.0, (r.0, r.1, refl))
-some-adds true m options number n before p is some = group-adds m options number n (before ++ p ∷ []) (ends_group n (length before)) is some
+some-adds true m shift number n before p is some = group-adds m shift number n (before ++ p ∷ []) (ends_group n (length before)) is some
 
 -- packets have rows
-pub some-rows : (frames : Bool) (m : Media) (options : FlowOptions) (number n : ℕ) (before packets : List FlowPacket) → IsMedia m → 1 ≤ n
-    → (text : List ℕ) × AreRows frames m options number n before packets text
-some-rows frames m options number n before [] is some = ([], refl)
-some-rows frames m options number n before (p ∷ packets) is some =
-    let here = some-adds frames m options number n before p is some in
-    let rest = some-rows frames m options number n (before ++ p ∷ []) packets is some in
+pub some-rows : (frames : Bool) (m : Media) (shift : Shift) (number n : ℕ) (before packets : List FlowPacket) → IsMedia m → 1 ≤ n
+    → (text : List ℕ) × AreRows frames m shift number n before packets text
+some-rows frames m shift number n before [] is some = ([], refl)
+some-rows frames m shift number n before (p ∷ packets) is some =
+    let here = some-adds frames m shift number n before p is some in
+    let rest = some-rows frames m shift number n (before ++ p ∷ []) packets is some in
     (here.0 ++ rest.0, (here.0, rest.0, refl, here.1, rest.1))

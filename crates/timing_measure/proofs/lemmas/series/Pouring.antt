@@ -3,7 +3,7 @@ use Rattle.std.proofs.Common.{◌≡◌, ◌≤◌, ◌<◌, ◌∙◌, ◌++◌
 use Rattle.std.proofs.Common.{length-append}
 use Rattle.std.specs.Prelude.{IfOk, Result, Ok, Err}
 use Rattle.std.proofs.lemmas.List.Elements.{filter_map-append}
-use Rattle.timing_base.specs.Shifts.{FlowOptions}
+use Rattle.timing_base.specs.Shifts.{Shift}
 use Rattle.timing_base.specs.Captures.{Record}
 use Rattle.timing_base.specs.Keys.{key_of}
 use Rattle.timing_base.specs.Media.{Media}
@@ -40,13 +40,13 @@ series-took old new more same t frames m number options gone items h =
     }
 
 -- what stood in a text was taken out
-tells-out : (frames : Bool) (gone : List ℕ) (old new : Rows) (m : Media) (options : FlowOptions) (over : List JudgedPart) (part : Option OpenPart)
-    → new.frames ≡ old.frames → new.text.items ≡ [] → Tells (past_of frames gone) old m options over part
-    → Tells (past_of frames (gone ++ old.text.items)) new m options over part
-tells-out frames gone old new m options over part same none t = record {
+tells-out : (frames : Bool) (gone : List ℕ) (old new : Rows) (m : Media) (shift : Shift) (over : List JudgedPart) (part : Option OpenPart)
+    → new.frames ≡ old.frames → new.text.items ≡ [] → Tells (past_of frames gone) old m shift over part
+    → Tells (past_of frames (gone ++ old.text.items)) new m shift over part
+tells-out frames gone old new m shift over part same none t = record {
   frames_is = same ∙ t.frames_is;
   put = t.put;
-  are = subst (λ f. AreRowsSoFar f m options over part t.put) (sym same) t.are;
+  are = subst (λ f. AreRowsSoFar f m shift over part t.put) (sym same) t.are;
   text_is = ap (λ l. (gone ++ old.text.items) ++ l) none ∙ append-nil (gone ++ old.text.items) ∙ t.text_is;
 }
 
@@ -68,7 +68,7 @@ poured-out old new some media judge same none waits frames m number options gone
         JudgeTells RowsStandsFor Tells (past_of frames (gone ++ text_of old)) m options (flow items m) j new.flow.taker.out) (sym judge)
         (carried-tells RowsStandsFor Tells (past_of frames gone) (past_of frames (gone ++ text_of old)) m options old.flow.taker.judge (flow items m)
         old.flow.taker.out new.flow.taker.out
-        (λ over part t. tells-out frames gone old.flow.taker.out new.flow.taker.out m options over part same none t) (h.fed.told wants));
+        (λ over part t. tells-out frames gone old.flow.taker.out new.flow.taker.out m options.shift over part same none t) (h.fed.told wants));
   };
   waits = subst (Waits frames (gone ++ text_of old)) (sym waits) (waits-out frames gone (text_of old) old.waiting some h.waits);
 }

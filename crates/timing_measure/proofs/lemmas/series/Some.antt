@@ -3,7 +3,7 @@ use Rattle.std.specs.Prelude.{◌≡◌, All, slice_get}
 use Rattle.std.proofs.Common.{◌<◌, ◌≤◌, ◌^◌, ℕ, Bool, List, [], ◌∷◌, Option, Some, None, length, refl, subst}
 use Rattle.std.proofs.lemmas.List.Elements.{All-get_or}
 use Rattle.std.proofs.lemmas.Option.{get_or_from_slice_get, slice_get_within}
-use Rattle.timing_base.specs.Shifts.{FlowOptions}
+use Rattle.timing_base.specs.Shifts.{AreFlowOptions, FlowOptions}
 use Rattle.timing_base.specs.Captures.{IsStamp, Record}
 use Rattle.timing_base.specs.Jobs.{SeriesJob}
 use Rattle.timing_base.specs.Judged.{judged}
@@ -43,8 +43,8 @@ some-series job texts media files notes are unsettled records = of-media (slice_
 
 -- over a capture with these contents
 pub some-series-answer : (job : SeriesJob) (media : List Media) (m : Media) (text : List ℕ) (items : List Record) (note : FileNote)
-    → slice_get media job.flow.media ≡ Some m → IsMedia m → job.flow.options ≤ 1000 → Records text (2 ^ 40) items note → length items < 2 ^ 41
+    → slice_get media job.flow.media ≡ Some m → IsMedia m → AreFlowOptions job.flow.options → Records text (2 ^ 40) items note → length items < 2 ^ 41
     → All (λ (r : Record). IsStamp r.stamp) items → (answer : Answer) × HasAnswer (series_query job) media (text ∷ []) answer
-some-series-answer job media m text items note found is seconds records few stamps =
+some-series-answer job media m text items note found is limits records few stamps =
     let made = series-defined job.frames job.flow.options m items note is in
     (made.0, has-series job media m text items note made.0 found records made.1)

@@ -8,11 +8,12 @@ use Rattle.std.proofs.lemmas.Bool.{eqb-true}
 use Rattle.std.proofs.lemmas.Int.{ints}
 use Rattle.std.proofs.lemmas.List.{length-map}
 use Rattle.std.proofs.lemmas.Nat.{div-add-mod'}
-use Rattle.timing_base.specs.Shifts.{FlowOptions}
+use Rattle.timing_base.specs.Shifts.{Shift}
 use Rattle.timing_base.specs.Flows.{FirstFault, first_fault}
 use Rattle.timing_base.specs.Judged.{judged, stamp_of}
 use Rattle.timing_base.specs.Jobs.{SeriesJob}
 use Rattle.timing_base.specs.Media.{Media}
+use Rattle.timing_base.specs.Numbered.{numbered}
 use Rattle.timing_base.specs.declared.packet.FlowPacket.{FlowPacket}
 use Rattle.fail_interval.specs.Row.{verdict_of}
 use Rattle.flow_measure.specs.Occupancy.{buckets_of}
@@ -35,10 +36,10 @@ use Rattle.timing_measure.specs.series.Rows.{AreRowsUpTo}
 use Rattle.timing_measure.specs.series.Series.{DefinesSeries, series_of, series_query}
 
 -- a packet has one row
-packet-once : (m : Media) (options : FlowOptions) (number n : ℕ) (before : List FlowPacket) (p : FlowPacket) (r s : PacketRow) → IsPacketRow m options number n before p r
-    → IsPacketRow m options number n before p s → r ≡ s
-packet-once m options number n before p r s h k =
-    let stamps = stamps_of options (before ++ p ∷ []) in
+packet-once : (m : Media) (shift : Shift) (number n : ℕ) (before : List FlowPacket) (p : FlowPacket) (r s : PacketRow) → IsPacketRow m shift number n before p r
+    → IsPacketRow m shift number n before p s → r ≡ s
+packet-once m shift number n before p r s h k =
+    let stamps = stamps_of shift (before ++ p ∷ []) in
     let run = h.run ∙ sym k.run in
     let packet = h.packet ∙ sym k.packet in
     let rec = h.rec ∙ sym k.rec in
@@ -121,57 +122,58 @@ last-group (suc j) n count e some =
     let whole : j * n + n ≡ count = sym (suc-mul j n) ∙ e in
     subst (λ k. k * n + n ≤ count) (sym one) (omega (arith, whole))
 
-group-within : (options : FlowOptions) (n : ℕ) (before : List FlowPacket) (p : FlowPacket) → ends_group n (length before) ≡ true
-    → (length (before ++ p ∷ []) / n - 1) * n + n ≤ length (stamps_of options (before ++ p ∷ []))
-group-within options n before p ends =
+group-within : (shift : Shift) (n : ℕ) (before : List FlowPacket) (p : FlowPacket) → ends_group n (length before) ≡ true
+    → (length (before ++ p ∷ []) / n - 1) * n + n ≤ length (stamps_of shift (before ++ p ∷ []))
+group-within shift n before p ends =
     let packets = before ++ p ∷ [] in
     let long : length packets ≡ length before + 1 = length-append before (p ∷ []) in
-    let stamps : length (stamps_of options packets) ≡ length packets = length-map packets (stamp_of options) in
+    let stamps : length (stamps_of shift packets) ≡ length packets = length-map packets (stamp_of shift) in
     let none : length packets % n ≡ 0 = ap (λ k. k % n) long ∙ eqb-true ((length before + 1) % n) 0 ends in
     let whole : length packets / n * n ≡ length packets = omega (arith, div-add-mod' (length packets) n, none) in
     let fits = last-group (length packets / n) n (length packets) whole (omega (arith, long)) in
     omega (arith, fits, stamps)
 
 -- what is printed at a packet is one text
-group-adds : (m : Media) (options : FlowOptions) (number n : ℕ) (before : List FlowPacket) (p : FlowPacket) (ends : Bool) (a b : List ℕ) → ends_group n (length before) ≡ ends
-    → AddsGroup m options number n (before ++ p ∷ []) ends a → AddsGroup m options number n (before ++ p ∷ []) ends b → a ≡ b
-group-adds m options number n before p false a b is h k = h ∙ sym k
-group-adds m options number n before p true a b is h k =
-    h.2 ∙ ap group_row_text (row-once m number n _ _ _ _ h.0 k.0 (group-within options n before p is) h.1 k.1) ∙ sym k.2
+group-adds : (m : Media) (shift : Shift) (number n : ℕ) (before : List FlowPacket) (p : FlowPacket) (ends : Bool) (a b : List ℕ)
+    → ends_group n (length before) ≡ ends
+    → AddsGroup m shift number n (before ++ p ∷ []) ends a → AddsGroup m shift number n (before ++ p ∷ []) ends b → a ≡ b
+group-adds m shift number n before p false a b is h k = h ∙ sym k
+group-adds m shift number n before p true a b is h k =
+    h.2 ∙ ap group_row_text (row-once m number n _ _ _ _ h.0 k.0 (group-within shift n before p is) h.1 k.1) ∙ sym k.2
 
-adds-once : (frames : Bool) (m : Media) (options : FlowOptions) (number n : ℕ) (before : List FlowPacket) (p : FlowPacket) (a b : List ℕ)
-    → Adds frames m options number n before p a → Adds frames m options number n before p b → a ≡ b
-adds-once false m options number n before p a b h k = h.2 ∙ ap packet_row_text (packet-once m options number n before p h.0 k.0 h.1 k.1) ∙ sym k.2
-adds-once true m options number n before p a b h k = group-adds m options number n before p (ends_group n (length before)) a b refl h k
+adds-once : (frames : Bool) (m : Media) (shift : Shift) (number n : ℕ) (before : List FlowPacket) (p : FlowPacket) (a b : List ℕ)
+    → Adds frames m shift number n before p a → Adds frames m shift number n before p b → a ≡ b
+adds-once false m shift number n before p a b h k = h.2 ∙ ap packet_row_text (packet-once m shift number n before p h.0 k.0 h.1 k.1) ∙ sym k.2
+adds-once true m shift number n before p a b h k = group-adds m shift number n before p (ends_group n (length before)) a b refl h k
 
 -- so are the rows of a run, and of runs
-rows-once : (frames : Bool) (m : Media) (options : FlowOptions) (number n : ℕ) (before packets : List FlowPacket) (a b : List ℕ)
-    → AreRows frames m options number n before packets a → AreRows frames m options number n before packets b → a ≡ b
-rows-once frames m options number n before [] a b h k = h ∙ sym k
-rows-once frames m options number n before (p ∷ packets) a b h k =
-    h.2 ∙ ap₂ (λ x y. x ++ y) (adds-once frames m options number n before p h.0 k.0 h.3 k.3)
-    (rows-once frames m options number n (before ++ p ∷ []) packets h.1 k.1 h.4 k.4) ∙ sym k.2
+rows-once : (frames : Bool) (m : Media) (shift : Shift) (number n : ℕ) (before packets : List FlowPacket) (a b : List ℕ)
+    → AreRows frames m shift number n before packets a → AreRows frames m shift number n before packets b → a ≡ b
+rows-once frames m shift number n before [] a b h k = h ∙ sym k
+rows-once frames m shift number n before (p ∷ packets) a b h k =
+    h.2 ∙ ap₂ (λ x y. x ++ y) (adds-once frames m shift number n before p h.0 k.0 h.3 k.3)
+    (rows-once frames m shift number n (before ++ p ∷ []) packets h.1 k.1 h.4 k.4) ∙ sym k.2
 
-parts-once : (frames : Bool) (m : Media) (options : FlowOptions) (parts : List JudgedPart) (a b : List ℕ) → AreRowsOf frames m options parts a
-    → AreRowsOf frames m options parts b → a ≡ b
-parts-once frames m options [] a b h k = h ∙ sym k
-parts-once frames m options (part ∷ parts) a b h k =
-    h.2 ∙ ap₂ (λ x y. x ++ y) (rows-once frames m options part.number part.values.n [] part.packets h.0 k.0 h.3 k.3)
-    (parts-once frames m options parts h.1 k.1 h.4 k.4) ∙ sym k.2
+parts-once : (frames : Bool) (m : Media) (shift : Shift) (parts : List JudgedPart) (a b : List ℕ) → AreRowsOf frames m shift parts a
+    → AreRowsOf frames m shift parts b → a ≡ b
+parts-once frames m shift [] a b h k = h ∙ sym k
+parts-once frames m shift (part ∷ parts) a b h k =
+    h.2 ∙ ap₂ (λ x y. x ++ y) (rows-once frames m shift part.number part.values.n [] part.packets h.0 k.0 h.3 k.3)
+    (parts-once frames m shift parts h.1 k.1 h.4 k.4) ∙ sym k.2
 
 -- and the rows of a flow, with those of the run that is open at its first fault
-so-far-once : (frames : Bool) (m : Media) (options : FlowOptions) (over : List JudgedPart) (part : Option OpenPart) (a b : List ℕ)
-    → AreRowsSoFar frames m options over part a → AreRowsSoFar frames m options over part b → a ≡ b
-so-far-once frames m options over None a b h k = parts-once frames m options over a b h k
-so-far-once frames m options over (Some part) a b h k =
-    h.2 ∙ ap₂ (λ x y. x ++ y) (parts-once frames m options over h.0 k.0 h.3 k.3)
-    (rows-once frames m options part.run.number part.run.n [] part.packets h.1 k.1 h.4 k.4) ∙ sym k.2
+so-far-once : (frames : Bool) (m : Media) (shift : Shift) (over : List JudgedPart) (part : Option OpenPart) (a b : List ℕ)
+    → AreRowsSoFar frames m shift over part a → AreRowsSoFar frames m shift over part b → a ≡ b
+so-far-once frames m shift over None a b h k = parts-once frames m shift over a b h k
+so-far-once frames m shift over (Some part) a b h k =
+    h.2 ∙ ap₂ (λ x y. x ++ y) (parts-once frames m shift over h.0 k.0 h.3 k.3)
+    (rows-once frames m shift part.run.number part.run.n [] part.packets h.1 k.1 h.4 k.4) ∙ sym k.2
 
-up-to-once : (frames : Bool) (m : Media) (options : FlowOptions) (packets : List FlowPacket) (o : Option FirstFault) (a b : List ℕ)
-    → AreRowsUpTo frames m options packets o a → AreRowsUpTo frames m options packets o b → a ≡ b
-up-to-once frames m options packets None a b h k = so-far-once frames m options (judged_parts m packets options) None a b h k
-up-to-once frames m options packets (Some first) a b h k =
-    so-far-once frames m options (parts_before m packets options first.index) (open_before packets options first.index) a b h k
+up-to-once : (frames : Bool) (m : Media) (shift : Shift) (packets : List FlowPacket) (o : Option FirstFault) (a b : List ℕ)
+    → AreRowsUpTo frames m shift packets o a → AreRowsUpTo frames m shift packets o b → a ≡ b
+up-to-once frames m shift packets None a b h k = so-far-once frames m shift (judged_parts m packets shift) None a b h k
+up-to-once frames m shift packets (Some first) a b h k =
+    so-far-once frames m shift (parts_before m packets shift first.index) (open_before packets shift first.index) a b h k
 
 -- no media and packet records have two answers
 pub once-series : (job : SeriesJob) → DefinesOnce (series_query job)
@@ -183,6 +185,8 @@ once-series job media files notes a b h k = of-media (slice_get media job.flow.m
     of-media : (found : Option Media) → OnMedia found (λ m. Answers m a) → OnMedia found (λ m. Answers m b) → a ≡ b
     of-media None h k = absurd h
     of-media (Some m) h k =
+        let options = job.flow.options in
         let packets = flow (only_file files) m in
-        let rows : h.rows ≡ k.rows = up-to-once job.frames m job.flow.options packets (first_fault packets m.pt) h.rows k.rows h.are k.are in
-        h.answer_is ∙ ap (series_of job.frames m (only_note notes) (verdict_of m (judged packets m.pt job.flow.options))) rows ∙ sym k.answer_is
+        let counted = numbered options.seq16 packets in
+        let rows : h.rows ≡ k.rows = up-to-once job.frames m options.shift counted (first_fault counted m.pt) h.rows k.rows h.are k.are in
+        h.answer_is ∙ ap (series_of job.frames m (only_note notes) (verdict_of m (judged packets m.pt options))) rows ∙ sym k.answer_is

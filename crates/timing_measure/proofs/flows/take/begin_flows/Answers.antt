@@ -25,7 +25,7 @@ loop-number-preserved g c = record {
       (sym c.index-media-number.is) c.loop-number.invariant.stands
       (new-flow g.M.RunMeter.WANTS_LEVELS g.M.RunMeter.stands g.M.RunMeter.tells c.args.options c.loop-number.number c.index-media-number.result
       c.new-meter.result c.new.result c.new.ensures.media c.new.ensures.taker
-      (λ past. c.new-meter.ensures.stands past (c.requires.begins past c.in_ok-out.out c.index-media-number.result c.args.options c.in_ok-out.ensures)))
+      (λ past. c.new-meter.ensures.stands past (c.requires.begins past c.in_ok-out.out c.index-media-number.result c.args.options.shift c.in_ok-out.ensures)))
       c.in_ok-push.ensures.items;
   room = All-same (λ f. HasRoom (2 ^ 41) f.taker) c.push.new.self.items _ c.in_ok-push.ensures.items
       (All-push (λ f. HasRoom (2 ^ 41) f.taker) c.loop-number.flows.items c.new.result c.loop-number.invariant.room

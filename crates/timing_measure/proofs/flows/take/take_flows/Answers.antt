@@ -1,7 +1,7 @@
-use Rattle.std.proofs.Common.{◌≡◌, ◌^◌, ℕ, [], ap, arith, refl, subst, sym}
-use Rattle.timing_base.specs.Jobs.{CaptureJob}
+use Rattle.std.proofs.Common.{◌≡◌, ◌^◌, [], ap, arith, refl, subst, sym}
 use Rattle.std.proofs.lemmas.List.Elements.{All-same}
 use Rattle.timing_base.specs.Jobs.{CaptureJob}
+use Rattle.timing_base.specs.Shifts.{FlowOptions}
 use Rattle.timing_measure.specs.flows.Meters.{HasRoom}
 use Rattle.timing_measure.specs.flows.Taken.{AreMetered, AreTakenIn, AreTakenOf}
 use Rattle.timing_measure.specs.declared.flows.take.TakenFlows.{TakenFlows}
@@ -26,7 +26,7 @@ returns-clause-told g c = λ text whole.
     let options = c.job.inside.options in
     let same : options ≡ c.args.job.now.options = ap (λ (job : CaptureJob). job.options) c.job.view_is in
     let taken : TakenFlows _ _ _ = record { note = c.in_ok-taken.taken.note; flows = c.into_flows.result; beside = c.in_ok-taken.both.second } in
-    subst (λ (x : ℕ). AreTakenIn meter.WANTS_LEVELS meter.stands meter.tells g.B.Taker.takes x c.args.media.now text c.args.beside taken) same
+    subst (λ (x : FlowOptions). AreTakenIn meter.WANTS_LEVELS meter.stands meter.tells g.B.Taker.takes x c.args.media.now text c.args.beside taken) same
     (taken-in meter.WANTS_LEVELS meter.stands meter.tells g.B.Taker.takes options c.args.media.now text
     (record { first = c.in_ok-new.field-0; second = c.args.beside }) c.in_ok-taken.both c.in_ok-taken.taken taken
     (subst (AreMetered meter.WANTS_LEVELS meter.stands meter.tells options c.args.media.now []) (sym c.in_ok-new.ensures.flows) c.in_ok-flows.ensures.stands)
@@ -38,7 +38,7 @@ returns-clause-some g c =
     let options = c.job.inside.options in
     let same : options ≡ c.args.job.now.options = ap (λ (job : CaptureJob). job.options) c.job.view_is in
     let taken : TakenFlows _ _ _ = record { note = c.in_ok-taken.taken.note; flows = c.into_flows.result; beside = c.in_ok-taken.both.second } in
-    subst (λ (x : ℕ). AreTakenOf meter.WANTS_LEVELS meter.stands meter.tells x c.args.media.now taken) same
+    subst (λ (x : FlowOptions). AreTakenOf meter.WANTS_LEVELS meter.stands meter.tells x c.args.media.now taken) same
     (taken-of meter.WANTS_LEVELS meter.stands meter.tells g.B.Taker.takes options (2 ^ 36) c.args.media.now
     (record { first = c.in_ok-new.field-0; second = c.args.beside }) c.in_ok-taken.both taken
     (subst (AreMetered meter.WANTS_LEVELS meter.stands meter.tells options c.args.media.now []) (sym c.in_ok-new.ensures.flows) c.in_ok-flows.ensures.stands)

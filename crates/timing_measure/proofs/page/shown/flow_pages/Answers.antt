@@ -11,7 +11,8 @@ loop-flow-preserved c =
     through-next EndsPage c.args.flows.items c.loop-flow.pages.items c.push.new.self.items c.loop-flow.flow-iterator.rest.items
     c.next.new.self.rest.items c.in-Some.flow c.flow_page.result
     c.in-Some.ensures.steps.0 c.in_ok-push.ensures.items
-    (λ m number options packets h. c.flow_page.ensures m number options packets (c.in_ok-end.ensures refl (tt, tt) m number options packets h)) c.loop-flow.invariant
+    (λ m number options packets h. c.flow_page.ensures m number options packets (c.in_ok-end.ensures refl (tt, tt) m number options packets h))
+    c.loop-flow.invariant
 
 pub returns : goal.returns
 returns c =
