@@ -1,6 +1,6 @@
 -- The answer on a flow that is kept, and that is judged in one run of whole frames.
 use Rattle.std.specs.Prelude.{slice_index, Result, Ok, Err}
-use Rattle.std.proofs.Common.{◌≡◌, ◌≤◌, ◌<◌, ◌+◌, ◌-◌, ◌*◌, ◌^◌, ℕ, Bool, true, false, List, [], ◌∷◌, ◌++◌, length, take, drop, All, refl, arith, ap, ◌∙◌, sym}
+use Rattle.std.proofs.Common.{◌≡◌, ◌≤◌, ◌<◌, ◌+◌, ◌-◌, ℕ, Bool, true, false, List, [], ◌∷◌, ◌++◌, length, take, drop, All, refl, arith, ap, ◌∙◌, sym}
 use Rattle.std.proofs.Common.{subst, inl, inr}
 use Rattle.std.proofs.Common.{append_assoc, length-append}
 use Rattle.std.specs.Global.{Global}

@@ -1,6 +1,6 @@
 -- One packet more leaves.
 use Rattle.std.specs.Prelude.{IfOk, Result, Ok, Err, slice_index}
-use Rattle.std.proofs.Common.{◌≡◌, ◌≤◌, ◌<◌, ◌+◌, ◌*◌, ◌^◌, ℕ, List, [], ◌∷◌, ◌++◌, length, take, drop, refl, arith, ap, ◌∙◌, sym, subst}
+use Rattle.std.proofs.Common.{◌≡◌, ◌≤◌, ◌<◌, ◌+◌, ℕ, List, [], ◌∷◌, ◌++◌, length, take, drop, refl, arith, ap, ◌∙◌, sym, subst}
 use Rattle.std.proofs.Common.{length-append}
 use Rattle.std.proofs.lemmas.List.{get_or-take, length-take-le, take-append-drop, take_more}
 use Rattle.flow_shaper.proofs.Seams.{before, last}
@@ -47,7 +47,8 @@ let-in-time w l stamps departures h =
 
 -- what its shaper says of a packet
 pub one-leaves : (w : Part) (old new : Leaver) (stamps departures : List ℕ) (at came : ℕ) (result : Result Departure Late) → came ≡ shifted old.shift at
-    → new.params ≡ old.params → new.shift ≡ old.shift → new.shaper.kind ≡ old.shaper.kind → new.shaper.origin ≡ old.shaper.origin → new.shaper.end ≡ old.shaper.end
+    → new.params ≡ old.params → new.shift ≡ old.shift → new.shaper.kind ≡ old.shaper.kind → new.shaper.origin ≡ old.shaper.origin
+    → new.shaper.end ≡ old.shaper.end
     → ((arrivals departures : List ℕ) → StandsFor old.params old.shaper arrivals departures → CanFollow old.shaper arrivals came
     → IfOk result (λ d. BoundAt old.params.media old.params.n old.shaper.kind (arrivals ++ came ∷ []) (departures ++ d.at ∷ [])
     (length arrivals) d.bound))

@@ -1,5 +1,5 @@
 -- Packets that leave as a plan has it are judged as they were, but for their stamps.
-use Rattle.std.proofs.Common.{◌≡◌, ◌≤◌, ◌<◌, ◌+◌, ◌-◌, ◌*◌, ◌^◌, ℕ, zero, suc, Bool, true}
+use Rattle.std.proofs.Common.{◌≡◌, ◌≤◌, ◌<◌, ◌+◌, ◌-◌, ◌^◌, ℕ, zero, suc, Bool, true}
 use Rattle.std.proofs.Common.{false, if◌then◌else◌, nat_lt, List, [], ◌∷◌, length, map, take, drop, min, Option}
 use Rattle.std.proofs.Common.{Some, None, refl, arith, ap, ◌∙◌, sym, subst, inl, inr}
 use Rattle.std.specs.Prelude.{All, Result, ⊤, not, ◌==◌, ◌&&◌, ◌||◌, nat_le, max, slice_index}
@@ -381,7 +381,7 @@ leaving-judged ps m kind shift run departures is plan =
 -- so is the flow of the capture that is written of them
 pub shaped-again : (options : FlowOptions) (kind : Kind) (m : Media) (items : List Record) (run : JudgedRun) (answer : Answer) → All CanBeHeld items
     → judged (flow items m) m.pt options ≡ in_one_run (whole_frames run) → (plan : HasPlan false options.shift kind m items run answer)
-        → length answer.text ≤ 2 ^ 40
+    → length answer.text ≤ 2 ^ 40
     → IsJudgedAs options m answer.text (came_at run plan.departures)
 shaped-again options kind m items run answer held is plan few =
     let leaves = leaves_at options.shift run.head plan.departures in

@@ -96,9 +96,9 @@ reads_more m x y z a b first second key options list items h =
 -- the result of reading the flow of this media in these packet records; its judged runs are in order
 pub record IsKeptFlow (m : Media) (options : FlowOptions) (list : Bool) (items : List Record) (f : KeptFlow) : Type 0
   where
-  pub verdict_is : f.verdict ≡ verdict_of m (judged (flow items m) m.pt options)
-  pub packets : IsKept m list f.packets items
-  pub grouped : IsGroupedVerdict (judged (flow items m) m.pt options)
+    pub verdict_is : f.verdict ≡ verdict_of m (judged (flow items m) m.pt options)
+    pub packets : IsKept m list f.packets items
+    pub grouped : IsGroupedVerdict (judged (flow items m) m.pt options)
 
 -- the result of reading the flow of a media in a capture with these contents
 pub record IsKeptIn (m : Media) (options : FlowOptions) (list : Bool) (text : List ℕ) (f : KeptFlow) : Type 0 where

@@ -29,6 +29,6 @@ returns-clause-read g c =
     subst (λ (x : FlowOptions). IsRead c.args.media.now x c.args.job.now.list c.in_ok-finish.field-0) given
     (subst (λ (b : Bool). IsRead c.args.media.now c.flow.inside.options b c.in_ok-finish.field-0) listed
     (kept-some c.args.media.now _ c.flow.inside.options (2 ^ 36) c.job.inside.list c.in_ok-reading.reading _ c.in_ok-finish.field-0
-        c.in_ok-reading.ensures.stands
+    c.in_ok-reading.ensures.stands
     c.in_ok-reading-2.ensures.fed
     (λ items h. c.in_ok-finish.ensures c.args.media.now _ c.flow.inside.options c.job.inside.list items c.flow.invariant.options_are h)))
