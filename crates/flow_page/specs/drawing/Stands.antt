@@ -1,5 +1,5 @@
 -- The state of a `DrawingMeter` after the packets of a run that it was fed, and after those that were committed.
-use Rattle.std.specs.Prelude.{◌≡◌, ℕ, List, ◌++◌}
+use Rattle.std.specs.Prelude.{◌≡◌, List, ◌++◌}
 use Rattle.timing_base.specs.Shifts.{Shift}
 use Rattle.timing_base.specs.Media.{Media}
 use Rattle.timing_base.specs.declared.packet.FlowPacket.{FlowPacket}

@@ -1,6 +1,6 @@
 -- The drawing of the longest of the judged runs of a flow that are complete. Runs count from 1, packets from 0. Capture
 -- timestamps are nanoseconds of TAI, after the shift of the flow. The choice of the run is this project's own.
-use Rattle.std.specs.Prelude.{◌≡◌, ◌-◌, ◌≤◌, ◌<◌, ℕ, All, List, [], ◌∷◌, ◌++◌, length, slice_index, Option, Some, None}
+use Rattle.std.specs.Prelude.{◌≡◌, ◌-◌, ◌≤◌, ◌<◌, All, List, [], ◌∷◌, ◌++◌, length, slice_index, Option, Some, None}
 use Rattle.timing_base.specs.Shifts.{Shift}
 use Rattle.timing_base.specs.Media.{Media}
 use Rattle.run_meter.specs.Runs.{JudgedPart, stamps_of}
