@@ -87,7 +87,8 @@ file-rows media options file number (m ∷ ms) items are at g =
     (file-rows media options file (number + 1) ms items (All-tail IsMedia m ms are)
     (λ k. let s : number + 1 + k ≡ number + suc k = omega arith in ap (slice_get media) s ∙ at (suc k)) g)
 
-all-rows : (media : List Media) (options : FlowOptions) (file : ℕ) (items : List Record) → All IsMedia media → ((m : Media) → IsGroupedVerdict (judged (flow items m) m.pt options))
+all-rows : (media : List Media) (options : FlowOptions) (file : ℕ) (items : List Record) → All IsMedia media → ((m : Media)
+    → IsGroupedVerdict (judged (flow items m) m.pt options))
     → All (IsInFile media options file items) (rows_of options file media items)
 all-rows media options file items are g =
     file-rows media options file 0 media items are (λ k. let z : 0 + k ≡ k = omega arith in ap (slice_get media) z) g
@@ -102,7 +103,8 @@ record IsInFiles (media : List Media) (options : FlowOptions) (first : ℕ) (fil
   there : slice_get media r.key.media ≡ Some m
   tells : TellsFlow m (judged (flow items m) m.pt options) r.verdict
 
-files-rows : (media : List Media) (options : FlowOptions) (first : ℕ) (texts : List (List ℕ)) (files : List (List Record)) (notes : List FileNote) → AreFlowOptions options → All IsMedia media
+files-rows : (media : List Media) (options : FlowOptions) (first : ℕ) (texts : List (List ℕ)) (files : List (List Record)) (notes : List FileNote)
+    → AreFlowOptions options → All IsMedia media
     → All AreBytes texts
     → AreRecords texts files notes → All (IsInFiles media options first files) (rows_of_files options first media files)
 files-rows media options first [] [] [] shifts are bytes h = All-nil (IsInFiles media options first [])
@@ -124,7 +126,8 @@ files-rows media options first (t ∷ ts) [] notes shifts are bytes h = absurd h
 files-rows media options first (t ∷ ts) (f ∷ fs) [] shifts are bytes h = absurd h
 
 -- what the rows of captures tell
-pub rows-exact : (b : Bool) (options : FlowOptions) (media : List Media) (texts : List (List ℕ)) (files : List (List Record)) (notes : List FileNote) → AreFlowOptions options
+pub rows-exact : (b : Bool) (options : FlowOptions) (media : List Media) (texts : List (List ℕ)) (files : List (List Record)) (notes : List FileNote)
+    → AreFlowOptions options
     → length texts ≤ 16 → All IsMedia media
     → All AreBytes texts → AreRecords texts files notes → All (IsExactRow b options media files) (rows_over b options media files)
 rows-exact true options media texts files notes shifts few are bytes h =

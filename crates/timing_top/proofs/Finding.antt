@@ -65,7 +65,8 @@ file-rows media options file number (m ∷ ms) items are at g =
     (file-rows media options file (number + 1) ms items (All-tail IsMedia m ms are)
     (λ k. let s : number + 1 + k ≡ number + suc k = omega arith in ap (slice_get media) s ∙ at (suc k)) g)
 
-all-rows : (media : List Media) (options : FlowOptions) (file : ℕ) (items : List Record) → All IsMedia media → ((m : Media) → IsGroupedVerdict (judged (flow items m) m.pt options))
+all-rows : (media : List Media) (options : FlowOptions) (file : ℕ) (items : List Record) → All IsMedia media → ((m : Media)
+    → IsGroupedVerdict (judged (flow items m) m.pt options))
     → All (IsInFile media options file items) (fails_of (rows_of options file media items))
 all-rows media options file items are g =
     file-rows media options file 0 media items are (λ k. let z : 0 + k ≡ k = omega arith in ap (slice_get media) z) g
@@ -83,7 +84,8 @@ record IsInFiles (media : List Media) (options : FlowOptions) (first : ℕ) (nam
   there : slice_get media c.key.media ≡ Some m
   finds : Finds m c options (text (slice_index_or names place []) ∷ []) (Ok true)
 
-here-finds : (media : List Media) (options : FlowOptions) (first : ℕ) (name : List ℕ) (names : List (List ℕ)) (text : List ℕ → List ℕ) (items : List Record) (end : FileNote)
+here-finds : (media : List Media) (options : FlowOptions) (first : ℕ) (name : List ℕ) (names : List (List ℕ)) (text : List ℕ
+    → List ℕ) (items : List Record) (end : FileNote)
     → Records (text name) (2 ^ 40) items end
     → (c : ReportProof) → IsInFile media options first items c → IsInFiles media options first (name ∷ names) text c
 here-finds media options first name names text items end records c h = record {
@@ -101,7 +103,8 @@ here-finds media options first name names text items end records c h = record {
 }
 
 -- the fails of the rows of files
-files-rows : (media : List Media) (options : FlowOptions) (first : ℕ) (names : List (List ℕ)) (text : List ℕ → List ℕ) (files : List (List Record)) (notes : List FileNote) → AreFlowOptions options → All IsMedia media
+files-rows : (media : List Media) (options : FlowOptions) (first : ℕ) (names : List (List ℕ)) (text : List ℕ → List ℕ) (files : List (List Record)) (notes :
+    List FileNote) → AreFlowOptions options → All IsMedia media
     → All AreBytes (map text names) → AreRecords (map text names) files notes
     → All (IsInFiles media options first names text) (fails_of (rows_of_files options first media files))
 files-rows media options first [] text [] [] shifts are bytes h = All-nil (IsInFiles media options first [] text)
@@ -111,7 +114,8 @@ files-rows media options first (name ∷ names) text (items ∷ files) (end ∷ 
     subst (All P) (sym (flat_map-append (λ (r : Row). verdict_fails r.key r.verdict) (rows_of options first media items)
     (rows_of_files options (first + 1) media files)))
     (All-append P (fails_of (rows_of options first media items)) (fails_of (rows_of_files options (first + 1) media files))
-    (All-weaker (IsInFile media options first items) P (here-finds media options first name names text items end h.0) (fails_of (rows_of options first media items))
+    (All-weaker (IsInFile media options first items) P (here-finds media options first name names text items end h.0) (fails_of (rows_of options first media
+    items))
     (all-rows media options first items are (λ m. flow-grouped m options 0 (2 ^ 36) items shifts (omega arith) small)))
     (All-weaker (IsInFiles media options (first + 1) names text) P
     (λ c k. record { place = suc k.place; within = omega (arith, k.within); file_is = omega (arith, k.file_is); m = k.m; there = k.there; finds = k.finds })
@@ -148,7 +152,8 @@ confirmed-rows sdp name options captures true media text files notes shifts few 
     (λ c k. subst (λ o. FindsOf o job c text (Ok true)) (sym (media-there 1 media c k.m (omega (arith, k.file_is)) k.there))
     record { files = files; notes = notes; records = h; says = k.says })
     (fails_of (rows_of options 0 media (joined files)))
-    (all-rows media options 0 (joined files) are (λ m. flow-grouped m options 0 (2 ^ 36 * length texts) (joined files) shifts (omega (arith, count, few)) small))
+    (all-rows media options 0 (joined files) are (λ m. flow-grouped m options 0 (2 ^ 36 * length texts) (joined files) shifts (omega (arith, count, few))
+    small))
 confirmed-rows sdp name options captures false media text files notes shifts few are bytes h =
     let job = job_with sdp name options captures false in
     All-weaker (IsInFiles media options 0 captures text) (IsConfirmed job media text)

@@ -25,7 +25,8 @@ key r = r.key
 abbrev Fitting : Row → Type 0
 Fitting r = FitsVerdict r.verdict
 
-keys-from : (options : FlowOptions) (file number : ℕ) (ms : List Media) (items : List Record) → map key (rows_from options file number ms items) ≡ keys_of_file file number (length ms)
+keys-from : (options : FlowOptions) (file number : ℕ) (ms : List Media) (items : List Record) → map key (rows_from options file number ms items) ≡
+    keys_of_file file number (length ms)
 keys-from options file number [] items = refl
 keys-from options file number (m ∷ ms) items = ap (λ l. key_of file number ∷ l) (keys-from options file (number + 1) ms items)
 
@@ -51,7 +52,8 @@ records-length [] (f ∷ fs) notes h = absurd h
 records-length (t ∷ ts) [] notes h = absurd h
 records-length (t ∷ ts) (f ∷ fs) [] h = absurd h
 
-fits-from : (options : FlowOptions) (file number before most : ℕ) (ms : List Media) (items : List Record) → AreFlowOptions options → before + most ≤ 2 ^ 40 → All IsMedia ms
+fits-from : (options : FlowOptions) (file number before most : ℕ) (ms : List Media) (items : List Record) → AreFlowOptions options → before + most ≤ 2 ^ 40
+    → All IsMedia ms
     → AreSmall before most items
     → All Fitting (rows_from options file number ms items)
 fits-from options file number before most [] items shifts few are h = All-nil Fitting
@@ -60,7 +62,8 @@ fits-from options file number before most (m ∷ ms) items shifts few are h =
     (flow-fits m options before most items (All-head IsMedia m ms are) shifts few h)
     (fits-from options file (number + 1) before most ms items shifts few (All-tail IsMedia m ms are) h)
 
-fits-files : (options : FlowOptions) (first : ℕ) (media : List Media) (texts : List (List ℕ)) (files : List (List Record)) (notes : List FileNote) → AreFlowOptions options → All IsMedia media
+fits-files : (options : FlowOptions) (first : ℕ) (media : List Media) (texts : List (List ℕ)) (files : List (List Record)) (notes : List FileNote)
+    → AreFlowOptions options → All IsMedia media
     → All AreBytes texts
     → AreRecords texts files notes → All Fitting (rows_of_files options first media files)
 fits-files options first media [] [] [] shifts are bytes h = All-nil Fitting
@@ -74,7 +77,8 @@ fits-files options first media (t ∷ ts) [] notes shifts are bytes h = absurd h
 fits-files options first media (t ∷ ts) (f ∷ fs) [] shifts are bytes h = absurd h
 
 -- the numbers of the rows
-pub rows-fit : (b : Bool) (options : FlowOptions) (media : List Media) (texts : List (List ℕ)) (files : List (List Record)) (notes : List FileNote) → AreFlowOptions options
+pub rows-fit : (b : Bool) (options : FlowOptions) (media : List Media) (texts : List (List ℕ)) (files : List (List Record)) (notes : List FileNote)
+    → AreFlowOptions options
     → length texts ≤ 16 → All IsMedia media
     → All AreBytes texts → AreRecords texts files notes → All Fitting (rows_over b options media files)
 rows-fit true options media texts files notes shifts few are bytes h =

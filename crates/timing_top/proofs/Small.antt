@@ -171,7 +171,8 @@ flow-few m [] = omega arith
 flow-few m (r ∷ rs) = omega (arith, cons-few (flow_packet m r) (flow rs m), flow-few m rs)
 
 -- so each flow is judged in whole groups
-pub flow-grouped : (m : Media) (options : FlowOptions) (before most : ℕ) (items : List Record) → AreFlowOptions options → most ≤ 2 ^ 40 → AreSmall before most items
+pub flow-grouped : (m : Media) (options : FlowOptions) (before most : ℕ) (items : List Record) → AreFlowOptions options → most ≤ 2 ^ 40
+    → AreSmall before most items
     → IsGroupedVerdict (judged (flow items m) m.pt options)
 flow-grouped m options before most items shifts few h =
     judged-grouped (flow items m) m.pt options (omega (arith, flow-few m items, h.few, few)) shifts (flow-stamped m (before + most) items h.each)

@@ -13,7 +13,8 @@ use Rattle.timing_base.specs.Flows.{is_other_payload, is_other_size, is_second_s
 use Rattle.timing_base.specs.Flows.{next_number, order_fault, packet, place_in_group, places, read_or_zeros, reading_fault, repeats_timestamp, rtp}
 use Rattle.timing_base.specs.Flows.{sender_fault, size_fault}
 use Rattle.timing_base.specs.Grouped.{AreGrouped, ExpectsAfterFirst, IsGrouped, IsGroupedOutcome, IsGroupedVerdict}
-use Rattle.timing_base.specs.Judged.{FlowRun, FlowVerdict, JudgedRun, RunOutcome, absent, head_len, in_one_run, in_runs, judged, judged_as_numbered, judged_run, judged_runs}
+use Rattle.timing_base.specs.Judged.{FlowRun, FlowVerdict, JudgedRun, RunOutcome, absent, head_len, in_one_run, in_runs, judged, judged_as_numbered, judged_run}
+use Rattle.timing_base.specs.Judged.{judged_runs}
 use Rattle.timing_base.specs.Judged.{no_whole_frame, refusal, refused_or, run_at, run_outcome, runs, runs_between, whole_frames}
 use Rattle.timing_base.specs.Media.{IsMedia, Media}
 use Rattle.timing_base.specs.Numbered.{counted, counted_from, counted_packet, counted_rtp, number_after, numbered}
@@ -253,7 +254,8 @@ outcome-case : (m : Media) (b : Bool) (head : ℕ) (j : JudgedRun) → IsMedia m
 outcome-case m true head j is h hj tj g = h
 outcome-case m false head j is h hj tj g = judged-fits m j is g hj tj
 
-outcome-fits : (m : Media) (packets : List FlowPacket) (shift : Shift) (from to : ℕ) → IsMedia m → to ≤ 2 ^ 41 → IsGroupedOutcome (run_outcome packets shift from to)
+outcome-fits : (m : Media) (packets : List FlowPacket) (shift : Shift) (from to : ℕ) → IsMedia m → to ≤ 2 ^ 41 → IsGroupedOutcome (run_outcome packets shift
+    from to)
     → FitsRunVerdict (run_verdict_of m (run_outcome packets shift from to))
 outcome-fits m packets shift from to is few g =
     let head : IsWord (head_len (markers packets from to) from to) = omega (arith, head-low packets from to, few) in
@@ -268,7 +270,8 @@ expected-case : (b : Bool) (y : ℕ) → IsWord y → ForSome (if b then None el
 expected-case true y h = λ x e. cc
 expected-case false y h = λ x e. let same : y ≡ x = cc in subst IsWord same h
 
-run-fits : (m : Media) (most : ℕ) (packets : List FlowPacket) (shift : Shift) (from to : ℕ) → IsMedia m → most ≤ 2 ^ 41 → All (IsSmallPacket most) packets → to ≤ 2 ^ 41
+run-fits : (m : Media) (most : ℕ) (packets : List FlowPacket) (shift : Shift) (from to : ℕ) → IsMedia m → most ≤ 2 ^ 41 → All (IsSmallPacket most) packets
+    → to ≤ 2 ^ 41
     → IsGroupedOutcome (run_outcome packets shift from to) → FitsRun (run_of m (run_at packets shift from to))
 run-fits m most packets shift from to is few small low g =
     let here = packet-at most packets from small in
@@ -279,7 +282,8 @@ run-fits m most packets shift from to is few small low g =
       outcome = outcome-fits m packets shift from to is low g;
     }
 
-runs-fit : (m : Media) (most : ℕ) (packets : List FlowPacket) (shift : Shift) (to from : ℕ) (cs : List ℕ) → IsMedia m → most ≤ 2 ^ 41 → All (IsSmallPacket most) packets
+runs-fit : (m : Media) (most : ℕ) (packets : List FlowPacket) (shift : Shift) (to from : ℕ) (cs : List ℕ) → IsMedia m → most ≤ 2 ^ 41
+    → All (IsSmallPacket most) packets
     → to ≤ 2 ^ 41 → All (λ k. k < to) cs
     → All (λ run. IsGroupedOutcome run.outcome) (runs_between packets shift to from cs) → All FitsRun (map (run_of m) (runs_between packets shift to from cs))
 runs-fit m most packets shift to from [] is few small low cut g =
@@ -290,7 +294,8 @@ runs-fit m most packets shift to from (c ∷ cs) is few small low cut g =
     let P : FlowRun → Type 0 = λ run. IsGroupedOutcome run.outcome in
     let here : c < to = All-head (λ k. k < to) c cs cut in
     All-cons FitsRun (run_of m (run_at packets shift from c)) (map (run_of m) (runs_between packets shift to c cs))
-    (run-fits m most packets shift from c is few small (omega (arith, here, low)) (All-head P (run_at packets shift from c) (runs_between packets shift to c cs) g))
+    (run-fits m most packets shift from c is few small (omega (arith, here, low)) (All-head P (run_at packets shift from c) (runs_between packets shift to c
+    cs) g))
     (runs-fit m most packets shift to c cs is few small low (All-tail (λ k. k < to) c cs cut)
     (All-tail P (run_at packets shift from c) (runs_between packets shift to c cs) g))
 
@@ -321,7 +326,8 @@ judged-case m true v h = tt
 judged-case m false v h = h
 
 -- the verdict on a flow
-verdict-fits : (m : Media) (most : ℕ) (shift : Shift) (packets : List FlowPacket) → IsMedia m → IsShift shift → most ≤ 2 ^ 41 → length packets < 2 ^ 41 → AreStamped packets
+verdict-fits : (m : Media) (most : ℕ) (shift : Shift) (packets : List FlowPacket) → IsMedia m → IsShift shift → most ≤ 2 ^ 41 → length packets < 2 ^ 41
+    → AreStamped packets
     → All (IsSmallPacket most) packets
     → FitsVerdict (verdict_of m (judged_as_numbered packets m.pt shift))
 verdict-fits m most shift packets is shifts few long stamped small =

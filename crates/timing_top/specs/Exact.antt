@@ -63,7 +63,8 @@ AreRecordsOf true files file items = items ≡ joined_records files
 AreRecordsOf false files file items = slice_get files file ≡ Some items
 
 -- the result of a flow is exact for the flow of its media in its file
-pub record IsExactRow (joined : Bool) (options : FlowOptions) (media : List Media) (files : List (List Record)) (row : Row) : Type 0
+pub record IsExactRow (joined : Bool) (options : FlowOptions) (media : List Media) (files : List (List Record))
+    (row : Row) : Type 0
   where
     pub m : Media
     pub media_is : slice_get media row.key.media ≡ Some m

@@ -55,7 +55,8 @@ pub record AreReady {S : Type 0} (faults : S → ℕ) (sources : List S) (media 
   pub few_media : length media ≤ 64
 
 -- one more capture was judged by itself: its note and its results were appended
-pub record FindsNext (text : List ℕ) (media : List Media) (options : FlowOptions) (file : ℕ) (old_notes new_notes : List FileNote)
+pub record FindsNext (text : List ℕ) (media : List Media) (options : FlowOptions) (file : ℕ)
+    (old_notes new_notes : List FileNote)
     (old_rows new_rows : List Row) : Type 0 where
   pub items : List Record
   pub note : FileNote
@@ -73,7 +74,8 @@ pub record JoinsNext (text : List ℕ) (before after : ℕ) (old new : Bank) (ol
 
 -- the captures with these contents were taken as one: how each ends, the number of their packet records, and the bank
 -- of judges that was given them
-pub record AreJoined (texts : List (List ℕ)) (media : List Media) (options : FlowOptions) (notes : List FileNote) (count : ℕ)
+pub record AreJoined (texts : List (List ℕ)) (media : List Media) (options : FlowOptions) (notes : List FileNote)
+    (count : ℕ)
     (bank : Bank) : Type 0 where
   pub files : List (List Record)
   pub records : AreRecords texts files notes

@@ -75,8 +75,8 @@ impl Alone<'_> {
         sources: Vec<Classic<H::Source>>,
     ) -> Result<Found, Failure>
         requires ready { AreReady (faults_of H.Source.faults) sources.items self.now.media.now }
-        ensures judged { Judges (λ files. rows_of self.now.options 0 self.now.media.now (joined files)) self.now.media.now
-            H.Shelf H.Source.Source shelf.old shelf.new sources.items result }
+        ensures judged { Judges (λ files. rows_of self.now.options 0 self.now.media.now (joined files))
+            self.now.media.now H.Shelf H.Source.Source shelf.old shelf.new sources.items result }
         ensures stays { StaysAs H.text H.lacks H.faults shelf.old shelf.new }
     {
         let bank = match Bank::new(self.alloc, self.media, 0, self.options) {

@@ -74,7 +74,8 @@ needed job media claim = captures_for (media_for job media claim.key) job claim.
 -- confirmed
 abbrev pub FindsOf : Option Media → ReportJob → ReportProof → (List ℕ → List ℕ) → Result Bool Unjudged → Type 0
 FindsOf None job claim text finding = finding ≡ Ok false
-FindsOf (Some media) job claim text finding = Finds media claim job.options (map text (captures_of job claim.key)) finding
+FindsOf (Some media) job claim text finding =
+    Finds media claim job.options (map text (captures_of job claim.key)) finding
 
 -- the violations of a report in their order, each with its finding
 pub record AreChecked (job : ReportJob) (media : List Media) (text : List ℕ → List ℕ) (claims : List ReportProof)

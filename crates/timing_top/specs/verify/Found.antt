@@ -63,7 +63,8 @@ ReadAs readings texts = (files : List (List Record)) (notes : List FileNote) →
 
 -- the reading is of this media, with what the claim asks for, and has read the captures with these contents, as one
 -- capture
-pub record IsReadFor (m : Media) (options : FlowOptions) (texts : List (List ℕ)) (claim : ReportProof) (r : Reading) : Type 0 where
+pub record IsReadFor (m : Media) (options : FlowOptions) (texts : List (List ℕ)) (claim : ReportProof)
+    (r : Reading) : Type 0 where
   pub media : media_of r ≡ m
   pub options_are : options_of r ≡ options
   pub asked : IsAsked (asked_by r) claim.run claim.proof
@@ -75,13 +76,15 @@ abbrev pub Asks : Asked → (file media : ℕ) → ReportProof → Type 0
 Asks asked file media claim = claim.key.file ≡ file → claim.key.media ≡ media → IsAsked asked claim.run claim.proof
 
 -- the reading is of this media in this file, and everything that the claims on its flow need was asked for
-pub record IsAskedAll (options : FlowOptions) (claims : List ReportProof) (file number : ℕ) (m : Media) (r : Reading) : Type 0 where
+pub record IsAskedAll (options : FlowOptions) (claims : List ReportProof) (file number : ℕ) (m : Media)
+    (r : Reading) : Type 0 where
   pub media : media_of r ≡ m
   pub options_are : options_of r ≡ options
   pub asks : All (Asks (asked_by r) file number) claims
 
 -- the readings are of these media, the first of which has this number
-abbrev pub AreAsked : (options : FlowOptions) → List ReportProof → (file number : ℕ) → List Media → List Reading → Type 0
+abbrev pub AreAsked : (options : FlowOptions) → List ReportProof → (file number : ℕ) → List Media → List Reading
+    → Type 0
 AreAsked options claims file number [] [] = ⊤
 AreAsked options claims file number [] (r ∷ rs) = ⊥
 AreAsked options claims file number (m ∷ ms) [] = ⊥

@@ -61,7 +61,8 @@ pub no-reading : (o : Option Reading) (r : Reading) → o ≡ None → o ≡ Som
 no-reading o r e f = cc
 
 -- a reading that was made with a claim's needs, and was read
-pub one-read : (m : Media) (claim : ReportProof) (options : FlowOptions) (texts : List (List ℕ)) (first : Reading) (rs : List Reading) (finding : Result Bool Unjudged)
+pub one-read : (m : Media) (claim : ReportProof) (options : FlowOptions) (texts : List (List ℕ)) (first : Reading) (rs : List Reading) (finding : Result Bool
+    Unjudged)
     → media_of first ≡ m → options_of first ≡ options → IsAsked (asked_by first) claim.run claim.proof
     → AreSame (first ∷ []) rs → ReadAs rs texts
     → ((x : Media) (t : FlowOptions) (l : List (List ℕ)) (r : Reading) → slice_get rs 0 ≡ Some r → IsReadFor x t l claim r → Finds x claim t l finding)

@@ -72,8 +72,10 @@ report-read i j job media outcome asked all claims s named same there told h =
     (needed-seen i j outcome job media all (λ text. Gives outcome (HasReported job media all text)) s n)) h)
 
 -- what was found in captures with these contents is the answer of `verify`
-pub has-verified : (job : VerifyJob) (media : List Media) (m : Media) (texts : List (List ℕ)) (claim : ReportProof) (options : FlowOptions) (finding : Result Bool Unjudged)
-    (answer : Answer) → slice_get media job.media ≡ Some m → claim ≡ claim_of job → options ≡ job.options → Finds m claim options texts finding → answer ≡ verified finding
+pub has-verified : (job : VerifyJob) (media : List Media) (m : Media) (texts : List (List ℕ)) (claim : ReportProof) (options : FlowOptions) (finding : Result
+    Bool Unjudged)
+    (answer : Answer) → slice_get media job.media ≡ Some m → claim ≡ claim_of job → options ≡ job.options → Finds m claim options texts finding
+    → answer ≡ verified finding
     → HasAnswer (verify_query job) media texts answer
 has-verified job media m texts claim options finding answer found asked late h is = record {
   files = h.files;
