@@ -1,5 +1,5 @@
 -- The packet records of a capture have an answer of `measure`.
-use Rattle.std.proofs.Common.{◌≡◌, ◌<◌, ◌≤◌, ◌+◌, ◌^◌, ◌∷◌, ℕ, zero, suc, List, [], length, map, Option, Some, None, refl, ◌∙◌, arith}
+use Rattle.std.proofs.Common.{◌≡◌, ◌<◌, ◌+◌, ◌^◌, ◌∷◌, ℕ, zero, suc, List, [], length, map, Option, Some, None, refl, ◌∙◌, arith}
 use Rattle.std.proofs.Common.{slice_index}
 use Rattle.std.specs.Prelude.{All, slice_index_or}
 use Rattle.std.specs.List.{cons_option}

@@ -1,6 +1,6 @@
 -- The packet records of a capture have an answer of `series`.
 use Rattle.std.specs.Prelude.{◌≡◌, All, slice_get}
-use Rattle.std.proofs.Common.{◌<◌, ◌≤◌, ◌^◌, ℕ, Bool, List, [], ◌∷◌, Option, Some, None, length, refl, subst}
+use Rattle.std.proofs.Common.{◌<◌, ◌^◌, ℕ, Bool, List, [], ◌∷◌, Option, Some, None, length, refl, subst}
 use Rattle.std.proofs.lemmas.List.Elements.{All-get_or}
 use Rattle.std.proofs.lemmas.Option.{get_or_from_slice_get, slice_get_within}
 use Rattle.timing_base.specs.Shifts.{AreFlowOptions, FlowOptions}
