@@ -375,7 +375,8 @@ fn interlaced_narrow(rt: HostRuntime) {
 #[test]
 fn usual_equipment(rt: HostRuntime) {
     let begin: u64 = 1_601_600_000_000_000_000 - 37_000_000_000;
-    let mut flow = Flow::later(rt.alloc(), &video(1080, false, 60_000, 1001), 37);
+    let shift = Shift { tai: 37, delay: 0 };
+    let mut flow = Flow::later(rt.alloc(), &video(1080, false, 60_000, 1001), shift);
     flow.feed(&rt, begin + 636_674 - 1_000_000, reading(0, 0, true));
     for j in 0..8640_u32 {
         let late = 450_450_000 * u64::from(j / 4320) + 17_217_200 + 100_100 * u64::from(j % 4320);
