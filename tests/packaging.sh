@@ -82,7 +82,7 @@ prints_first_line() {
 renders() { "$@" "$folder/tree/usr/elsewhere/share/man/man1/st2110_timing.1" 2>&1 | grep 'st2110_timing'; }
 
 commands() { "$program" help | sed -nE 's/^  ([a-z][a-z-]*)( .*)?$/\1/p' | sort; }
-options_of() { "$program" help "$1" | sed -nE 's/^  (--[a-z-]+).*/\1/p' | sort; }
+options_of() { "$program" help "$1" | sed -nE 's/^  (--[a-z][a-z0-9-]*).*/\1/p' | sort; }
 
 # Prints what bash completes for the last of the arguments.
 bash_completes() {
