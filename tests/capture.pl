@@ -19,6 +19,7 @@
 #   packet_ns=960000    nanoseconds from a packet to the next of its group
 #   bunched=0           the group that has packets at one instant
 #   at_once=1           how many of that group come with its packet 0, which counts too
+#   extended=1          0: the extended sequence number of all packets is 0
 #
 # `flaw` is the self-test's capture: 0 has none, which is the plain sender; 1: five packets at once in the last frame; 2: packets a
 # millisecond apart; 3: packet 10 of the last frame is missing; 4: packet 19 of the last frame is missing, and packet 18 has the marker.
@@ -102,6 +103,7 @@ sub numbers {
 sub plain_packets {
     my $is = numbers({
         first => 764_000, groups => 2, packets => 20, group_ns => 20_000_000, packet_ns => 960_000, bunched => 0, at_once => 1,
+        extended => 1,
     }, @_);
     my @packets = [$start - 1_000_000, 0, 1, 0];
     for my $group (0 .. $is->{groups} - 1) {
@@ -109,6 +111,7 @@ sub plain_packets {
             my $late = $group == $is->{bunched} && $place < $is->{at_once} ? 0 : $is->{packet_ns} * $place;
             my $at = $start + $is->{first} + $is->{group_ns} * $group + $late;
             my $number = 1 + $is->{packets} * $group + $place;
+            $number %= 65_536 if !$is->{extended};
             push @packets, [$at, 1800 * ($group + 1), $place + 1 == $is->{packets}, $number];
         }
     }
