@@ -84,8 +84,8 @@ fn comes_to_none(rt: &impl Abort, flow: Flow, want: Unjudged) {
 struct Made {
     // The start of the first frame, in seconds.
     start: u32,
-    // The shift of the capture timestamps.
-    shift: Shift,
+    // The seconds by which the capture timestamps are too low.
+    tai: u64,
     // The number of the packet with the marker.
     number: u32,
     // The packets in a frame.
@@ -101,7 +101,7 @@ struct Made {
 
 const PLAIN: Made = Made {
     start: 1_600_000_000,
-    shift: Shift::NONE,
+    tai: 0,
     number: 0,
     size: 20,
     first: 764_000,
@@ -144,7 +144,12 @@ impl Made {
 
     // The head and this many packets to this media have this result.
     fn comes_to(&self, rt: &impl Abort, alloc: Global, media: &Media, count: u32, want: Judged) {
-        let mut flow = Flow::later(alloc, media, self.shift);
+        assert!(rt; self.tai <= 1000);
+        let shift = Shift {
+            tai: self.tai,
+            delay: 0,
+        };
+        let mut flow = Flow::later(alloc, media, shift);
         self.feed_head(rt, &mut flow);
         self.feed(rt, &mut flow, 0, count);
         same(rt, &judged(&flow.finish(rt)), &Some(want));
@@ -336,10 +341,7 @@ fn number_wraps(rt: HostRuntime) {
 fn last_second(rt: HostRuntime) {
     let made = Made {
         start: 4_294_967_295,
-        shift: Shift {
-            tai: 1000,
-            delay: 0,
-        },
+        tai: 1000,
         ..PLAIN
     };
     made.comes_to(&rt, rt.alloc(), &plain(), 40, passes(2))
