@@ -5,6 +5,7 @@ pub mod Flows
 pub mod Jobs
 pub mod Judged
 pub mod Keys
+pub mod Choices
 pub mod Media
 pub mod Name
 pub mod Numbered

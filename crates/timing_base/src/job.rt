@@ -22,6 +22,8 @@ pub struct CheckJob {
     pub json: bool,
     /// Whether the captures are taken as one, in the order of the arguments.
     pub joined: bool,
+    /// The media that is judged alone, counted from 0, at most 63, or `None` for all media.
+    pub media: Option<u32>,
 }
 
 impl Model for CheckJob {
@@ -29,7 +31,15 @@ impl Model for CheckJob {
 
     ghost Value = { Seen };
 
-    ghost view = { λ job. record { sdp = job.sdp; captures = job.captures; workers = job.workers; options = job.options; json = job.json; joined = job.joined } };
+    ghost view = { λ job. record {
+      sdp = job.sdp;
+      captures = job.captures;
+      workers = job.workers;
+      options = job.options;
+      json = job.json;
+      joined = job.joined;
+      media = job.media;
+    } };
 
     ghost invariant = { λ job. IsCheckJob (view job) };
 }
@@ -84,6 +94,8 @@ pub struct ReportJob {
     pub captures: Items<FileName>,
     /// Whether the captures are taken as one, in the order of the arguments.
     pub joined: bool,
+    /// The media that is judged alone, counted from 0, at most 63, or `None` for all media.
+    pub media: Option<u32>,
 }
 
 impl Model for ReportJob {
@@ -91,7 +103,14 @@ impl Model for ReportJob {
 
     ghost Value = { Seen };
 
-    ghost view = { λ job. record { sdp = job.sdp; report = job.report; options = job.options; captures = job.captures; joined = job.joined } };
+    ghost view = { λ job. record {
+      sdp = job.sdp;
+      report = job.report;
+      options = job.options;
+      captures = job.captures;
+      joined = job.joined;
+      media = job.media;
+    } };
 
     ghost invariant = { λ job. IsReportJob (view job) };
 }
@@ -117,7 +136,7 @@ impl Model for SelfTestJob {
     ghost inverse = { λ job. record { frames = job.frames; workers = job.workers } };
 }
 
-/// One flow of one capture.
+/// One flow of one capture, or of joined captures.
 #[derive(Debug, Drop)]
 pub struct FlowJob {
     /// The file name of the session description.
@@ -126,8 +145,10 @@ pub struct FlowJob {
     pub media: u32,
     /// How the packets of the flow are timed and numbered.
     pub options: FlowOptions,
-    /// The capture file.
-    pub capture: FileName,
+    /// The capture files: exactly one, or 1 to 16 if they are joined.
+    pub captures: Items<FileName>,
+    /// Whether the captures are taken as one, in the order of the arguments.
+    pub joined: bool,
 }
 
 impl Model for FlowJob {
@@ -135,7 +156,13 @@ impl Model for FlowJob {
 
     ghost Value = { Seen };
 
-    ghost view = { λ job. record { sdp = job.sdp; media = job.media; options = job.options; capture = job.capture } };
+    ghost view = { λ job. record {
+      sdp = job.sdp;
+      media = job.media;
+      options = job.options;
+      captures = job.captures;
+      joined = job.joined;
+    } };
 
     ghost invariant = { λ job. IsFlowJob (view job) };
 }
@@ -182,15 +209,19 @@ impl Model for SkewJob {
     ghost invariant = { λ job. IsSkewJob (view job) };
 }
 
-/// All flows of one capture.
+/// The flows of one capture, or of joined captures: of all media, or of one.
 #[derive(Debug, Drop)]
 pub struct CaptureJob {
     /// The file name of the session description.
     pub sdp: FileName,
     /// How the packets of its flows are timed and numbered.
     pub options: FlowOptions,
-    /// The capture file.
-    pub capture: FileName,
+    /// The capture files: exactly one, or 1 to 16 if they are joined.
+    pub captures: Items<FileName>,
+    /// Whether the captures are taken as one, in the order of the arguments.
+    pub joined: bool,
+    /// The media that is judged alone, counted from 0, at most 63, or `None` for all media.
+    pub media: Option<u32>,
 }
 
 impl Model for CaptureJob {
@@ -198,7 +229,13 @@ impl Model for CaptureJob {
 
     ghost Value = { Seen };
 
-    ghost view = { λ job. record { sdp = job.sdp; options = job.options; capture = job.capture } };
+    ghost view = { λ job. record {
+      sdp = job.sdp;
+      options = job.options;
+      captures = job.captures;
+      joined = job.joined;
+      media = job.media;
+    } };
 
     ghost invariant = { λ job. IsCaptureJob (view job) };
 }

@@ -9,6 +9,9 @@ ghost use Rattle.timing_base.specs.Grouped.{IsGroupedVerdict};
 ghost use Rattle.timing_base.specs.Captures.{joined};
 ghost use Rattle.timing_base.specs.Name.{is_file_name};
 ghost use Rattle.timing_base.specs.Routes.{route};
+ghost use Rattle.timing_base.specs.Keys.{key_of};
+ghost use Rattle.timing_base.specs.Choices.{chosen, keys_chosen};
+ghost use Rattle.timing_base.specs.Media.{Media as MediaValue};
 ghost use Rattle.timing_base.specs.Addresses.{ipv4, address_text, is_same_address, octets_of};
 ghost use Rattle.timing_base.specs.Targets.{is_same_target, target_text};
 ghost use Rattle.timing_base.specs.Numbered.{AreRead, LosesNoRound, is_jump, missing, numbered, sequence};
@@ -283,6 +286,20 @@ pub fn routes_by_hand()
     ensures four { route (record { file = 2; media = 1 }) 3 4 ≡ 3 }
     ensures seven { route (record { file = 2; media = 1 }) 3 7 ≡ 0 }
     ensures one { route (record { file = 2; media = 1 }) 3 1 ≡ 0 }
+{}
+
+/// Worked by hand: the media that are judged, and the keys of their flows. A chosen media keeps its
+/// number in the session.
+pub fn choices_by_hand()
+    ensures all { (a b : MediaValue) → chosen None (a ∷ b ∷ []) ≡ a ∷ b ∷ [] }
+    ensures second { (a b c : MediaValue) → chosen (Some 1) (a ∷ b ∷ c ∷ []) ≡ b ∷ [] }
+    ensures past_the_end { (a b : MediaValue) → chosen (Some 2) (a ∷ b ∷ []) ≡ [] }
+    ensures all_keys { (a b : MediaValue) → keys_chosen None false 2 (a ∷ b ∷ [])
+        ≡ key_of 0 0 ∷ key_of 0 1 ∷ key_of 1 0 ∷ key_of 1 1 ∷ [] }
+    ensures one_of_each_file { (a b : MediaValue) → keys_chosen (Some 1) false 2 (a ∷ b ∷ [])
+        ≡ key_of 0 1 ∷ key_of 1 1 ∷ [] }
+    ensures one_of_joined { (a b : MediaValue) → keys_chosen (Some 1) true 2 (a ∷ b ∷ []) ≡ key_of 0 1 ∷ [] }
+    ensures no_key { (a b : MediaValue) → keys_chosen (Some 2) false 2 (a ∷ b ∷ []) ≡ [] }
 {}
 
 /// Worked by hand: the first octet of an address is its most significant one, so it is compared

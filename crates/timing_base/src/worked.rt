@@ -108,6 +108,7 @@ pub fn check_of(alloc: Global, capture: &str, json: bool) -> Result<CheckJob, Ou
         options: FlowOptions::NONE,
         json,
         joined: false,
+        media: None,
     })
 }
 

@@ -1,8 +1,9 @@
 -- The flows of a job are of its captures and of its media.
 use Rattle.std.proofs.Common.{◌≡◌, ◌<◌, ◌≤◌, ◌+◌, ℕ, zero, suc, List, [], ◌∷◌, ◌++◌, length, Bool, true, false, subst, sym, arith}
-use Rattle.std.specs.Prelude.{All, map, if◌then◌else◌}
+use Rattle.std.specs.Prelude.{All, map, drop, take, Option, None, Some, if◌then◌else◌}
 use Rattle.std.specs.List.{AllByRecursion}
 use Rattle.std.proofs.lemmas.List.Elements.{All-cons}
+use Rattle.timing_base.specs.Choices.{chosen, first_chosen, key_from}
 use Rattle.timing_base.specs.Jobs.{CheckJob, IsCheckJob}
 use Rattle.timing_base.specs.Media.{Media}
 use Rattle.timing_base.specs.declared.key.FlowKey.{FlowKey}
@@ -45,7 +46,30 @@ keys_within joined files count rows few are =
     let keys : AllByRecursion P (keys_of joined files count) = files_keys 16 0 n count (omega (arith, few_files joined files few)) in
     each-map P rows (subst (AllByRecursion P) (sym are) keys)
 
+-- a media among those that are left after this many
+few-left : (first number : ℕ) (session : List Media) → number < length (take 1 (drop first session)) → first + number < length session
+few-left zero number [] h = absurd (omega arith)
+few-left zero number (m ∷ ms) h = omega arith
+few-left (suc first) number [] h = absurd (omega arith)
+few-left (suc first) number (m ∷ ms) h = let less = few-left first number ms h in omega arith
+
+-- a chosen media has its number in the session
+within-session : (only : Option ℕ) (session : List Media) (number : ℕ) → number < length (chosen only session) → first_chosen only + number < length session
+within-session None session number h = h
+within-session (Some first) session number h = few-left first number session h
+
+each-from : (first count total : ℕ) → ((number : ℕ) → number < count → first + number < total) → (keys : List FlowKey)
+    → AllByRecursion (IsKeyOf 16 count) keys → AllByRecursion (IsKeyOf 16 total) (map (key_from first) keys)
+each-from first count total less [] h = tt
+each-from first count total less (key ∷ keys) h = ((h.0.0, less key.media h.0.1), each-from first count total less keys h.1)
+
 -- the rows of a job
 pub keys_of_rows : (job : CheckJob) (session : List Media) (rows : List Row) → IsCheckJob job → AreRowsOf job session rows
     → All (λ row. IsKeyOf 16 (length session) row.key) rows
-keys_of_rows job session rows is are = keys_within job.joined (length job.captures) (length session) rows is.captures_are.few are
+keys_of_rows job session rows is are =
+    let count = length (chosen job.media session) in
+    let files = if job.joined then 1 else length job.captures in
+    let keys : AllByRecursion (IsKeyOf 16 count) (keys_of job.joined (length job.captures) count) =
+      files_keys 16 0 files count (omega (arith, few_files job.joined (length job.captures) is.captures_are.few)) in
+    each-map (IsKeyOf 16 (length session)) rows (subst (AllByRecursion (IsKeyOf 16 (length session))) (sym are)
+      (each-from (first_chosen job.media) count (length session) (within-session job.media session) (keys_of job.joined (length job.captures) count) keys))

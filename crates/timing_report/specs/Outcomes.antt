@@ -4,7 +4,8 @@ use Rattle.std.specs.Prelude.{◌≡◌, ◌<◌, ℕ, Bool, true, false, not, �
 use Rattle.std.specs.Prelude.{slice_index_or, Option, Some, None, All}
 use Rattle.std.specs.List.{list_any, list_all}
 use Rattle.timing_base.specs.Jobs.{CheckJob}
-use Rattle.timing_base.specs.Keys.{keys_of, media_of}
+use Rattle.timing_base.specs.Choices.{keys_chosen}
+use Rattle.timing_base.specs.Keys.{media_of}
 use Rattle.timing_base.specs.Media.{Media}
 use Rattle.timing_base.specs.Verdicts.{Judged}
 use Rattle.timing_base.specs.declared.capture.FileNote.{FileNote}
@@ -58,9 +59,9 @@ buffer_peak judged W = judged.linear_peak
 abbrev pub AreOfSession : List Media → List Row → Type 0
 AreOfSession session rows = All (λ row. row.key.media < length session) rows
 
--- the flows of a job: every media of every capture; for joined captures every media once, with file 0
+-- the flows of a job: every media of every capture, or the chosen one; for joined captures every media once, with file 0
 abbrev pub flows_of : CheckJob → List Media → List FlowKey
-flows_of job session = keys_of job.joined (length job.captures) (length session)
+flows_of job session = keys_chosen job.media job.joined (length job.captures) session
 
 -- one result for each flow of the job, in the order of the files, and within a file of the media
 abbrev pub AreRowsOf : CheckJob → List Media → List Row → Type 0

@@ -63,4 +63,5 @@ check_of name = record {
   options = no_options;
   json = false;
   joined = false;
+  media = None;
 }
