@@ -70,6 +70,6 @@ keys_of_rows job session rows is are =
     let count = length (chosen job.media session) in
     let files = if job.joined then 1 else length job.captures in
     let keys : AllByRecursion (IsKeyOf 16 count) (keys_of job.joined (length job.captures) count) =
-      files_keys 16 0 files count (omega (arith, few_files job.joined (length job.captures) is.captures_are.few)) in
+    files_keys 16 0 files count (omega (arith, few_files job.joined (length job.captures) is.captures_are.few)) in
     each-map (IsKeyOf 16 (length session)) rows (subst (AllByRecursion (IsKeyOf 16 (length session))) (sym are)
-      (each-from (first_chosen job.media) count (length session) (within-session job.media session) (keys_of job.joined (length job.captures) count) keys))
+    (each-from (first_chosen job.media) count (length session) (within-session job.media session) (keys_of job.joined (length job.captures) count) keys))
