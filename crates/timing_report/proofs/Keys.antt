@@ -55,7 +55,7 @@ few-left (suc first) number (m ∷ ms) h = let less = few-left first number ms h
 
 -- a chosen media has its number in the session
 within-session : (only : Option ℕ) (session : List Media) (number : ℕ) → number < length (chosen only session) → first_chosen only + number < length session
-within-session None session number h = h
+within-session None session number h = omega (arith, h)
 within-session (Some first) session number h = few-left first number session h
 
 each-from : (first count total : ℕ) → ((number : ℕ) → number < count → first + number < total) → (keys : List FlowKey)
