@@ -1,7 +1,8 @@
 -- The output of `help`: of all commands the arguments, the exit statuses and where to read on; of one command more.
 -- The options and flags are those of the grammar.
 -- This project's profile: the whole text.
-use Rattle.std.specs.Prelude.{Bool, true, false, ◌&&◌, ◌||◌, if◌then◌else◌, ◌++◌, List, [], ◌∷◌, Option, Some, None, codes}
+use Rattle.std.specs.Prelude.{Bool, true, false, ◌&&◌, ◌||◌, if◌then◌else◌, ◌++◌, List, [], ◌∷◌, codes}
+use Rattle.std.specs.Prelude.{Option, Some, None}
 use Rattle.std.specs.List.{flat_map}
 use Rattle.std.specs.Str.{bytes_eq}
 use Rattle.timing_words.specs.Line.{Sort, Text}

@@ -429,8 +429,8 @@ pub fn shown_words_are_read()
     ensures all { (c : Command) → Contains commands c }
 {}
 
-/// The job of every request is within its limits: 1 to 16 captures, at most 16 workers and 1,000
-/// seconds, and so on for each command.
+/// The job of every request is within its limits: one capture, or 1 to 16 where they are joined or
+/// judged one by one, at most 16 workers and 1,000 seconds, and so on for each command.
 pub fn jobs_are_within_limits()
     ensures { (words : List Text) (asked : Request) → request words ≡ Some asked → IsWithinLimits asked }
 {}
