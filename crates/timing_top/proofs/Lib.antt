@@ -1,6 +1,7 @@
 mod Asking
 mod Begun
 mod Captured
+mod Choosing
 mod Confirming
 mod Crewing
 mod Ending
@@ -9,6 +10,7 @@ mod Finding
 mod Following
 mod Headlines
 mod Measurable
+mod Numbering
 mod ReadBack
 mod Reported
 mod Reports
