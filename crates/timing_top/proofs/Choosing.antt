@@ -90,6 +90,6 @@ rows-few only session rows few h =
     (λ row within. let less = chosen-within only session row.key.media within in omega (arith, less, few)) rows h
 
 -- the flows of results under their numbers
-pub keys-from : (first : ℕ) (rows : List Row) → map (λ (row : Row). row.key) (map (row_from first) rows) ≡ map (key_from first) (map (λ (row : Row). row.key) rows)
-keys-from first [] = refl
-keys-from first (row ∷ rows) = ap (λ l. key_from first row.key ∷ l) (keys-from first rows)
+pub keys-chosen : (first : ℕ) (rows : List Row) → map (λ (row : Row). row.key) (map (row_from first) rows) ≡ map (key_from first) (map (λ (row : Row). row.key) rows)
+keys-chosen first [] = refl
+keys-chosen first (row ∷ rows) = ap (λ l. key_from first row.key ∷ l) (keys-chosen first rows)

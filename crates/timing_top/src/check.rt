@@ -23,8 +23,10 @@ use timing_base::{CheckJob, FileName, Row, Session};
 use timing_outside::{Gate, Shelf, Sink};
 use timing_report::json_report::json_of;
 use timing_report::{Input, Status, status_of, text_of};
-use timing_steps::{Answer, Command, Failure, begin, chosen_media, conclude, early_of_choice};
-use timing_steps::{fetch_captures, first_chosen};
+use timing_steps::{
+    Answer, Command, Failure, begin, chosen_media, conclude, early_of_choice, fetch_captures,
+    first_chosen,
+};
 
 /// Returns the report as text, or as JSON if the job asks for it.
 fn text_on(
@@ -111,9 +113,10 @@ fn answer_alone<H: Shelf>(
     ensures stays { StaysAs H.text H.lacks H.faults shelf.old shelf.new }
 {
     let sources = fetch_captures(alloc, shelf, job.captures.as_slice())?;
+    let media = chosen_media(session, job.media);
     let alone = Alone {
         alloc,
-        media: chosen_media(session, job.media),
+        media,
         joined: job.joined,
         options: job.options,
     };

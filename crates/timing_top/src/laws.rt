@@ -24,14 +24,13 @@ ghost use Rattle.timing_base.specs.Captures.{Record};
 ghost use Rattle.timing_base.specs.declared.capture.FileNote.{FileNote};
 ghost use Rattle.pcap_reader.specs.Records.{AreRecords};
 ghost use Rattle.pcapng_reader.specs.Bytes.{AreBytes};
-ghost use Rattle.fail_interval.specs.Rows.{rows_over};
 ghost use Rattle.timing_report.specs.json_report.Fails.{FitsVerdict, fails_of};
 ghost use Rattle.timing_report.specs.json_report.Json.{json_text};
 ghost use Rattle.timing_report.specs.json_report.Reading.{IsReport};
 ghost use Rattle.timing_report.specs.declared.json_report.reading.ReportProof.{ReportProof};
 ghost use Rattle.timing_report.specs.declared.status.Status.{Status};
 ghost use Rattle.timing_report.specs.declared.status.Status.TheVariants as status;
-ghost use Rattle.timing_top.specs.verify.Asked.{FindsOf, HasReported, media_for};
+ghost use Rattle.timing_top.specs.verify.Asked.{FindsOf, HasReported, asked, media_for};
 ghost use Rattle.timing_top.specs.Exact.{IsExactRow};
 ghost use Rattle.timing_top.specs.ReadBack.{IsReadable, reading_back};
 
@@ -98,7 +97,7 @@ pub fn rows_have_words()
     ensures { (job : CheckJob) (media : List Media) (text : List ℕ → List ℕ)
         (files : List (List Record)) (notes : List FileNote) → IsReadable job media text
         → AreRecords (map text job.captures) files notes
-        → All (λ row. FitsVerdict row.verdict) (rows_over job.joined job.options media files) }
+        → All (λ row. FitsVerdict row.verdict) (rows job media files) }
 {}
 
 /// Every violation in the results of captures is confirmed by these captures.
@@ -107,7 +106,7 @@ pub fn rows_are_confirmed()
         (files : List (List Record)) (notes : List FileNote) → IsReadable job media text
         → AreRecords (map text job.captures) files notes
         → All (λ claim. FindsOf (media_for (reading_back job name) media claim.key)
-        (reading_back job name) claim text (Ok true)) (fails_of (rows_over job.joined job.options media files)) }
+        (reading_back job name) claim text (Ok true)) (fails_of (rows job media files)) }
 {}
 
 /// The JSON of results of captures is read back as their violations in order, if it isn't longer than a report may be.
@@ -116,15 +115,15 @@ pub fn json_verifies()
     ensures told { (job : CheckJob) (media : List Media) (text : List ℕ → List ℕ)
         (files : List (List Record)) (notes : List FileNote) → IsReadable job media text
         → AreRecords (map text job.captures) files notes
-        → length (json_text job media notes (rows_over job.joined job.options media files)) ≤ 16777216
-        → IsReport (json_text job media notes (rows_over job.joined job.options media files))
-        (fails_of (rows_over job.joined job.options media files)) }
+        → length (json_text job media notes (rows job media files)) ≤ 16777216
+        → IsReport (json_text job media notes (rows job media files))
+        (fails_of (rows job media files)) }
     ensures status { (job : CheckJob) (media : List Media) (text : List ℕ → List ℕ) (name : List ℕ)
         (files : List (List Record)) (notes : List FileNote) (claims : List ReportProof)
         (verified : Answer) → IsReadable job media text
         → AreRecords (map text job.captures) files notes
-        → IsReport (json_text job media notes (rows_over job.joined job.options media files)) claims
-        → HasReported (reading_back job name) media claims text verified
+        → IsReport (json_text job media notes (rows job media files)) claims
+        → HasReported (reading_back job name) media (asked job.media claims) text verified
         → verified.status ≡ status.Pass }
 {}
 
@@ -145,7 +144,7 @@ pub fn report_verifies()
         (name : List ℕ) (answer : Answer) (claims : List ReportProof) (verified : Answer)
         → IsReadable job media text → job.json ≡ true
         → HasReport job media (map text job.captures) answer → IsReport answer.text claims
-        → HasReported (reading_back job name) media claims text verified
+        → HasReported (reading_back job name) media (asked job.media claims) text verified
         → verified.status ≡ status.Pass }
 {}
 
