@@ -2,6 +2,7 @@ mod Asking
 mod Begun
 mod Captured
 mod Choosing
+mod ChosenRows
 mod Confirming
 mod Crewing
 mod Ending

@@ -1,6 +1,6 @@
 -- The output and status of `check`, by the contents of its inputs: the report, as a function of the media of the SDP
 -- and of the packet records of the captures. No definition depends on the number of workers. Media count from 0.
-use Rattle.std.specs.Prelude.{◌≡◌, if◌then◌else◌, true, ℕ, List, map}
+use Rattle.std.specs.Prelude.{◌≡◌, if◌then◌else◌, true, ℕ, List, map, Some}
 use Rattle.timing_base.specs.Captures.{Record}
 use Rattle.timing_base.specs.Choices.{chosen, first_chosen, row_from}
 use Rattle.timing_base.specs.Jobs.{CheckJob}
@@ -20,6 +20,10 @@ use Rattle.timing_steps.specs.Queries.{HasAnswer, Query}
 abbrev pub rows : CheckJob → List Media → List (List Record) → List Row
 rows job media files =
     map (row_from (first_chosen job.media)) (rows_over job.joined job.options (chosen job.media media) files)
+
+-- the same job for one chosen media
+abbrev pub with_choice : ℕ → CheckJob → CheckJob
+with_choice number job = record job { media = Some number }
 
 -- the report as text or as JSON
 abbrev pub printed : CheckJob → List Media → List FileNote → List Row → List ℕ

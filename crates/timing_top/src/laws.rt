@@ -1,6 +1,6 @@
 //! Laws of the definitions. Each function is a theorem: it does nothing, and its clauses are proved.
 
-ghost use Rattle.std.specs.Prelude.{◌≡◌, ◌⊎◌, [], ◌∷◌, ℕ, Bool, List, All, Option, Some, None, Result, Ok, Err, false, ◌≤◌, length, true, map};
+ghost use Rattle.std.specs.Prelude.{◌≡◌, ◌⊎◌, [], ◌∷◌, ℕ, Bool, List, All, Option, Some, None, Result, Ok, Err, false, filter, ◌==◌, ◌≤◌, length, true, map};
 ghost use Rattle.timing_base.specs.Examples.{plain_media};
 ghost use Rattle.timing_words.specs.declared.request.Request.{Request};
 ghost use Rattle.timing_words.specs.declared.request.Request.TheVariants as asks;
@@ -18,7 +18,7 @@ ghost use Rattle.timing_top.specs.SelfTest.{HasSelfTest};
 ghost use Rattle.timing_words.specs.Request.{request};
 ghost use Rattle.timing_base.specs.Jobs.{CheckJob, IsCheckJob};
 ghost use Rattle.timing_base.specs.Media.{Media, IsMedia};
-ghost use Rattle.timing_top.specs.Report.{HasReport, check_query, rows};
+ghost use Rattle.timing_top.specs.Report.{HasReport, check_query, rows, with_choice};
 ghost use Rattle.timing_top.specs.Runs.{RanAs, prints_whole};
 ghost use Rattle.timing_base.specs.Captures.{Record};
 ghost use Rattle.timing_base.specs.declared.capture.FileNote.{FileNote};
@@ -80,6 +80,13 @@ pub fn one_report()
         → (answer : Answer) × HasReport job media texts answer }
     ensures once { (job : CheckJob) (media : List Media) (texts : List (List ℕ)) (a b : Answer)
         → HasReport job media texts a → HasReport job media texts b → a ≡ b }
+{}
+
+/// The report of a chosen media has the results of this media that the report of all media has, under the same number,
+/// and no others.
+pub fn chosen_rows()
+    ensures { (job : CheckJob) (number : ℕ) (media : List Media) (files : List (List Record)) → job.media ≡ None
+        → rows (with_choice number job) media files ≡ filter (λ row. row.key.media == number) (rows job media files) }
 {}
 
 /// A sender type passes in a report exactly if no interval of judged packets has more packets than C_MAX plus the drain
