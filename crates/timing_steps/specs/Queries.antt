@@ -1,11 +1,10 @@
 -- What a command asks of its inputs, and the outcomes that their contents define, in the order in which they are read:
 -- the SDP, then the captures. This project's profile.
-use Rattle.std.specs.Prelude.{◌≡◌, ◌⊎◌, ℕ, Bool, true, false, List, [], ◌∷◌, ◌++◌, map, slice_index_or, Option}
+use Rattle.std.specs.Prelude.{◌≡◌, ◌⊎◌, ℕ, Bool, true, false, List, [], ◌∷◌, ◌++◌, map, Option}
 use Rattle.std.specs.Prelude.{Some, None, Result, Ok}
 use Rattle.timing_base.specs.Captures.{Record}
 use Rattle.timing_base.specs.Media.{Media}
 use Rattle.timing_base.specs.declared.capture.FileNote.{FileNote}
-use Rattle.timing_base.specs.declared.capture.FileNote.TheVariants.{End}
 use Rattle.pcap_reader.specs.Records.{AreRecords}
 use Rattle.pcapng_reader.specs.Classic.{classic}
 use Rattle.sdp_reader.specs.Session.{session}
@@ -31,14 +30,6 @@ pub record Query : Type 1 where
 -- the names of all inputs
 abbrev pub inputs_of : Query → List (List ℕ)
 inputs_of query = query.sdp ∷ query.captures
-
--- the packet records of the only capture
-abbrev pub only_file : List (List Record) → List Record
-only_file files = slice_index_or files 0 []
-
--- the end of the only capture
-abbrev pub only_note : List FileNote → FileNote
-only_note notes = slice_index_or notes 0 End
 
 -- an answer over these media, and over classic captures with these contents
 pub record HasAnswer (query : Query) (media : List Media) (texts : List (List ℕ)) (answer : Answer) : Type 0 where

@@ -9,6 +9,7 @@
 
 mod answer;
 mod capture;
+mod captures;
 mod command;
 mod failure;
 mod fetch;
@@ -20,10 +21,11 @@ mod text;
 
 pub use answer::Answer;
 pub use capture::take_capture;
+pub use captures::{TakenCaptures, take_captures, take_sources};
 pub use command::{Command, begin, run_command};
 pub use failure::Failure;
 pub use fetch::{fetch_captures, fetch_classic, fetch_session, give_back, give_back_all};
-pub use flow::{early_of_media, media_of};
+pub use flow::{chosen_media, early_of_choice, early_of_media, first_chosen, media_of, not_judged};
 pub use print::conclude;
 pub use take::take_source;
 pub use text::fetch_front;
