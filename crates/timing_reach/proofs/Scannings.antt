@@ -10,7 +10,6 @@ use Rattle.timing_base.specs.declared.job.ScanForm.{ScanForm}
 use Rattle.timing_base.specs.declared.job.ScanForm.TheVariants.{Draft, Json, Lines}
 use Rattle.capture_scan.specs.Scans.{IsFound}
 use Rattle.capture_scan.specs.Stands.{StandsFor, Takes}
-use Rattle.capture_scan.specs.declared.found.Found.{Found}
 use Rattle.capture_scan.specs.declared.scan.Scan.{Scan}
 use Rattle.std.proofs.lemmas.Bool.{false≢true}
 use Rattle.pcap_reader.specs.Header.{header}
@@ -18,7 +17,8 @@ use Rattle.pcap_reader.specs.Records.{Records}
 use Rattle.pcap_reader.specs.declared.records.Taken.{Taken}
 use Rattle.pcap_reader.proofs.Lists.{only_by, some_by}
 use Rattle.pcapng_reader.specs.Classic.{classic, classic_texts}
-use Rattle.capture_scan.specs.report.Contents.{Contents, contents_of}
+use Rattle.capture_scan.specs.report.Contents.{Contents, contents, contents_of}
+use Rattle.capture_scan.proofs.lemmas.report.Founds.{found-contents}
 use Rattle.timing_report.specs.Outcomes.{is_refused}
 use Rattle.timing_report.specs.declared.status.Status.{Status}
 use Rattle.timing_report.specs.declared.status.Status.TheVariants as status
@@ -32,21 +32,10 @@ use Rattle.timing_steps.specs.declared.failure.Failure.{Failure}
 use Rattle.timing_steps.specs.declared.failure.Failure.TheVariants as failure
 use Rattle.timing_steps.proofs.Seeing.{rose-within}
 use Rattle.timing_reach.specs.Asked.{ReadsCapture}
-use Rattle.timing_reach.specs.Scanned.{HasScan, ScanInputRose, contents, scan_ends, scan_status, scanned}
+use Rattle.timing_reach.specs.Scanned.{HasScan, ScanInputRose, scan_ends, scan_status, scanned}
 use Rattle.timing_reach.specs.scan.Scanning.{IsScannedIn}
 use Rattle.timing_reach.specs.declared.scan.Scanned.{Scanned}
 use Rattle.timing_reach.proofs.Takings.{fed-alone}
-
--- what was found is what is told
-pub found-contents : (items : List Record) (found : Found) → IsFound items found → contents_of found ≡ contents items
-found-contents items found h = λ i. record {
-  records = h.records_are i;
-  span = h.span_is i;
-  passed_over = h.passed_over_are i;
-  streams = h.streams_are i;
-  unread = h.unread_are i;
-  more = h.more_is i;
-}
 
 -- the records of a capture were taken by a scan that had none
 pub scanned-in : (text : List ℕ) (old new : Scan) (read : Taken) (s : Scanned) → StandsFor old [] → TakesText Takes text 0 old new read

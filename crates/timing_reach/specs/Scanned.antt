@@ -1,16 +1,14 @@
 -- The output and status of `scan`, by the contents of its capture: the streams of the capture and what else it
 -- contains, as lines of text, as JSON (RFC 8259), or as the draft of an SDP (RFC 4566). One capture is read, and no
 -- SDP. Packet records count from 1. This project's profile.
-use Rattle.std.specs.Prelude.{◌≡◌, ◌+◌, ◌^◌, ◌==◌, ◌||◌, if◌then◌else◌, ℕ, Bool, true, false, List, [], length, Result}
+use Rattle.std.specs.Prelude.{◌≡◌, ◌^◌, ◌==◌, ◌||◌, if◌then◌else◌, ℕ, Bool, true, false, List, [], ◌∷◌, length, Result}
 use Rattle.timing_base.specs.Captures.{Record}
 use Rattle.timing_base.specs.Jobs.{ScanJob}
 use Rattle.timing_base.specs.declared.capture.FileNote.{FileNote}
 use Rattle.timing_base.specs.declared.job.ScanForm.{ScanForm}
 use Rattle.timing_base.specs.declared.job.ScanForm.TheVariants.{Draft, Json, Lines}
-use Rattle.capture_scan.specs.Scans.{more_packets, more_unread, packets, passed_over, span_of, streams, unread}
-use Rattle.capture_scan.specs.Scans.{unread_targets}
 use Rattle.pcap_reader.specs.Records.{Records}
-use Rattle.capture_scan.specs.report.Contents.{Contents}
+use Rattle.capture_scan.specs.report.Contents.{Contents, contents}
 use Rattle.capture_scan.specs.report.Draft.{draft_text, videos_of}
 use Rattle.capture_scan.specs.report.Json.{json_text}
 use Rattle.capture_scan.specs.report.Text.{contents_text}
@@ -23,17 +21,6 @@ use Rattle.timing_report.specs.declared.status.Status.TheVariants as status
 use Rattle.timing_steps.specs.Answers.{Answer, Gives, HasRisen, Inputs, Yields}
 use Rattle.timing_steps.specs.declared.failure.Failure.{Failure}
 use Rattle.timing_reach.specs.Asked.{ReadsCapture}
-
--- the result of a scan of these packet records
-abbrev pub contents : List Record → Contents
-contents records = record {
-  records = length records;
-  span = span_of records;
-  passed_over = passed_over records;
-  streams = streams (packets records);
-  unread = unread_targets (unread records);
-  more = more_packets (packets records) + more_unread (unread records);
-}
 
 -- 4 if there is no stream (in a draft: no video), or the capture was refused as malformed; else 0
 abbrev pub scan_status : FileNote → (told : ℕ) → Status
@@ -52,7 +39,7 @@ told note c text = record { text = text; status = scan_status note (length c.str
 
 -- the answer in each form, for a capture with this name that ends in this way and has this result
 abbrev pub scanned : ScanForm → (name : List ℕ) → FileNote → Contents → Answer
-scanned Lines name note c = told note c (contents_text name note c)
+scanned Lines name note c = told note c (contents_text (name ∷ []) (note ∷ []) c)
 scanned Json name note c = told note c (json_text name note c)
 scanned Draft name note c = drafted note (videos_of c.streams)
 

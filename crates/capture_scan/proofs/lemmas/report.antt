@@ -9,3 +9,5 @@ mod DraftLines
 mod DraftParts
 pub mod DraftFaults
 pub mod Drafted
+pub mod Headings
+pub mod Founds

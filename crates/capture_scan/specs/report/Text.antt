@@ -20,11 +20,26 @@ use Rattle.capture_scan.specs.report.Draft.{has_fields}
 use Rattle.capture_scan.specs.report.Rates.{has_steps_of, nearest, rate_text}
 use Rattle.capture_scan.specs.declared.report.rate.FrameRate.{FrameRate}
 
--- `capture NAME: NOTE, R records, S streams`
-abbrev pub heading : List ℕ → FileNote → Contents → List ℕ
-heading name note c =
-    codes "capture " ++ (name ++ (codes ": " ++ (note_text note ++ (codes ", " ++ (decimal c.records
-    ++ (codes " records, " ++ (decimal (length c.streams) ++ codes " streams\n")))))))
+-- `capture NAME: NOTE`, followed by `after`
+abbrev pub capture_told : (after name : List ℕ) → FileNote → List ℕ
+capture_told after name note = codes "capture " ++ (name ++ (codes ": " ++ (note_text note ++ after)))
+
+-- the same for each capture, by their names and how each ends
+abbrev pub captures_told : (after : List ℕ) → (names : List (List ℕ)) → List FileNote → List ℕ
+captures_told after (name ∷ names) (note ∷ notes) = capture_told after name note ++ captures_told after names notes
+captures_told after [] notes = []
+captures_told after (name ∷ names) [] = []
+
+-- `R records, S streams`
+abbrev pub counts_told : Contents → List ℕ
+counts_told c = decimal c.records ++ (codes " records, " ++ (decimal (length c.streams) ++ codes " streams\n"))
+
+-- of one capture `capture NAME: NOTE, R records, S streams`; of several `capture NAME: NOTE` for each, and then
+-- `all captures: R records, S streams`
+abbrev pub heading : (names : List (List ℕ)) → List FileNote → Contents → List ℕ
+heading names notes c =
+    if length names == 1 then captures_told (codes ", ") names notes ++ counts_told c
+    else captures_told (codes "\n") names notes ++ (codes "all captures: " ++ counts_told c)
 
 -- `passed over N: WHAT`, if N isn't 0
 abbrev pub class_text : ℕ → List ℕ → List ℕ
@@ -138,9 +153,9 @@ abbrev pub streams_text : ℕ → List Stream → List ℕ
 streams_text number [] = []
 streams_text number (s ∷ rest) = stream_text number s ++ streams_text (number + 1) rest
 
--- the text of a scan
-abbrev pub contents_text : List ℕ → FileNote → Contents → List ℕ
-contents_text name note c =
-    heading name note c
+-- the text of a scan of captures with these names that end in these ways
+abbrev pub contents_text : (names : List (List ℕ)) → List FileNote → Contents → List ℕ
+contents_text names notes c =
+    heading names notes c
     ++ (passed_over_text c.passed_over
     ++ (flat_map unread_text c.unread ++ (more_text c.more ++ streams_text 1 c.streams)))

@@ -13,7 +13,7 @@ ghost use Rattle.timing_base.specs.declared.capture.FileNote.TheVariants as note
 ghost use Rattle.capture_scan.specs.report.Draft.{draft_text, has_fields, height_of, is_added, is_height_guessed, is_raw, seen_height, video_of, videos_of};
 ghost use Rattle.capture_scan.specs.report.Examples.{empty_contents, fields_to, frames_to, guessed_of_frames, mixed_contents, plain_contents, plain_stream, stream_of_478, stream_of_audio, stream_of_fields, ticks_in};
 ghost use Rattle.capture_scan.specs.report.Json.{json_text};
-ghost use Rattle.capture_scan.specs.report.Text.{contents_text};
+ghost use Rattle.capture_scan.specs.report.Text.{contents_text, heading};
 ghost use Rattle.capture_scan.specs.report.Rates.{denominator, drafted_rate, exact, faster, is_known, is_within, nearest, numerator, rate_text, ratio_with, slowed, slowest};
 
 /// The whole JSON of a capture with one stream.
@@ -143,7 +143,7 @@ pub fn guessed_draft_by_hand()
 /// The whole text of a capture with one stream.
 #[tactic(auto, unfolding(crate::proofs::lemmas::report::Numerals::scan_texts))]
 pub fn plain_text_by_hand()
-    ensures { contents_text (codes "a.pcap") note.End plain_contents
+    ensures { contents_text (codes "a.pcap" ∷ []) (note.End ∷ []) plain_contents
         ≡ codes "capture a.pcap: end, 41 records, 1 streams\n"
         ++ (codes "stream 1 from    192.0.2.1:50000 to 239.0.0.1:50000, ssrc 00000001, "
         ++ (codes "payload type 96 but for 0\n"
@@ -159,7 +159,7 @@ pub fn plain_text_by_hand()
 /// a stream of fields with a lost packet.
 #[tactic(auto, unfolding(crate::proofs::lemmas::report::Numerals::scan_texts))]
 pub fn mixed_text_by_hand()
-    ensures { contents_text (codes "b.pcap") (note.Cut 2904) mixed_contents
+    ensures { contents_text (codes "b.pcap" ∷ []) (note.Cut 2904 ∷ []) mixed_contents
         ≡ codes "capture b.pcap: cut at 2904, 51 records, 1 streams\n"
         ++ (codes "passed over 2: more than one VLAN tag, or a provider's\n"
         ++ (codes "passed over 1: IPv6\n"
@@ -173,6 +173,16 @@ pub fn mixed_text_by_hand()
         ++ (codes "stream 1 lost    1 of 41 sent (2.43 %), 0 back, 0 repeated, "
         ++ (codes "0 wraps without the extended number\n"
         ++ codes "stream 1 lines   540 in each of two fields\n"))))))))))) }
+{}
+
+/// The whole text of two captures that were taken as one and have no packet record, and the first lines of two captures
+/// with 41 packet records and one stream between them.
+#[tactic(auto, unfolding(crate::proofs::lemmas::report::Numerals::scan_texts))]
+pub fn two_captures_by_hand()
+    ensures empty { contents_text (codes "a.pcap" ∷ codes "b.pcap" ∷ []) (note.End ∷ note.Cut 24 ∷ []) empty_contents
+        ≡ codes "capture a.pcap: end\ncapture b.pcap: cut at 24\nall captures: 0 records, 0 streams\n" }
+    ensures first { heading (codes "a.pcap" ∷ codes "b.pcap" ∷ []) (note.Cut 1500 ∷ note.End ∷ []) plain_contents
+        ≡ codes "capture a.pcap: cut at 1500\ncapture b.pcap: end\nall captures: 41 records, 1 streams\n" }
 {}
 
 /// The list of guesses is exact. The rate is a guess if no known rate has a step within a hundredth of the mean. The

@@ -3,7 +3,7 @@
 ghost use Rattle.std.specs.Prelude.{◌≡◌, ◌++◌, ◌+◌, ◌*◌, ◌/◌, max, IfOk, codes, string_bytes};
 ghost use Rattle.std.specs.List.{flat_map};
 ghost use Rattle.capture_scan.specs.report.Contents.{contents_of};
-ghost use Rattle.capture_scan.specs.report.Text.{class_text, contents_text, frame_told, heading, key_text, known_rate, lines_told, loss_text, more_text, packets_text, passed_over_text, rate_told, stream_line, stream_text, streams_text, unread_text};
+ghost use Rattle.capture_scan.specs.report.Text.{capture_told, captures_told, class_text, contents_text, counts_told, frame_told, heading, key_text, known_rate, lines_told, loss_text, more_text, packets_text, passed_over_text, rate_told, stream_line, stream_text, streams_text, unread_text};
 ghost use Rattle.capture_scan.specs.report.Draft.{has_fields};
 
 use crate::report::draft::has_fields;
@@ -11,26 +11,71 @@ use crate::report::rate::FrameRate;
 use crate::{Found, Lines, Pace, PassedOver, Range, Stream, UnreadTarget};
 use std::alloc::{AllocError as OutOfMemory, Global};
 use std::fmt;
-use timing_base::FileNote;
+use timing_base::{FileName, FileNote};
 use timing_report::{NoteText, SsrcText};
 
-/// Adds the line of the capture.
-fn add_heading(
+/// Adds the name of a capture and how it ends, followed by `after`.
+fn add_capture(
     text: &mut String,
     name: &str,
-    note: FileNote,
+    note: &FileNote,
+    after: &str,
+) -> Result<(), OutOfMemory>
+    ensures { IfOk result (λ _. string_bytes text.new
+        ≡ string_bytes text.old ++ capture_told after.now name.now note.now) }
+{
+    let note = NoteText { note: *note };
+    write!(text, "capture {name}: {note}{after}")
+}
+
+/// Adds the name of each capture and how it ends, each followed by `after`. If the lists differ in length, the shorter
+/// one counts.
+fn add_captures(
+    text: &mut String,
+    names: &[FileName],
+    notes: &[FileNote],
+    after: &str,
+) -> Result<(), OutOfMemory>
+    ensures { IfOk result (λ _. string_bytes text.new
+        ≡ string_bytes text.old ++ captures_told after.now names.now notes.now) }
+{
+    for (file, name) in names.iter().enumerate() {
+        let Some(note) = notes.get(file) else {
+            return Ok(());
+        };
+        add_capture(text, name.as_str(), note, after)?;
+    }
+    Ok(())
+}
+
+/// Adds the numbers of packet records and of streams, and ends the line.
+fn add_counts(text: &mut String, found: &Found) -> Result<(), OutOfMemory>
+    ensures { IfOk result (λ _. string_bytes text.new
+        ≡ string_bytes text.old ++ counts_told (contents_of found.now)) }
+{
+    let records = found.records;
+    let streams = found.streams.len();
+    writeln!(text, "{records} records, {streams} streams")
+}
+
+/// Adds the line of one capture, or those of several.
+fn add_heading(
+    text: &mut String,
+    names: &[FileName],
+    notes: &[FileNote],
     found: &Found,
 ) -> Result<(), OutOfMemory>
     ensures { IfOk result (λ _. string_bytes text.new
-        ≡ string_bytes text.old ++ heading name.now note (contents_of found.now)) }
+        ≡ string_bytes text.old ++ heading names.now notes.now (contents_of found.now)) }
 {
-    let note = NoteText { note };
-    let records = found.records;
-    let streams = found.streams.len();
-    writeln!(
-        text,
-        "capture {name}: {note}, {records} records, {streams} streams"
-    )
+    if names.len() == 1 {
+        add_captures(text, names, notes, ", ")?;
+        add_counts(text, found)
+    } else {
+        add_captures(text, names, notes, "\n")?;
+        text.push_str("all captures: ")?;
+        add_counts(text, found)
+    }
 }
 
 /// Adds the line of a class of frames without a target, if there is such a frame.
@@ -441,23 +486,24 @@ fn add_held(text: &mut String, found: &Found) -> Result<(), OutOfMemory>
     add_streams(text, found.streams.as_slice())
 }
 
-/// Returns the result of a scan as lines of text. `name` is the name of the capture, and `note` how it ends.
+/// Returns the result of a scan as lines of text. `names` are the names of the captures whose packet records were
+/// taken, and `notes` how each of them ends, one note for each name.
 ///
-/// The capture stands first, then the classes of frames without a target, the targets with unread packets, and six
+/// The captures stand first, then the classes of frames without a target, the targets with unread packets, and six
 /// lines for each stream. A rate is printed if the least step is that of a known rate, in ticks rounded down or up. The
 /// lost share of what was sent is printed in hundredths of a percent, rounded down.
 ///
 /// Returns `Err` if memory runs out.
 pub fn text_of(
     alloc: Global,
-    name: &str,
-    note: FileNote,
+    names: &[FileName],
+    notes: &[FileNote],
     found: &Found,
 ) -> Result<String, OutOfMemory>
-    ensures { IfOk result (λ s. string_bytes s ≡ contents_text name.now note (contents_of found.now)) }
+    ensures { IfOk result (λ s. string_bytes s ≡ contents_text names.now notes.now (contents_of found.now)) }
 {
     let mut text = String::new(alloc);
-    add_heading(&mut text, name, note, found)?;
+    add_heading(&mut text, names, notes, found)?;
     add_passed_over(&mut text, &found.passed_over)?;
     add_held(&mut text, found)?;
     Ok(text)

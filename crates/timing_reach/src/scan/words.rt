@@ -9,6 +9,7 @@ use crate::scan::Scanned;
 use capture_scan::Found;
 use capture_scan::report::{Draft, json_of, text_of};
 use std::alloc::{AllocError as OutOfMemory, Global};
+use std::slice::from_ref;
 use timing_base::{FileNote, ScanForm, ScanJob};
 use timing_report::{Status, any_refused};
 use timing_steps::Answer;
@@ -49,7 +50,7 @@ pub fn scanned(alloc: Global, job: &ScanJob, read: &Scanned) -> Result<Answer, O
     let found = &read.found;
     let name = job.capture.as_str();
     let text = match job.form {
-        ScanForm::Lines => text_of(alloc, name, note, found)?,
+        ScanForm::Lines => text_of(alloc, from_ref(&job.capture), &[note], found)?,
         ScanForm::Json => json_of(alloc, name, note, found)?,
         ScanForm::Draft => return drafted(alloc, note, found),
     };
