@@ -12,11 +12,10 @@ use Rattle.timing_base.specs.Media.{Media}
 use Rattle.timing_base.specs.declared.capture.FileNote.{FileNote}
 use Rattle.flow_page.specs.Page.{page_of}
 use Rattle.flow_page.specs.declared.shown.FlowPage.{FlowPage}
-use Rattle.capture_scan.specs.report.Contents.{Contents}
+use Rattle.capture_scan.specs.report.Contents.{Contents, contents}
 use Rattle.capture_scan.specs.report.Text.{contents_text}
 use Rattle.timing_measure.specs.Each.{EachOf}
 use Rattle.timing_measure.specs.Measures.{has_run}
-use Rattle.timing_reach.specs.Scanned.{contents}
 use Rattle.timing_report.specs.Outcomes.{is_refused}
 use Rattle.timing_report.specs.declared.status.Status.{Status}
 use Rattle.timing_report.specs.declared.status.Status.TheVariants as status
