@@ -156,7 +156,7 @@ copying-poured gives o new now before count first reader old f g poured c more p
 }
 
 -- the packet records of a reader, in two parts, with their numbers in a run
-raised-parts : (before : ℕ) (items taken rest : List Record) → items ≡ taken ++ rest
+pub raised-parts : (before : ℕ) (items taken rest : List Record) → items ≡ taken ++ rest
     → map (raised before) items ≡ map (raised before) taken ++ map (raised before) rest
 raised-parts before items taken rest whole = ap (map (raised before)) whole ∙ map-append (raised before) taken rest
 
