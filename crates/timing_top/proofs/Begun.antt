@@ -1,8 +1,9 @@
 -- What follows for `check` from captures that were fetched and judged.
 use Rattle.std.proofs.Common.{◌≡◌, ℕ, List, ap, ◌∙◌, subst, inl}
-use Rattle.std.specs.Prelude.{IfErr, IfOk, Result, Ok, Err}
+use Rattle.std.specs.Prelude.{IfErr, IfOk, Result, Ok, Err, map}
 use Rattle.std.specs.Option.{option_map}
 use Rattle.timing_base.specs.Captures.{Record}
+use Rattle.timing_base.specs.Choices.{chosen, first_chosen, row_from}
 use Rattle.timing_base.specs.Jobs.{CheckJob}
 use Rattle.timing_base.specs.Media.{Media}
 use Rattle.timing_base.specs.declared.capture.FileNote.{FileNote}
@@ -11,6 +12,7 @@ use Rattle.timing_outside.specs.Shelves.{StaysAs}
 use Rattle.timing_outside.specs.declared.shelf.Shelf as shelf
 use Rattle.timing_outside.specs.declared.source.Source as source
 use Rattle.fail_interval.specs.Found.{AreFound}
+use Rattle.fail_interval.specs.Rows.{rows_over}
 use Rattle.pcapng_reader.specs.Classic.{classic, classic_texts}
 use Rattle.pcapng_reader.specs.Sources.{faults_of, left_of, name_of}
 use Rattle.pcapng_reader.specs.declared.source.Classic.{Classic}
@@ -23,21 +25,26 @@ use Rattle.timing_steps.specs.declared.failure.Failure.{Failure}
 use Rattle.timing_steps.specs.declared.failure.Failure.TheVariants as failure
 use Rattle.timing_steps.proofs.Capturing.{reads-all}
 use Rattle.timing_top.specs.Found.{Judges}
-use Rattle.timing_top.specs.Report.{HasReport, check_query, printed, rows}
+use Rattle.timing_top.specs.Report.{HasReport, check_query, printed}
 use Rattle.timing_top.specs.declared.captures.Found.{Found}
 use Rattle.timing_top.proofs.Following.{capture-earlier, fetched-same, told-same}
 
+-- the results of a job, of those that were found, whose media count from the first one that was judged
+abbrev pub renumbered : CheckJob → List Row → List Row
+renumbered job found = map (row_from (first_chosen job.media)) found
+
 -- captures with these contents have this report
 has-report : (job : CheckJob) (media : List Media) (texts : List (List ℕ)) (answer : Answer) (notes : List FileNote) (found : List Row)
-    → AreFound texts (rows job media) notes found → answer.text ≡ printed job media notes found → answer.status ≡ status_of media notes found
+    → AreFound texts (rows_over job.joined job.options (chosen job.media media)) notes found → answer.text ≡ printed job media notes (renumbered job found)
+    → answer.status ≡ status_of media notes (renumbered job found)
     → HasReport job media texts answer
 has-report job media texts answer notes found f text_is status_is = record {
   files = f.files;
   notes = notes;
   records = f.records;
   defined = record {
-    text_is = text_is ∙ ap (printed job media notes) f.rows_are;
-    status_is = status_is ∙ ap (status_of media notes) f.rows_are;
+    text_is = text_is ∙ ap (λ l. printed job media notes (renumbered job l)) f.rows_are;
+    status_is = status_is ∙ ap (λ l. status_of media notes (renumbered job l)) f.rows_are;
   };
 }
 
@@ -69,9 +76,9 @@ module _ {H S : Type 0} (tells : shelf.Ghosts H S) (from : source.Ghosts S) wher
     follows-failed e is = reads-all (check_query job) media (seen_of tells old new) (Err e) tt tt (judged-rose e is)
 
     -- what was found in the captures is the report
-    pub follows-report : (outcome : Result Answer Failure) (f : Found) → found ≡ Ok f → table ≡ rows job media
-        → IfOk outcome (λ answer. answer.text ≡ printed job media f.notes.items f.rows.items)
-        → IfOk outcome (λ answer. answer.status ≡ status_of media f.notes.items f.rows.items)
+    pub follows-report : (outcome : Result Answer Failure) (f : Found) → found ≡ Ok f → table ≡ rows_over job.joined job.options (chosen job.media media)
+        → IfOk outcome (λ answer. answer.text ≡ printed job media f.notes.items (renumbered job f.rows.items))
+        → IfOk outcome (λ answer. answer.status ≡ status_of media f.notes.items (renumbered job f.rows.items))
         → IfErr outcome (λ e. e ≡ failure.OutOfMemory)
         → FollowsCaptures (check_query job) media (seen_of tells old new) outcome
     follows-report (Err e) f is same text status memory = inl (ap Err memory)

@@ -1,9 +1,11 @@
 -- What the rows of a job tell of the sender types.
 use Rattle.std.proofs.Common.{◌≡◌, ◌≤◌, ◌+◌, ◌*◌, ◌^◌, ℕ, zero, suc, Bool, true, false, List, [], ◌∷◌, length, Some, refl, arith, ap, ◌∙◌, sym}
-use Rattle.std.proofs.lemmas.List.Elements.{All-append, All-cons, All-head, All-nil, All-tail, All-weaker}
+use Rattle.std.proofs.lemmas.List.Elements.{All-append, All-cons, All-head, All-map, All-nil, All-tail, All-weaker}
 use Rattle.std.specs.Prelude.{All, map, slice_get}
 use Rattle.timing_base.specs.Shifts.{AreFlowOptions, FlowOptions}
 use Rattle.timing_base.specs.Captures.{Record, joined}
+use Rattle.timing_base.specs.Choices.{chosen, first_chosen, row_from}
+use Rattle.timing_base.specs.Jobs.{CheckJob}
 use Rattle.timing_base.specs.Grouped.{IsGrouped, IsGroupedOutcome, IsGroupedVerdict}
 use Rattle.timing_base.specs.Judged.{FlowRun, FlowVerdict, JudgedRun, RunOutcome, absent, gap, in_one_run, in_runs, judged, no_whole_frame, refused}
 use Rattle.timing_base.specs.Judged.{whole_frames}
@@ -23,6 +25,8 @@ use Rattle.fail_interval.proofs.Confirmed.{fail-confirms, keeps-pass, pass-keeps
 use Rattle.fail_interval.specs.Rows.{rows_from, rows_of, rows_of_files, rows_over}
 use Rattle.timing_top.specs.Exact.{AreExact, IsExact, IsExactRow, TellRuns, TellsFlow, TellsRun}
 use Rattle.pcapng_reader.specs.Bytes.{AreBytes}
+use Rattle.timing_top.specs.Report.{rows}
+use Rattle.timing_top.proofs.Choosing.{chosen-all, chosen-get}
 use Rattle.timing_top.proofs.Small.{flow-grouped, joined-small, one-small}
 
 -- the verdicts on a judged run
@@ -126,7 +130,7 @@ files-rows media options first (t ∷ ts) [] notes shifts are bytes h = absurd h
 files-rows media options first (t ∷ ts) (f ∷ fs) [] shifts are bytes h = absurd h
 
 -- what the rows of captures tell
-pub rows-exact : (b : Bool) (options : FlowOptions) (media : List Media) (texts : List (List ℕ)) (files : List (List Record)) (notes : List FileNote)
+rows-exact : (b : Bool) (options : FlowOptions) (media : List Media) (texts : List (List ℕ)) (files : List (List Record)) (notes : List FileNote)
     → AreFlowOptions options
     → length texts ≤ 16 → All IsMedia media
     → All AreBytes texts → AreRecords texts files notes → All (IsExactRow b options media files) (rows_over b options media files)
@@ -141,3 +145,21 @@ rows-exact false options media texts files notes shifts few are bytes h =
     (λ r k. let e : k.place ≡ r.key.file = omega (arith, k.file_is) in
     record { m = k.m; media_is = k.there; items = k.items; items_are = ap (slice_get files) (sym e) ∙ k.found; tells = k.tells })
     (rows_of_files options 0 media files) (files-rows media options 0 texts files notes shifts are bytes h)
+
+-- what the results of a job tell
+pub job-exact : (job : CheckJob) (media : List Media) (texts : List (List ℕ)) (files : List (List Record)) (notes : List FileNote)
+    → AreFlowOptions job.options → length texts ≤ 16 → All IsMedia media → All AreBytes texts → AreRecords texts files notes
+    → All (IsExactRow job.joined job.options media files) (rows job media files)
+job-exact job media texts files notes shifts few are bytes h =
+    let judged = chosen job.media media in
+    let all = rows_over job.joined job.options judged files in
+    All-map (IsExactRow job.joined job.options media files) (row_from (first_chosen job.media)) all
+    (All-weaker (IsExactRow job.joined job.options judged files) (λ r. IsExactRow job.joined job.options media files (row_from (first_chosen job.media) r))
+    (λ r k. record {
+      m = k.m;
+      media_is = chosen-get job.media media r.key.media k.m k.media_is;
+      items = k.items;
+      items_are = k.items_are;
+      tells = k.tells;
+    }) all
+    (rows-exact job.joined job.options judged texts files notes shifts few (chosen-all IsMedia job.media media are) bytes h))

@@ -15,17 +15,18 @@ use Rattle.sdp_reader.proofs.Within.{session-within}
 use Rattle.timing_report.specs.declared.status.Status.{Status}
 use Rattle.timing_report.specs.declared.status.Status.TheVariants as status
 use Rattle.timing_steps.specs.Answers.{Answer, AreTold, Gives, Inputs, OnSession, ReadsCaptures, silent}
-use Rattle.timing_steps.specs.Queries.{FollowsQuery, QueryInputRose}
+use Rattle.timing_steps.specs.Flows.{no_choice}
+use Rattle.timing_steps.specs.Queries.{FollowsQuery, OnEarly, QueryInputRose}
 use Rattle.timing_steps.specs.Ran.{Appended, Broke, HasCause, Leaves, Output, Ran}
 use Rattle.timing_steps.specs.declared.failure.Failure.{Failure}
 use Rattle.timing_steps.specs.declared.failure.Failure.TheVariants as failure
 use Rattle.timing_words.specs.Request.{request as request_of}
 use Rattle.timing_words.proofs.Limits.{request-within}
 use Rattle.timing_top.specs.Asked.{Follows, FollowsAtOnce, InputRose}
-use Rattle.timing_top.specs.Headline.{Headline, IsTheReport, NoRequest, out_of_memory, refused, reported, unread, unwritten, with_workers}
+use Rattle.timing_top.specs.Headline.{Headline, IsSettledOr, IsTheAnswer, IsTheReport, NoRequest, out_of_memory, refused, reported, unread, unwritten, with_workers}
 use Rattle.timing_top.specs.Report.{HasReport, check_query}
 use Rattle.timing_steps.proofs.Onces.{ok-not-err, same-ok}
-use Rattle.timing_top.proofs.Exact.{rows-exact}
+use Rattle.timing_top.proofs.Exact.{job-exact}
 use Rattle.timing_top.proofs.Reports.{only-report}
 
 -- the number of workers is in no report
@@ -51,11 +52,19 @@ same-follows job workers i outcome (inr (inr read)) = inr (inr (read.0, λ text 
     captured media (inl failed) = inl failed
     captured media (inr read) = inr (read.0, λ texts told. let g = read.1 texts told in (g.0, g.1, same-report job workers media (map classic texts) g.0 g.2))
 
+    early : (media : List Media) (settled : Option Answer)
+        → OnEarly settled outcome (ReadsCaptures i outcome job.captures (λ texts. Gives outcome (HasReport job media texts)))
+        → OnEarly settled outcome (ReadsCaptures i outcome job.captures (λ texts. Gives outcome (HasReport (with_workers workers job) media texts)))
+    early media (Some settled) h = h
+    early media None h = captured media h
+
     on : (s : Result (List Media) SdpFault)
-        → OnSession s outcome (λ media. ReadsCaptures i outcome job.captures (λ texts. Gives outcome (HasReport job media texts)))
-        → OnSession s outcome (λ media. ReadsCaptures i outcome job.captures (λ texts. Gives outcome (HasReport (with_workers workers job) media texts)))
+        → OnSession s outcome (λ media. OnEarly (no_choice job.media media) outcome
+        (ReadsCaptures i outcome job.captures (λ texts. Gives outcome (HasReport job media texts))))
+        → OnSession s outcome (λ media. OnEarly (no_choice job.media media) outcome
+        (ReadsCaptures i outcome job.captures (λ texts. Gives outcome (HasReport (with_workers workers job) media texts))))
     on (Err fault) h = h
-    on (Ok media) h = captured media h
+    on (Ok media) h = early media (no_choice job.media media) h
 
 -- each name that is told has a text
 told-length : (texts : List ℕ → Option (List ℕ)) (names told : List (List ℕ)) → AreTold texts names told → length told ≡ length names
@@ -71,14 +80,14 @@ the-report job media captures answer is are bytes many h = record {
   defined = h;
   only = λ other k. only-report job media (map classic captures) other answer k h;
   workers = λ number. same-report job number media (map classic captures) answer h;
-  rows_are = rows-exact job.joined job.options media (map classic captures) h.files h.notes is.options_are
+  rows_are = job-exact job media (map classic captures) h.files h.notes is.options_are
       (omega (arith, length-map captures classic, many, is.captures_are.few)) are (each-bytes captures bytes) h.records;
 }
 
--- what there is to print: nothing, with the first fault of the description as the status, or the report
+-- what there is to print: nothing, with the first fault of the description as the status, or the answer over its media
 abbrev IsToPrint : CheckJob → Result (List Media) SdpFault → (captures : List (List ℕ)) → Answer → Type 0
 IsToPrint job (Err fault) captures answer = answer ≡ silent (status.SdpRefused fault)
-IsToPrint job (Ok media) captures answer = IsTheReport job media captures answer
+IsToPrint job (Ok media) captures answer = IsTheAnswer job media captures answer
 
 -- what an answer of `check` is
 to-print : (job : CheckJob) (i : Inputs) (sdp : List ℕ) (captures : List (List ℕ)) (answer : Answer) → IsCheckJob job → i.texts job.sdp ≡ Some sdp
@@ -95,11 +104,18 @@ to-print job i sdp captures answer is told are bytes (inr (inr read)) = on (sess
         the-report job media captures answer is each bytes (told-length i.texts job.captures captures are)
         (subst (HasReport job media (map classic captures)) (same-ok g.0 answer (Ok answer) g.1 refl) g.2)
 
+    early : (media : List Media) (settled : Option Answer) → All IsMedia media
+        → OnEarly settled (Ok answer) (ReadsCaptures i (Ok answer) job.captures (λ texts. Gives (Ok answer) (HasReport job media texts)))
+        → IsSettledOr settled answer (IsTheReport job media captures answer)
+    early media (Some settled) each h = same-ok answer h.0 (Ok answer) refl h.1 ∙ h.2
+    early media None each h = captured media each h
+
     on : (s : Result (List Media) SdpFault) → session sdp ≡ s
-        → OnSession s (Ok answer) (λ media. ReadsCaptures i (Ok answer) job.captures (λ texts. Gives (Ok answer) (HasReport job media texts)))
+        → OnSession s (Ok answer) (λ media. OnEarly (no_choice job.media media) (Ok answer)
+        (ReadsCaptures i (Ok answer) job.captures (λ texts. Gives (Ok answer) (HasReport job media texts))))
         → IsToPrint job s captures answer
     on (Err fault) e h = same-ok answer h.0 (Ok answer) refl h.1 ∙ h.2
-    on (Ok media) e h = captured media (session-within sdp media e) h
+    on (Ok media) e h = early media (no_choice job.media media) (session-within sdp media e) h
 
 -- an answer that was printed, by what it is
 printed-whole : (job : CheckJob) (sdp : List ℕ) (captures : List (List ℕ)) (i : Inputs) (o : Output) (ends : Status)

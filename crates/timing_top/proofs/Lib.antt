@@ -1,6 +1,8 @@
 mod Asking
 mod Begun
 mod Captured
+mod Choosing
+mod ChosenRows
 mod Confirming
 mod Crewing
 mod Ending
@@ -9,6 +11,7 @@ mod Finding
 mod Following
 mod Headlines
 mod Measurable
+mod Numbering
 mod ReadBack
 mod Reported
 mod Reports

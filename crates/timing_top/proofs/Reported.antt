@@ -1,5 +1,5 @@
 -- The texts of `verify-report` define one answer: its report decides which captures are read.
-use Rattle.std.proofs.Common.{◌≡◌, ◌⊎◌, ℕ, List, [], ◌∷◌, Some, refl, ap, subst, inl, inr}
+use Rattle.std.proofs.Common.{◌≡◌, ◌⊎◌, ℕ, List, [], ◌∷◌, Option, Some, None, refl, ap, sym, ◌∙◌, subst, inl, inr}
 use Rattle.std.specs.Prelude.{All, Result, Ok, Err, slice_index_or}
 use Rattle.std.proofs.lemmas.List.Elements.{All-head, All-tail}
 use Rattle.timing_base.specs.Jobs.{ReportJob}
@@ -12,7 +12,9 @@ use Rattle.timing_report.specs.declared.status.Input.TheVariants as input
 use Rattle.timing_report.specs.declared.status.Status.TheVariants as status
 use Rattle.timing_steps.specs.Answers.{Answer, AreThere, AreTold, Gives, HasRisen, Inputs, ReadsSession, silent}
 use Rattle.timing_steps.specs.declared.failure.Failure.{Failure}
-use Rattle.timing_top.specs.verify.Asked.{FollowsReport, HasReported, OnReport, ReadsNeeded, ReadsReport, ReportInputRose, needed}
+use Rattle.timing_steps.specs.Flows.{no_choice}
+use Rattle.timing_steps.specs.Queries.{OnEarly}
+use Rattle.timing_top.specs.verify.Asked.{AnswersClaims, AnswersSession, FollowsReport, HasReported, OnReport, ReadsReport, ReportInputRose, asked, needed}
 use Rattle.timing_report.proofs.lemmas.json_report.Decided.{only-claims, report-decided}
 use Rattle.timing_top.proofs.lemmas.verify.Answered.{needed-all, same-needed, same-reported, text_in, told-needed}
 use Rattle.timing_top.proofs.lemmas.verify.Unique.{only-reported, some-reported}
@@ -63,16 +65,27 @@ read-failed : (i : Inputs) (name report : List ℕ) (Next : List ReportProof →
 read-failed i name report Next e Rises told rises caused (inl h) = inr (input.Report, same-err e _ (Err e) refl h.0, rises h.1)
 read-failed i name report Next e Rises told rises caused (inr h) = on_report-failed report Next e Rises caused (h.1 report told)
 
--- the captures that the fails of a report need
-abbrev AfterReport : ReportJob → Inputs → Result Answer Failure → List Media → List ReportProof → Type 0
-AfterReport job i outcome media claims = ReadsNeeded i outcome job media claims (λ text. Gives outcome (HasReported job media claims text))
+-- an answer that media may settle
+some-early : (settled : Option Answer) (Next : Answer → Type 0) → (answer : Answer) × Next answer → (answer : Answer) × OnEarly settled (Ok answer) (Next answer)
+some-early (Some settled) Next h = (settled, (settled, refl, refl))
+some-early None Next h = h
+
+only-early : (settled : Option Answer) (Next : Answer → Type 0) (a b : Answer) → (Next a → Next b → a ≡ b)
+    → OnEarly settled (Ok a) (Next a) → OnEarly settled (Ok b) (Next b) → a ≡ b
+only-early (Some settled) Next a b once h k = only-given (λ answer. answer ≡ settled) a b (λ x y p q. p ∙ sym q) h k
+only-early None Next a b once h k = once h k
+
+early-failed : (settled : Option Answer) (Next : Type 0) (e : Failure) (Rises : Input → Type 0) → (Next → Caused e Rises) → OnEarly settled (Err e) Next
+    → Caused e Rises
+early-failed (Some settled) Next e Rises caused h = absurd (not-given (λ answer. answer ≡ settled) e h)
+early-failed None Next e Rises caused h = caused h
 
 -- the texts that the names are told, as classic captures
 abbrev classic_in : Inputs → List ℕ → List ℕ
 classic_in i name = classic (text_in i.texts name)
 
 some-needed : (job : ReportJob) (i : Inputs) (media : List Media) (claims : List ReportProof) → AreThere i.lacks job.captures → (answer : Answer)
-    × AfterReport job i (Ok answer) media claims
+    × AnswersClaims job i (Ok answer) media claims
 some-needed job i media claims there =
     let found = some-reported job media claims (classic_in i) in (
       found.0,
@@ -88,7 +101,7 @@ some-needed job i media claims there =
 
 only-needed : (job : ReportJob) (i : Inputs) (media : List Media) (claims : List ReportProof) (told : List (List ℕ)) (a b : Answer)
     → AreTold i.texts job.captures told
-    → AfterReport job i (Ok a) media claims → AfterReport job i (Ok b) media claims → a ≡ b
+    → AnswersClaims job i (Ok a) media claims → AnswersClaims job i (Ok b) media claims → a ≡ b
 only-needed job i media claims told a b are (inl h) k = absurd (ok-not-err a _ (Ok a) refl h.1)
 only-needed job i media claims told a b are (inr h) (inl k) = absurd (ok-not-err b _ (Ok b) refl k.1)
 only-needed job i media claims told a b are (inr h) (inr k) =
@@ -98,14 +111,14 @@ only-needed job i media claims told a b are (inr h) (inr k) =
 
 needed-failed : (job : ReportJob) (i : Inputs) (media : List Media) (claims : List ReportProof) (told : List (List ℕ)) (e : Failure)
     → AreTold i.texts job.captures told
-    → AfterReport job i (Err e) media claims → Caused e (ReportInputRose job i)
+    → AnswersClaims job i (Err e) media claims → Caused e (ReportInputRose job i)
 needed-failed job i media claims told e are (inl h) = inr (input.Capture h.0, same-err e _ (Err e) refl h.1, h.2.rose)
 needed-failed job i media claims told e are (inr h) =
     absurd (not-given (HasReported job media claims (classic_in i)) e (h.1 (text_in i.texts) (told-needed i.texts job media claims told are)))
 
--- what follows the session
-abbrev AfterSession : ReportJob → Inputs → Result Answer Failure → List Media → Type 0
-AfterSession job i outcome media = ReadsReport i outcome job.report (AfterReport job i outcome media)
+-- what follows for the report that was read
+abbrev AfterReport : ReportJob → Inputs → Result Answer Failure → List Media → List ReportProof → Type 0
+AfterReport job i outcome media claims = AnswersClaims job i outcome media (asked job.media claims)
 
 pub some-reread : (job : ReportJob) (i : Inputs) (texts : List (List ℕ)) → AreThere i.lacks (job.sdp ∷ job.report ∷ job.captures)
     → AreTold i.texts (job.sdp ∷ job.report ∷ job.captures) texts
@@ -114,29 +127,32 @@ some-reread job i [] there told = absurd told
 some-reread job i (sdp ∷ []) there told = absurd told.1
 some-reread job i (sdp ∷ report ∷ texts) there told =
     let later = All-tail (λ n. ¬ i.lacks n) job.sdp (job.report ∷ job.captures) there in
-    some-yielded (λ answer. ReadsSession i (Ok answer) job.sdp (AfterSession job i (Ok answer)))
-    (some-described i job.sdp sdp (λ answer media. AfterSession job i (Ok answer) media) (All-head (λ n. ¬ i.lacks n) job.sdp (job.report ∷ job.captures) there)
+    some-yielded (λ answer. ReadsSession i (Ok answer) job.sdp (AnswersSession job i (Ok answer)))
+    (some-described i job.sdp sdp (λ answer media. AnswersSession job i (Ok answer) media) (All-head (λ n. ¬ i.lacks n) job.sdp (job.report ∷ job.captures) there)
     told.0
-    (λ media e. some-read i job.report report (λ answer claims. AfterReport job i (Ok answer) media claims)
+    (λ media e. some-early (no_choice job.media media) (λ answer. ReadsReport i (Ok answer) job.report (AfterReport job i (Ok answer) media))
+    (some-read i job.report report (λ answer claims. AfterReport job i (Ok answer) media claims)
     (All-head (λ n. ¬ i.lacks n) job.report job.captures later) told.1.0
-    (λ claims. some-needed job i media claims (All-tail (λ n. ¬ i.lacks n) job.report job.captures later))))
+    (λ claims. some-needed job i media (asked job.media claims) (All-tail (λ n. ¬ i.lacks n) job.report job.captures later)))))
 
 pub only-reread : (job : ReportJob) (i : Inputs) (texts : List (List ℕ)) (a b : Answer) → AreTold i.texts (job.sdp ∷ job.report ∷ job.captures) texts
     → FollowsReport job i (Ok a) → FollowsReport job i (Ok b) → a ≡ b
 only-reread job i [] a b told h k = absurd told
 only-reread job i (sdp ∷ []) a b told h k = absurd told.1
 only-reread job i (sdp ∷ report ∷ texts) a b told h k =
-    only-yielded (λ answer. ReadsSession i (Ok answer) job.sdp (AfterSession job i (Ok answer))) a b
-    (λ p q. only-described i job.sdp sdp (λ answer media. AfterSession job i (Ok answer) media) a b told.0
-    (λ media x y. only-read i job.report report (λ answer claims. AfterReport job i (Ok answer) media claims) a b told.1.0
-    (λ claims s t. only-needed job i media claims texts a b told.1.1 s t) x y) p q) h k
+    only-yielded (λ answer. ReadsSession i (Ok answer) job.sdp (AnswersSession job i (Ok answer))) a b
+    (λ p q. only-described i job.sdp sdp (λ answer media. AnswersSession job i (Ok answer) media) a b told.0
+    (λ media x y. only-early (no_choice job.media media) (λ answer. ReadsReport i (Ok answer) job.report (AfterReport job i (Ok answer) media)) a b
+    (λ v w. only-read i job.report report (λ answer claims. AfterReport job i (Ok answer) media claims) a b told.1.0
+    (λ claims s t. only-needed job i media (asked job.media claims) texts a b told.1.1 s t) v w) x y) p q) h k
 
 pub reread-failed : (job : ReportJob) (i : Inputs) (texts : List (List ℕ)) (e : Failure) → AreTold i.texts (job.sdp ∷ job.report ∷ job.captures) texts
     → FollowsReport job i (Err e) → Caused e (ReportInputRose job i)
 reread-failed job i [] e told h = absurd told
 reread-failed job i (sdp ∷ []) e told h = absurd told.1
 reread-failed job i (sdp ∷ report ∷ texts) e told h =
-    yielded-failed (ReadsSession i (Err e) job.sdp (AfterSession job i (Err e))) e (ReportInputRose job i)
-    (λ p. described-failed i job.sdp sdp (AfterSession job i (Err e)) e (ReportInputRose job i) told.0 (λ r. r)
-    (λ media x. read-failed i job.report report (AfterReport job i (Err e) media) e (ReportInputRose job i) told.1.0 (λ r. r)
-    (λ claims s. needed-failed job i media claims texts e told.1.1 s) x) p) h
+    yielded-failed (ReadsSession i (Err e) job.sdp (AnswersSession job i (Err e))) e (ReportInputRose job i)
+    (λ p. described-failed i job.sdp sdp (AnswersSession job i (Err e)) e (ReportInputRose job i) told.0 (λ r. r)
+    (λ media x. early-failed (no_choice job.media media) (ReadsReport i (Err e) job.report (AfterReport job i (Err e) media)) e (ReportInputRose job i)
+    (λ y. read-failed i job.report report (AfterReport job i (Err e) media) e (ReportInputRose job i) told.1.0 (λ r. r)
+    (λ claims s. needed-failed job i media (asked job.media claims) texts e told.1.1 s) y) x) p) h

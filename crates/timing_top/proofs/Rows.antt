@@ -1,10 +1,12 @@
 -- The rows of a job are of its flows, and their numbers have 64 bits.
 use Rattle.std.proofs.Common.{◌≡◌, ◌≤◌, ◌+◌, ◌*◌, ◌^◌, ℕ, Bool, true, false, List, [], ◌∷◌, ◌++◌, length, refl, arith, ap, ap₂, ◌∙◌, sym, append-nil}
 use Rattle.std.proofs.lemmas.List.{map-append}
-use Rattle.std.proofs.lemmas.List.Elements.{All-append, All-cons, All-head, All-nil, All-tail}
+use Rattle.std.proofs.lemmas.List.Elements.{All-append, All-cons, All-head, All-map, All-nil, All-tail}
 use Rattle.std.specs.Prelude.{All, map}
 use Rattle.timing_base.specs.Shifts.{AreFlowOptions, FlowOptions}
 use Rattle.timing_base.specs.Captures.{Record, joined}
+use Rattle.timing_base.specs.Choices.{chosen, first_chosen, key_from, keys_chosen, row_from}
+use Rattle.timing_base.specs.Jobs.{CheckJob}
 use Rattle.timing_base.specs.Keys.{key_of, keys_of, keys_of_file, keys_of_files}
 use Rattle.timing_base.specs.Media.{IsMedia, Media}
 use Rattle.timing_base.specs.declared.capture.FileNote.{FileNote}
@@ -16,6 +18,8 @@ use Rattle.fail_interval.specs.Row.{row}
 use Rattle.fail_interval.specs.Rows.{rows_from, rows_of, rows_of_files, rows_over}
 use Rattle.timing_report.specs.json_report.Fails.{FitsVerdict}
 use Rattle.pcapng_reader.specs.Bytes.{AreBytes}
+use Rattle.timing_top.specs.Report.{rows}
+use Rattle.timing_top.proofs.Choosing.{chosen-all, keys-chosen}
 use Rattle.timing_top.proofs.Small.{AreSmall, joined-small, one-small}
 use Rattle.timing_top.proofs.Words.{flow-fits}
 
@@ -38,7 +42,7 @@ keys-files options first media (items ∷ files) =
     ∙ ap₂ (λ (k l : List FlowKey). k ++ l) (keys-from options first 0 media items) (keys-files options (first + 1) media files)
 
 -- the flows of the rows
-pub keys-over : (b : Bool) (options : FlowOptions) (media : List Media) (files : List (List Record)) → map key (rows_over b options media files)
+keys-over : (b : Bool) (options : FlowOptions) (media : List Media) (files : List (List Record)) → map key (rows_over b options media files)
     ≡ keys_of b (length files) (length media)
 keys-over true options media files = keys-from options 0 0 media (joined files) ∙ sym (append-nil (keys_of_file 0 0 (length media)))
 keys-over false options media files = keys-files options 0 media files
@@ -77,10 +81,24 @@ fits-files options first media (t ∷ ts) [] notes shifts are bytes h = absurd h
 fits-files options first media (t ∷ ts) (f ∷ fs) [] shifts are bytes h = absurd h
 
 -- the numbers of the rows
-pub rows-fit : (b : Bool) (options : FlowOptions) (media : List Media) (texts : List (List ℕ)) (files : List (List Record)) (notes : List FileNote)
+rows-fit : (b : Bool) (options : FlowOptions) (media : List Media) (texts : List (List ℕ)) (files : List (List Record)) (notes : List FileNote)
     → AreFlowOptions options
     → length texts ≤ 16 → All IsMedia media
     → All AreBytes texts → AreRecords texts files notes → All Fitting (rows_over b options media files)
 rows-fit true options media texts files notes shifts few are bytes h =
     fits-from options 0 0 0 (2 ^ 36 * length texts) media (joined files) shifts (omega (arith, few)) are (joined-small 0 texts files notes bytes h)
 rows-fit false options media texts files notes shifts few are bytes h = fits-files options 0 media texts files notes shifts are bytes h
+
+-- the flows of the results of a job, and their numbers
+pub job-keys : (job : CheckJob) (media : List Media) (files : List (List Record))
+    → map key (rows job media files) ≡ keys_chosen job.media job.joined (length files) media
+job-keys job media files =
+    keys-chosen (first_chosen job.media) (rows_over job.joined job.options (chosen job.media media) files)
+    ∙ ap (λ l. map (key_from (first_chosen job.media)) l) (keys-over job.joined job.options (chosen job.media media) files)
+
+pub job-fits : (job : CheckJob) (media : List Media) (texts : List (List ℕ)) (files : List (List Record)) (notes : List FileNote)
+    → AreFlowOptions job.options → length texts ≤ 16 → All IsMedia media → All AreBytes texts → AreRecords texts files notes
+    → All Fitting (rows job media files)
+job-fits job media texts files notes shifts few are bytes h =
+    All-map Fitting (row_from (first_chosen job.media)) (rows_over job.joined job.options (chosen job.media media) files)
+    (rows-fit job.joined job.options (chosen job.media media) texts files notes shifts few (chosen-all IsMedia job.media media are) bytes h)

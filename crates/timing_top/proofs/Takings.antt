@@ -1,32 +1,24 @@
 -- Captures that are taken and judged one by one.
 use Rattle.std.proofs.Common.{◌≡◌, ◌≤◌, ◌<◌, ◌+◌, ℕ, List, [], ◌∷◌, ◌++◌, length, Option, Some, refl, arith, ap, ◌∙◌, sym, subst, append_assoc, append-nil}
-use Rattle.std.proofs.Common.{length-append, true, false, if◌then◌else◌}
-use Rattle.std.specs.Prelude.{All, IfOk, Result, Ok, Err, map}
-use Rattle.timing_base.specs.Shifts.{FlowOptions}
-use Rattle.timing_steps.specs.declared.failure.Failure.{Failure}
-use Rattle.std.proofs.lemmas.List.{length-map}
+use Rattle.std.specs.Prelude.{All, IfOk, Result, Ok, Err}
 use Rattle.std.proofs.lemmas.List.Elements.{All-nil, All-cons, All-append}
-use Rattle.timing_base.specs.Captures.{Record, joined, joined_after, raised}
-use Rattle.timing_base.specs.Jobs.{CheckJob}
+use Rattle.timing_base.specs.Captures.{Record, joined}
+use Rattle.timing_base.specs.Shifts.{FlowOptions}
 use Rattle.timing_base.specs.Media.{Media}
 use Rattle.timing_base.specs.declared.capture.FileNote.{FileNote}
 use Rattle.timing_base.specs.declared.row.Row.{Row}
+use Rattle.pcap_reader.specs.Records.{AreRecords}
 use Rattle.pcap_reader.specs.declared.records.Taken.{Taken}
-use Rattle.pcap_reader.specs.Taken.{TakesFew}
 use Rattle.pcap_reader.proofs.Captures.{files-length, map-raised, records-push}
+use Rattle.fail_interval.specs.BankStands.{Feeds, StandsFor}
+use Rattle.fail_interval.specs.Found.{AreFound}
 use Rattle.fail_interval.specs.Rows.{rows_from, rows_of, rows_of_files}
-use Rattle.fail_interval.specs.BankStands.{Feeds, IsFed, StandsFor}
 use Rattle.fail_interval.specs.declared.bank.Bank.{Bank}
 use Rattle.timing_report.specs.Outcomes.{AreOfSession}
-use Rattle.pcap_reader.specs.Records.{AreRecords}
-use Rattle.fail_interval.specs.Found.{AreFound}
-use Rattle.timing_steps.specs.Taken.{TakesText}
-use Rattle.timing_top.specs.Found.{AreJoined, FindsNext, JoinsNext}
-use Rattle.timing_top.specs.Report.{rows}
-
--- of few records or many, the bank was fed those and no others
-pub fed-few : (most : ℕ) (old new : Bank) → TakesFew Feeds most old new → IsFed old new
-fed-few most old new t = (t.items, t.taken)
+use Rattle.timing_steps.specs.Taken.{TakesText, TakesTexts}
+use Rattle.timing_steps.specs.declared.captures.TakenCaptures.{TakenCaptures}
+use Rattle.timing_steps.specs.declared.failure.Failure.{Failure}
+use Rattle.timing_top.specs.Found.{FindsNext}
 
 -- media with these numbers are below a count
 rows-within : (options : FlowOptions) (file number count : ℕ) (media : List Media) (items : List Record) → number + length media ≤ count
@@ -90,78 +82,20 @@ found-more texts text media options old_notes new_notes old_rows new_rows found 
       ∙ sym (rows-push options 0 media found.files next.items);
 }
 
--- one capture more behind joined ones
-joined-push : (before : ℕ) (files : List (List Record)) (items : List Record)
-    → joined_after before (files ++ items ∷ []) ≡ joined_after before files ++ map (raised (before + length (joined_after before files))) items
-joined-push before [] items =
-    let same : before + 0 ≡ before = omega arith in
-    append-nil (map (raised before) items) ∙ sym (ap (λ n. map (raised n) items) same)
-joined-push before (f ∷ fs) items =
-    let long : length (map (raised before) f ++ joined_after (before + length f) fs) ≡ length f + length (joined_after (before + length f) fs) =
-    length-append (map (raised before) f) (joined_after (before + length f) fs) ∙ ap (λ n. n + length (joined_after (before + length f) fs))
-    (length-map f (raised before)) in
-    let same : before + length (map (raised before) f ++ joined_after (before + length f) fs) ≡ (before + length f)
-    + length (joined_after (before + length f) fs) = omega (arith, long) in
-    ap (λ l. map (raised before) f ++ l) (joined-push (before + length f) fs items)
-    ∙ sym (append_assoc (map (raised before) f) (joined_after (before + length f) fs)
-    (map (raised ((before + length f) + length (joined_after (before + length f) fs))) items))
-    ∙ ap (λ n. (map (raised before) f ++ joined_after (before + length f) fs) ++ map (raised n) items) (sym same)
-
--- no capture was taken yet
-pub joined-none : (media : List Media) (options : FlowOptions) (notes : List FileNote) (bank : Bank) → notes ≡ [] → StandsFor media 0 options bank []
-    → AreJoined [] media options notes 0 bank
-joined-none media options notes bank no_notes stands = record { files = []; records = subst (AreRecords [] []) (sym no_notes) tt; count_is = refl; stands = stands }
-
--- one capture more was taken
-pub joined-more : (texts : List (List ℕ)) (text : List ℕ) (media : List Media) (options : FlowOptions) (before after : ℕ) (old new : Bank) (old_notes new_notes : List FileNote)
-    → AreJoined texts media options old_notes before old → JoinsNext text before after old new old_notes new_notes
-    → AreJoined (texts ++ text ∷ []) media options new_notes after new
-joined-more texts text media options before after old new old_notes new_notes done next =
-    let more : joined (done.files ++ next.takes.items ∷ []) ≡ joined done.files ++ map (raised before) next.takes.items =
-    let same : 0 + length (joined done.files) ≡ before = omega (arith, done.count_is) in
-    joined-push 0 done.files next.takes.items ∙ ap (λ n. joined done.files ++ map (raised n) next.takes.items) same in
-    record {
-      files = done.files ++ next.takes.items ∷ [];
-      records = subst (AreRecords (texts ++ text ∷ []) (done.files ++ next.takes.items ∷ [])) (sym next.notes)
-          (records-push texts done.files old_notes text next.takes.items next.taken.note done.records next.takes.records);
-      count_is =
-          let long : length (joined (done.files ++ next.takes.items ∷ [])) ≡ length (joined done.files) + length next.takes.items =
-          ap length more ∙ length-append (joined done.files) (map (raised before) next.takes.items) ∙ ap (λ n. length (joined done.files) + n)
-          (length-map next.takes.items (raised before)) in
-          omega (arith, long, next.count, next.takes.count, done.count_is);
-      stands = subst (StandsFor media 0 options new) (sym more) (next.takes.fed media 0 options (joined done.files) done.stands);
-    }
-
--- the rows of captures that were taken as one
-pub found-joined : (texts : List (List ℕ)) (media : List Media) (options : FlowOptions) (count : ℕ) (notes : List FileNote) (bank : Bank) (found : List Row)
-    → AreJoined texts media options notes count bank → ((items : List Record) → StandsFor media 0 options bank items → found ≡ rows_of options 0 media items)
-    → AreFound texts (λ files. rows_of options 0 media (joined files)) notes found
-found-joined texts media options count notes bank found done rows_are =
-    record { files = done.files; records = done.records; rows_are = rows_are (joined done.files) done.stands }
+-- the rows of captures that were taken as one into a fresh bank
+pub found-joined : (texts : List (List ℕ)) (media : List Media) (options : FlowOptions) (old new : Bank) (taken : TakenCaptures) (found : List Row)
+    → TakesTexts Feeds texts old new taken → StandsFor media 0 options old []
+    → ((items : List Record) → StandsFor media 0 options new items → found ≡ rows_of options 0 media items)
+    → AreFound texts (λ files. rows_of options 0 media (joined files)) taken.notes.items found
+found-joined texts media options old new taken found t fresh rows_are =
+    record { files = t.files; records = t.records; rows_are = rows_are (joined t.files) (t.fed media 0 options [] fresh) }
 
 -- rows that come behind none
 pub rows-alone : (options : FlowOptions) (media : List Media) (items : List Record) (old new : List Row) → old ≡ [] → new ≡ old ++ rows_of options 0 media items → new
     ≡ rows_of options 0 media items
 rows-alone options media items old new none e = e ∙ ap (λ l. l ++ rows_of options 0 media items) none
 
--- the rows of a job, by whether its captures are joined
-pub found-if_joined : (texts : List (List ℕ)) (job : CheckJob) (media : List Media) (notes : List FileNote) (found : List Row) → job.joined ≡ true
-    → AreFound texts (λ files. rows_of job.options 0 media (joined files)) notes found → AreFound texts (rows job media) notes found
-found-if_joined texts job media notes found is h = record {
-  files = h.files;
-  records = h.records;
-  rows_are = h.rows_are ∙ ap (λ b. if b then rows_of job.options 0 media (joined h.files) else rows_of_files job.options 0 media h.files) (sym is);
-}
-
-pub found-unless_joined : (texts : List (List ℕ)) (job : CheckJob) (media : List Media) (notes : List FileNote) (found : List Row) → job.joined ≡ false
-    → AreFound texts (rows_of_files job.options 0 media) notes found → AreFound texts (rows job media) notes found
-found-unless_joined texts job media notes found is h = record {
-  files = h.files;
-  records = h.records;
-  rows_are = h.rows_are ∙ ap (λ b. if b then rows_of job.options 0 media (joined h.files) else rows_of_files job.options 0 media h.files) (sym is);
-}
-
--- the same of a capture that may not have been read
+-- one capture more was judged, where it was read
 pub found-if_read : (o : Result (Unit {0}) Failure) (left : Option (List ℕ)) (media : List Media) (options : FlowOptions) (old_notes new_notes : List FileNote)
     (old_rows new_rows : List Row)
     → IfOk o (λ _. (text : List ℕ) → left ≡ Some text → FindsNext text media options (length old_notes) old_notes new_notes old_rows new_rows)
@@ -170,12 +104,3 @@ pub found-if_read : (o : Result (Unit {0}) Failure) (left : Option (List ℕ)) (
 found-if_read (Ok u) left media options old_notes new_notes old_rows new_rows h = λ read text whole found. found-more read text media options old_notes new_notes
     old_rows new_rows found (h text whole)
 found-if_read (Err e) left media options old_notes new_notes old_rows new_rows h = tt
-
-pub joined-if_read : (o : Result (Unit {0}) Failure) (left : Option (List ℕ)) (media : List Media) (options : FlowOptions) (before after : ℕ) (old new : Bank)
-    (old_notes new_notes : List FileNote)
-    → IfOk o (λ _. (text : List ℕ) → left ≡ Some text → JoinsNext text before after old new old_notes new_notes)
-    → IfOk o (λ _. (read : List (List ℕ)) (text : List ℕ) → left ≡ Some text → AreJoined read media options old_notes before old
-    → AreJoined (read ++ text ∷ []) media options new_notes after new)
-joined-if_read (Ok u) left media options before after old new old_notes new_notes h = λ read text whole done. joined-more read text media options before after old new
-    old_notes new_notes done (h text whole)
-joined-if_read (Err e) left media options before after old new old_notes new_notes h = tt

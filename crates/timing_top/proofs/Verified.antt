@@ -10,7 +10,7 @@ use Rattle.timing_report.specs.json_report.Json.{json_text}
 use Rattle.timing_report.specs.json_report.Reading.{IsReport}
 use Rattle.timing_report.specs.declared.json_report.reading.ReportProof.{ReportProof}
 use Rattle.timing_steps.specs.Answers.{Answer}
-use Rattle.timing_top.specs.verify.Asked.{HasReported}
+use Rattle.timing_top.specs.verify.Asked.{HasReported, asked}
 use Rattle.timing_top.specs.Report.{HasReport, rows}
 use Rattle.timing_top.specs.ReadBack.{IsReadable, reading_back}
 use Rattle.timing_top.proofs.Finding.{IsConfirmed}
@@ -36,8 +36,8 @@ answer-confirmed job media text name answer is h = report-confirmed job media te
 
 pub answer-status : (job : CheckJob) (media : List Media) (text : List ℕ → List ℕ) (name : List ℕ) (answer : Answer) (claims : List ReportProof)
     (verified : Answer) → IsReadable job media text
-    → job.json ≡ true → HasReport job media (map text job.captures) answer → IsReport answer.text claims → HasReported (reading_back job name) media claims text
-    verified
+    → job.json ≡ true → HasReport job media (map text job.captures) answer → IsReport answer.text claims → HasReported (reading_back job name) media
+    (asked job.media claims) text verified
     → verified.status ≡ status.Pass
 answer-status job media text name answer claims verified is json h told reported =
     let e = prints-json job media (map text job.captures) answer json h in

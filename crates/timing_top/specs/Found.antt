@@ -1,12 +1,12 @@
 -- The results of judging captures, and the conditions under which judging goes on.
-use Rattle.std.specs.Prelude.{◌≡◌, ◌≤◌, ◌+◌, ◌^◌, ℕ, List, [], ◌∷◌, ◌++◌, length, All, IfErr, IfOk, Option}
+use Rattle.std.specs.Prelude.{◌≡◌, ◌≤◌, ◌^◌, ℕ, List, [], ◌∷◌, ◌++◌, length, All, IfErr, IfOk, Option}
 use Rattle.std.specs.Prelude.{Result}
 use Rattle.timing_base.specs.Shifts.{FlowOptions}
-use Rattle.timing_base.specs.Captures.{Record, joined}
+use Rattle.timing_base.specs.Captures.{Record}
 use Rattle.timing_base.specs.Media.{Media}
 use Rattle.timing_base.specs.declared.capture.FileNote.{FileNote}
 use Rattle.timing_base.specs.declared.row.Row.{Row}
-use Rattle.pcap_reader.specs.Records.{AreRecords, Records}
+use Rattle.pcap_reader.specs.Records.{Records}
 use Rattle.timing_outside.specs.declared.shelf.Shelf as shelf
 use Rattle.timing_outside.specs.declared.source.Source as source
 use Rattle.pcapng_reader.specs.Classic.{classic_texts}
@@ -14,14 +14,10 @@ use Rattle.pcapng_reader.specs.Sources.{faults_of, left_of, name_of}
 use Rattle.pcapng_reader.specs.declared.source.Classic.{Classic}
 use Rattle.fail_interval.specs.Found.{AreFound}
 use Rattle.fail_interval.specs.Rows.{rows_of}
-use Rattle.fail_interval.specs.BankStands.{Feeds, StandsFor}
-use Rattle.fail_interval.specs.declared.bank.Bank.{Bank}
-use Rattle.pcap_reader.specs.declared.records.Taken.{Taken}
 use Rattle.timing_report.specs.Outcomes.{AreOfSession}
 use Rattle.timing_report.specs.declared.status.Input.TheVariants as input
 use Rattle.timing_steps.specs.Answers.{AreTold, CaptureRose, Inputs, OnReadFault, seen_of}
 use Rattle.timing_steps.specs.Fetched.{AreFetched}
-use Rattle.timing_steps.specs.Taken.{TakesText}
 use Rattle.timing_steps.specs.declared.failure.Failure.{Failure}
 use Rattle.timing_top.specs.declared.captures.Found.{Found}
 
@@ -63,21 +59,3 @@ pub record FindsNext (text : List ℕ) (media : List Media) (options : FlowOptio
   pub records : Records text (2 ^ 40) items note
   pub notes : new_notes ≡ old_notes ++ note ∷ []
   pub rows : new_rows ≡ old_rows ++ rows_of options file media items
-
--- one more capture was taken after `before` records: its note was appended, and its records were added to the count
-pub record JoinsNext (text : List ℕ) (before after : ℕ) (old new : Bank) (old_notes new_notes : List FileNote) : Type 0
-  where
-    pub taken : Taken
-    pub takes : TakesText Feeds text before old new taken
-    pub notes : new_notes ≡ old_notes ++ taken.note ∷ []
-    pub count : after ≡ before + taken.records
-
--- the captures with these contents were taken as one: how each ends, the number of their packet records, and the bank
--- of judges that was given them
-pub record AreJoined (texts : List (List ℕ)) (media : List Media) (options : FlowOptions) (notes : List FileNote)
-    (count : ℕ)
-    (bank : Bank) : Type 0 where
-  pub files : List (List Record)
-  pub records : AreRecords texts files notes
-  pub count_is : count ≡ length (joined files)
-  pub stands : StandsFor media 0 options bank (joined files)

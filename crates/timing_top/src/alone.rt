@@ -18,7 +18,7 @@ use timing_steps::Failure;
 pub struct Alone<'a> {
     /// The allocator.
     pub alloc: Global,
-    /// The media of the SDP.
+    /// The media that are judged.
     pub media: &'a [Media],
     /// Whether the captures are judged as one.
     pub joined: bool,

@@ -1,11 +1,13 @@
 //! `check`: judges the captures on one thread or with workers, and prints their report.
 
 ghost use Rattle.std.specs.Io.KnownBytes.{Keeps};
-ghost use Rattle.std.specs.Prelude.{◌≡◌, ℕ, IfErr, IfOk, false, string_bytes, true};
+ghost use Rattle.std.specs.Prelude.{◌≡◌, ◌+◌, ◌<◌, ◌^◌, ℕ, All, IfErr, IfOk, None, false, map, string_bytes, true};
+ghost use Rattle.timing_base.specs.Choices.{chosen, first_chosen, row_from};
 ghost use Rattle.timing_base.specs.Targets.{HaveOwnTargets};
 ghost use Rattle.timing_outside.specs.Shelves.{StaysAs};
 ghost use Rattle.timing_report.specs.Outcomes.{AreOfSession, status_of};
 ghost use Rattle.timing_steps.specs.Answers.{CaptureRose, OnReadFault, seen_of};
+ghost use Rattle.timing_steps.specs.Flows.{no_choice};
 ghost use Rattle.timing_steps.specs.Queries.{FollowsCaptures, judged_ends};
 ghost use Rattle.timing_steps.specs.Ran.{Output, output_of};
 ghost use Rattle.timing_steps.specs.Runs.{BeforeEnd, EndsAs, RanAs};
@@ -17,11 +19,14 @@ use crate::many::judge_many;
 use std::alloc::{AllocError as OutOfMemory, Global};
 use std::sync::Wait;
 use std::thread::Threads;
-use timing_base::{CheckJob, FileName, Session};
+use timing_base::{CheckJob, FileName, Row, Session};
 use timing_outside::{Gate, Shelf, Sink};
 use timing_report::json_report::json_of;
 use timing_report::{Input, Status, status_of, text_of};
-use timing_steps::{Answer, Command, Failure, begin, conclude, fetch_captures};
+use timing_steps::{
+    Answer, Command, Failure, begin, chosen_media, conclude, early_of_choice, fetch_captures,
+    first_chosen,
+};
 
 /// Returns the report as text, or as JSON if the job asks for it.
 fn text_on(
@@ -62,6 +67,36 @@ fn report_on(
     })
 }
 
+/// Counts the media of these results from this number on.
+fn count_from(rows: &mut [Row], first: u32)
+    requires few { All (λ row. first + row.key.media < 2 ^ 32) rows.old }
+    ensures { rows.new ≡ map (row_from first) rows.old }
+{
+    for row in rows.iter_mut() {
+        row.key.media = first + row.key.media;
+    }
+}
+
+/// Returns the answer of a job with judged captures, if the media of the results count from the first one that was
+/// judged. Returns `Err` if memory runs out.
+fn report_chosen(
+    alloc: Global,
+    job: &CheckJob,
+    session: &Session,
+    mut found: Found,
+) -> Result<Answer, Failure>
+    requires rows { AreOfSession (chosen job.now.media session.now) found.rows.items }
+    ensures text { IfOk result (λ answer. answer.text ≡ printed job.now session.now found.notes.items
+        (map (row_from (first_chosen job.now.media)) found.rows.items)) }
+    ensures status { IfOk result (λ answer. answer.status ≡ status_of session.now found.notes.items
+        (map (row_from (first_chosen job.now.media)) found.rows.items)) }
+    ensures memory { IfErr result (λ e. e ≡ Failure.OutOfMemory) }
+    ensures ends { IfOk result (λ answer. judged_ends true answer.status ≡ true) }
+{
+    count_from(&mut found.rows, first_chosen(job.media));
+    report_on(alloc, job, session, &found)
+}
+
 /// Returns the answer of a job over a session, judged on one thread, or the reason why there is none. All captures are
 /// opened in order before the first one is read.
 fn answer_alone<H: Shelf>(
@@ -78,14 +113,15 @@ fn answer_alone<H: Shelf>(
     ensures stays { StaysAs H.text H.lacks H.faults shelf.old shelf.new }
 {
     let sources = fetch_captures(alloc, shelf, job.captures.as_slice())?;
+    let media = chosen_media(session, job.media);
     let alone = Alone {
         alloc,
-        media: session.media.as_slice(),
+        media,
         joined: job.joined,
         options: job.options,
     };
     let found = alone.judge(shelf, sources)?;
-    report_on(alloc, job, session, &found)
+    report_chosen(alloc, job, session, found)
 }
 
 /// The command `check` on one thread, whatever number of workers the job has. It takes no handle for waiting.
@@ -107,8 +143,8 @@ impl Command for CheckCommand {
         &job.sdp
     }
 
-    fn early(&self, _alloc: Global, _session: &Session) -> Result<Option<Answer>, OutOfMemory> {
-        Ok(None)
+    fn early(&self, alloc: Global, session: &Session) -> Result<Option<Answer>, OutOfMemory> {
+        early_of_choice(alloc, session, self.job.media)
     }
 
     fn answer<H: Shelf, K: Sink>(
@@ -134,6 +170,7 @@ fn answer_many<R: Threads + Wait + Sync, H: Shelf, G: Gate>(
 where
     H::Source: Send,
     requires targets { HaveOwnTargets session.now }
+    requires unsettled { no_choice job.now.media session.now ≡ None }
     ensures follows { FollowsCaptures (check_query job.now) session.now
         (seen_of H.Shelf shelf.old shelf.new) result }
     ensures ends { IfOk result (λ answer. judged_ends true answer.status ≡ true) }
@@ -142,12 +179,12 @@ where
     ensures stays { StaysAs H.text H.lacks H.faults shelf.old shelf.new }
 {
     let sources = fetch_captures(alloc, shelf, job.captures.as_slice())?;
-    let media = session.media.as_slice();
+    let media = chosen_media(session, job.media);
     let (joined, options, workers) = (job.joined, job.options, job.workers);
     let found = judge_many(
         rt, alloc, shelf, sources, media, joined, options, workers, gate,
     )?;
-    report_on(alloc, job, session, &found)
+    report_chosen(alloc, job, session, found)
 }
 
 /// Returns the answer of `check` with workers, or the reason why there is none.

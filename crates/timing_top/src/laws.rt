@@ -1,6 +1,6 @@
 //! Laws of the definitions. Each function is a theorem: it does nothing, and its clauses are proved.
 
-ghost use Rattle.std.specs.Prelude.{◌≡◌, ◌⊎◌, [], ◌∷◌, ℕ, Bool, List, All, Option, Some, None, Result, Ok, Err, false, ◌≤◌, length, true, map};
+ghost use Rattle.std.specs.Prelude.{◌≡◌, ◌⊎◌, [], ◌∷◌, ℕ, Bool, List, All, Option, Some, None, Result, Ok, Err, false, filter, ◌==◌, ◌≤◌, length, true, map};
 ghost use Rattle.timing_base.specs.Examples.{plain_media};
 ghost use Rattle.timing_words.specs.declared.request.Request.{Request};
 ghost use Rattle.timing_words.specs.declared.request.Request.TheVariants as asks;
@@ -18,20 +18,19 @@ ghost use Rattle.timing_top.specs.SelfTest.{HasSelfTest};
 ghost use Rattle.timing_words.specs.Request.{request};
 ghost use Rattle.timing_base.specs.Jobs.{CheckJob, IsCheckJob};
 ghost use Rattle.timing_base.specs.Media.{Media, IsMedia};
-ghost use Rattle.timing_top.specs.Report.{HasReport, check_query, rows};
+ghost use Rattle.timing_top.specs.Report.{HasReport, check_query, rows, with_choice};
 ghost use Rattle.timing_top.specs.Runs.{RanAs, prints_whole};
 ghost use Rattle.timing_base.specs.Captures.{Record};
 ghost use Rattle.timing_base.specs.declared.capture.FileNote.{FileNote};
 ghost use Rattle.pcap_reader.specs.Records.{AreRecords};
 ghost use Rattle.pcapng_reader.specs.Bytes.{AreBytes};
-ghost use Rattle.fail_interval.specs.Rows.{rows_over};
 ghost use Rattle.timing_report.specs.json_report.Fails.{FitsVerdict, fails_of};
 ghost use Rattle.timing_report.specs.json_report.Json.{json_text};
 ghost use Rattle.timing_report.specs.json_report.Reading.{IsReport};
 ghost use Rattle.timing_report.specs.declared.json_report.reading.ReportProof.{ReportProof};
 ghost use Rattle.timing_report.specs.declared.status.Status.{Status};
 ghost use Rattle.timing_report.specs.declared.status.Status.TheVariants as status;
-ghost use Rattle.timing_top.specs.verify.Asked.{FindsOf, HasReported, media_for};
+ghost use Rattle.timing_top.specs.verify.Asked.{FindsOf, HasReported, asked, media_for};
 ghost use Rattle.timing_top.specs.Exact.{IsExactRow};
 ghost use Rattle.timing_top.specs.ReadBack.{IsReadable, reading_back};
 
@@ -83,6 +82,13 @@ pub fn one_report()
         → HasReport job media texts a → HasReport job media texts b → a ≡ b }
 {}
 
+/// The report of a chosen media has the results of this media that the report of all media has, under the same number,
+/// and no others.
+pub fn chosen_rows()
+    ensures { (job : CheckJob) (number : ℕ) (media : List Media) (files : List (List Record)) → job.media ≡ None
+        → rows (with_choice number job) media files ≡ filter (λ row. row.key.media == number) (rows job media files) }
+{}
+
 /// A sender type passes in a report exactly if no interval of judged packets has more packets than C_MAX plus the drain
 /// ticks in it, and at every instant the receiver buffer holds between nothing and VRX_FULL. Each violation in the
 /// report names an interval that its numbers confirm.
@@ -98,7 +104,7 @@ pub fn rows_have_words()
     ensures { (job : CheckJob) (media : List Media) (text : List ℕ → List ℕ)
         (files : List (List Record)) (notes : List FileNote) → IsReadable job media text
         → AreRecords (map text job.captures) files notes
-        → All (λ row. FitsVerdict row.verdict) (rows_over job.joined job.options media files) }
+        → All (λ row. FitsVerdict row.verdict) (rows job media files) }
 {}
 
 /// Every violation in the results of captures is confirmed by these captures.
@@ -107,7 +113,7 @@ pub fn rows_are_confirmed()
         (files : List (List Record)) (notes : List FileNote) → IsReadable job media text
         → AreRecords (map text job.captures) files notes
         → All (λ claim. FindsOf (media_for (reading_back job name) media claim.key)
-        (reading_back job name) claim text (Ok true)) (fails_of (rows_over job.joined job.options media files)) }
+        (reading_back job name) claim text (Ok true)) (fails_of (rows job media files)) }
 {}
 
 /// The JSON of results of captures is read back as their violations in order, if it isn't longer than a report may be.
@@ -116,15 +122,15 @@ pub fn json_verifies()
     ensures told { (job : CheckJob) (media : List Media) (text : List ℕ → List ℕ)
         (files : List (List Record)) (notes : List FileNote) → IsReadable job media text
         → AreRecords (map text job.captures) files notes
-        → length (json_text job media notes (rows_over job.joined job.options media files)) ≤ 16777216
-        → IsReport (json_text job media notes (rows_over job.joined job.options media files))
-        (fails_of (rows_over job.joined job.options media files)) }
+        → length (json_text job media notes (rows job media files)) ≤ 16777216
+        → IsReport (json_text job media notes (rows job media files))
+        (fails_of (rows job media files)) }
     ensures status { (job : CheckJob) (media : List Media) (text : List ℕ → List ℕ) (name : List ℕ)
         (files : List (List Record)) (notes : List FileNote) (claims : List ReportProof)
         (verified : Answer) → IsReadable job media text
         → AreRecords (map text job.captures) files notes
-        → IsReport (json_text job media notes (rows_over job.joined job.options media files)) claims
-        → HasReported (reading_back job name) media claims text verified
+        → IsReport (json_text job media notes (rows job media files)) claims
+        → HasReported (reading_back job name) media (asked job.media claims) text verified
         → verified.status ≡ status.Pass }
 {}
 
@@ -145,7 +151,7 @@ pub fn report_verifies()
         (name : List ℕ) (answer : Answer) (claims : List ReportProof) (verified : Answer)
         → IsReadable job media text → job.json ≡ true
         → HasReport job media (map text job.captures) answer → IsReport answer.text claims
-        → HasReported (reading_back job name) media claims text verified
+        → HasReported (reading_back job name) media (asked job.media claims) text verified
         → verified.status ≡ status.Pass }
 {}
 

@@ -1,6 +1,7 @@
 -- The output and status of `verify` and of `verify-report`, by the contents of their inputs, in the order in which
 -- these are read.
-use Rattle.std.specs.Prelude.{◌≡◌, ◌⊎◌, ℕ, nat_lt, if◌then◌else◌, Bool, true, false, List, [], ◌∷◌, length, map}
+use Rattle.std.specs.Prelude.{◌≡◌, ◌⊎◌, ℕ, nat_lt, ◌==◌, if◌then◌else◌, Bool, true, false, List, [], ◌∷◌, length, map}
+use Rattle.std.specs.Prelude.{filter}
 use Rattle.std.specs.Prelude.{slice_get, slice_index_or, All, Contains, Option, Some, None, Result, Ok, Err}
 use Rattle.timing_base.specs.Captures.{Record}
 use Rattle.timing_base.specs.Jobs.{ReportJob, VerifyJob}
@@ -15,8 +16,8 @@ use Rattle.timing_report.specs.declared.status.Input.TheVariants as input
 use Rattle.timing_report.specs.declared.status.Status.TheVariants as status
 use Rattle.timing_steps.specs.Answers.{Answer, AreThere, CaptureRose, Gives, HasRisen, Inputs, ReadsSession}
 use Rattle.timing_steps.specs.Answers.{Yields, silent}
-use Rattle.timing_steps.specs.Flows.{OnMedia}
-use Rattle.timing_steps.specs.Queries.{Query}
+use Rattle.timing_steps.specs.Flows.{OnMedia, no_choice}
+use Rattle.timing_steps.specs.Queries.{OnEarly, Query}
 use Rattle.timing_steps.specs.declared.failure.Failure.{Failure}
 use Rattle.timing_steps.specs.declared.failure.Failure.TheVariants as failure
 use Rattle.timing_top.specs.verify.Findings.{Finds, FindsIn}
@@ -83,7 +84,12 @@ pub record AreChecked (job : ReportJob) (media : List Media) (text : List ℕ �
   pub claims_are : map (λ c. c.claim) checked ≡ claims
   pub each : All (λ c. FindsOf (media_for job media c.claim.key) job c.claim text c.finding) checked
 
--- the answer of `verify-report` on a report with these violations
+-- the violations of a report that are checked: all, or those of the chosen media
+abbrev pub asked : (only : Option ℕ) → List ReportProof → List ReportProof
+asked None claims = claims
+asked (Some number) claims = filter (λ claim. claim.key.media == number) claims
+
+-- the answer of `verify-report` on these violations of a report
 pub record HasReported (job : ReportJob) (media : List Media) (claims : List ReportProof) (text : List ℕ → List ℕ)
     (answer : Answer) : Type 0 where
   pub checked : List Checked
@@ -103,7 +109,7 @@ ReadsReport i outcome name next =
     ((outcome ≡ Err (failure.ReadFault input.Report)) × HasRisen i name)
     ⊎ (¬ i.lacks name × ((text : List ℕ) → i.texts name ≡ Some text → OnReport text outcome next))
 
--- the count of faults of a capture rose that is read for a violation of the report
+-- the count of faults of a capture rose that is read for one of these violations of the report
 pub record NeededRose (i : Inputs) (job : ReportJob) (media : List Media) (claims : List ReportProof) (number : ℕ) :
     Type 0 where
   pub claim : ReportProof
@@ -124,11 +130,23 @@ ReadsNeeded i outcome job media claims next =
     × ((text : List ℕ → List ℕ) → All (λ claim. AreTexts i.texts text (needed job media claim)) claims
     → next (λ name. classic (text name))))
 
--- `verify-report` reads the SDP, then the report, then the captures of its violations
+-- these violations are checked: their captures are read, and then there is an answer
+abbrev pub AnswersClaims : ReportJob → Inputs → Result Answer Failure → List Media → List ReportProof → Type 0
+AnswersClaims job i outcome media claims =
+    ReadsNeeded i outcome job media claims (λ text. Gives outcome (HasReported job media claims text))
+
+-- the report is read, and then those of its violations are checked that are asked about
+abbrev pub AnswersReport : ReportJob → Inputs → Result Answer Failure → List Media → Type 0
+AnswersReport job i outcome media =
+    ReadsReport i outcome job.report (λ claims. AnswersClaims job i outcome media (asked job.media claims))
+
+-- the outcome over the media of the SDP. If the chosen media isn't among them, the report isn't read
+abbrev pub AnswersSession : ReportJob → Inputs → Result Answer Failure → List Media → Type 0
+AnswersSession job i outcome media = OnEarly (no_choice job.media media) outcome (AnswersReport job i outcome media)
+
+-- `verify-report` reads the SDP, then the report, then the captures of the violations that it checks
 abbrev pub FollowsReport : ReportJob → Inputs → Result Answer Failure → Type 0
-FollowsReport job i outcome = Yields outcome (ReadsSession i outcome job.sdp (λ media.
-    ReadsReport i outcome job.report (λ claims.
-    ReadsNeeded i outcome job media claims (λ text. Gives outcome (HasReported job media claims text)))))
+FollowsReport job i outcome = Yields outcome (ReadsSession i outcome job.sdp (AnswersSession job i outcome))
 
 -- the count of faults of the name of this input of `verify-report` rose
 abbrev pub ReportInputRose : ReportJob → Inputs → Input → Type 0

@@ -8,6 +8,7 @@ use Rattle.timing_steps.specs.Fetched.{AreFetched}
 use Rattle.timing_steps.specs.Queries.{FollowsCaptures}
 use Rattle.timing_steps.proofs.Readings.{fetched-fresh, fetched-length}
 use Rattle.timing_top.specs.Report.{check_query}
+use Rattle.timing_top.proofs.Choosing.{chosen-few}
 use Rattle.timing_top.proofs.Begun.{follows-failed, follows-report, judged-rose}
 use Rattle.timing_top.proofs.check.answer_alone.Goals as goal
 
@@ -22,7 +23,8 @@ judge-requires g c =
         fresh =
             fetched-fresh (name_of g.H.Source.Source.name) (left_of g.H.Source.Source.left) (faults_of g.H.Source.Source.faults) texts
             c.as_slice.result.now c.in_ok-sources.sources.items c.in_ok-sources.ensures.fetched;
-        few_media = search rules;
+        few_media =
+            omega (arith, chosen-few c.args.job.now.media c.args.session.now, ap length c.chosen_media-media.ensures, c.session.invariant.few);
       };
     }
 
@@ -62,5 +64,5 @@ returns-clause-follows g c =
     (subst (AreThere (g.H.Shelf.lacks c.args.shelf.now)) asked c.in_ok-sources.ensures.there)
     (subst (λ names. AreFetched (name_of g.H.Source.Source.name) (left_of g.H.Source.Source.left) (faults_of g.H.Source.Source.faults) texts names
     c.in_ok-sources.sources.items) asked c.in_ok-sources.ensures.fetched)
-    c.fetch_captures.ensures.stays c.judge.ensures.judged c.report_on.result c.in_ok-found.found c.in_ok-found.was (search rules)
-    c.report_on.ensures.text c.report_on.ensures.status c.report_on.ensures.memory
+    c.fetch_captures.ensures.stays c.judge.ensures.judged c.report_chosen.result c.in_ok-found.found c.in_ok-found.was (search rules)
+    c.report_chosen.ensures.text c.report_chosen.ensures.status c.report_chosen.ensures.memory

@@ -2,12 +2,14 @@ use Rattle.std.proofs.Common.{rules, arith, ap, length, ◌≡◌, ℕ, Err, sym
 use Rattle.std.specs.Prelude.{IfErr}
 use Rattle.pcapng_reader.specs.Classic.{classic_texts}
 use Rattle.pcapng_reader.specs.Sources.{faults_of, left_of, name_of}
+use Rattle.timing_base.specs.Targets.{HaveOwnTargets}
 use Rattle.timing_report.specs.declared.status.Input.TheVariants as input
 use Rattle.timing_steps.specs.Answers.{AreThere, CaptureRose, OnReadFault, seen_of}
 use Rattle.timing_steps.specs.Fetched.{AreFetched}
 use Rattle.timing_steps.specs.Queries.{FollowsCaptures}
 use Rattle.timing_steps.proofs.Readings.{fetched-fresh, fetched-length}
 use Rattle.timing_top.specs.Report.{check_query}
+use Rattle.timing_top.proofs.Choosing.{chosen-few, chosen-some, chosen-targets}
 use Rattle.timing_top.proofs.Begun.{follows-failed, follows-report, judged-rose}
 use Rattle.timing_top.proofs.check.answer_many.Goals as goal
 
@@ -21,7 +23,8 @@ judge_many-requires-clause-ready g c κs within =
       fresh =
           fetched-fresh (name_of g.H.Source.Source.name) (left_of g.H.Source.Source.left) (faults_of g.H.Source.Source.faults) texts
           c.as_slice.result.now c.in_ok-sources.sources.items c.in_ok-sources.ensures.fetched;
-      few_media = search rules;
+      few_media =
+          omega (arith, chosen-few c.args.job.now.media c.args.session.now, ap length c.chosen_media-media.ensures, c.session.invariant.few);
     }
 
 pub judge_many-requires-clause-some : goal.judge_many-requires-clause-some
@@ -29,6 +32,15 @@ judge_many-requires-clause-some g c κs within =
     let long = fetched-length (name_of g.H.Source.Source.name) (left_of g.H.Source.Source.left) (faults_of g.H.Source.Source.faults)
     (classic_texts (g.H.Shelf.text c.args.shelf.now)) c.as_slice.result.now c.in_ok-sources.sources.items c.in_ok-sources.ensures.fetched in
     omega (arith, long, ap length c.as_slice.ensures, c.job.invariant.captures_are.some)
+
+pub judge_many-requires-clause-some_media : goal.judge_many-requires-clause-some_media
+judge_many-requires-clause-some_media g c κs within =
+    let some = chosen-some c.args.job.now.media c.args.session.now c.requires.unsettled c.session.invariant.some in
+    omega (arith, some, ap length c.chosen_media-media.ensures)
+
+pub judge_many-requires-clause-targets : goal.judge_many-requires-clause-targets
+judge_many-requires-clause-targets g c κs within =
+    subst HaveOwnTargets (sym c.chosen_media-media.ensures) (chosen-targets c.args.job.now.media c.args.session.now c.requires.targets)
 
 pub returns-in_err-found-clause-follows : goal.returns-in_err-found-clause-follows
 returns-in_err-found-clause-follows g c =
@@ -66,5 +78,5 @@ returns-clause-follows g c =
     (subst (AreThere (g.H.Shelf.lacks c.args.shelf.now)) asked c.in_ok-sources.ensures.there)
     (subst (λ names. AreFetched (name_of g.H.Source.Source.name) (left_of g.H.Source.Source.left) (faults_of g.H.Source.Source.faults) texts names
     c.in_ok-sources.sources.items) asked c.in_ok-sources.ensures.fetched)
-    c.fetch_captures.ensures.stays c.judge_many.ensures.judged c.report_on.result c.in_ok-found.found c.in_ok-found.was (search rules)
-    c.report_on.ensures.text c.report_on.ensures.status c.report_on.ensures.memory
+    c.fetch_captures.ensures.stays c.judge_many.ensures.judged c.report_chosen.result c.in_ok-found.found c.in_ok-found.was (search rules)
+    c.report_chosen.ensures.text c.report_chosen.ensures.status c.report_chosen.ensures.memory

@@ -10,10 +10,11 @@ use Rattle.timing_report.specs.json_report.Reading.{IsReport}
 use Rattle.timing_report.specs.declared.json_report.reading.ReportProof.{ReportProof}
 use Rattle.timing_report.specs.declared.status.Status.TheVariants as status
 use Rattle.timing_steps.specs.Answers.{Answer, Gives, Inputs, Yields, silent}
-use Rattle.timing_steps.specs.Flows.{OnMedia, no_media}
-use Rattle.timing_steps.specs.Queries.{HasAnswer}
+use Rattle.timing_steps.specs.Flows.{OnMedia, no_choice, no_media}
+use Rattle.timing_steps.specs.Queries.{HasAnswer, OnEarly}
 use Rattle.timing_steps.specs.declared.failure.Failure.{Failure}
-use Rattle.timing_top.specs.verify.Asked.{DefinesVerified, FollowsReport, HasReported, ReadsNeeded, ReadsReport, claim_of, not_there, verify_query}
+use Rattle.timing_top.specs.verify.Asked.{AnswersClaims, AnswersReport, AnswersSession, DefinesVerified, FollowsReport, HasReported, ReadsReport, asked, claim_of}
+use Rattle.timing_top.specs.verify.Asked.{not_there, verify_query}
 use Rattle.timing_top.specs.verify.Findings.{Finds, FindsIn}
 use Rattle.timing_top.specs.verify.Verified.{verified}
 use Rattle.timing_steps.proofs.Capturing.{some-none}
@@ -41,35 +42,51 @@ matched o x P Q e h = subst (λ y. MatchOption y P Q) e h
 pub unmatched : {X : Type 0} (o : Option X) (P : Type 0) (Q : X → Type 0) → o ≡ None → MatchOption o P Q → P
 unmatched o P Q e h = subst (λ y. MatchOption y P Q) e h
 
--- a description was read, and what follows for its media was seen later
-pub report-session : (i j : Inputs) (job : ReportJob) (outcome : Result Answer Failure) (asked : List ℕ) (all media : List Media) → Sees i j → asked ≡ job.sdp
-    → all ≡ media → ¬ i.lacks asked
-    → ((text : List ℕ) → i.texts asked ≡ Some text → session text ≡ Ok media)
-    → Yields outcome (ReadsReport j outcome job.report
-    (λ claims. ReadsNeeded j outcome job all claims (λ text. Gives outcome (HasReported job all claims text)))) → FollowsReport job i outcome
-report-session i j job outcome asked all media s named same there told h =
-    follows-session i outcome job.sdp media
-    (λ m. ReadsReport i outcome job.report (λ claims. ReadsNeeded i outcome job m claims (λ text. Gives outcome (HasReported job m claims text))))
-    (subst (λ (n : List ℕ). ¬ i.lacks n) named there) (λ text t. told text (ap i.texts named ∙ t))
-    (yields-on outcome _ _ (λ r.
-    subst (λ (m : List Media).
-    ReadsReport i outcome job.report (λ claims. ReadsNeeded i outcome job m claims (λ text. Gives outcome (HasReported job m claims text)))) same
-    (report-seen i j outcome job.report (λ claims. ReadsNeeded j outcome job all claims (λ text. Gives outcome (HasReported job all claims text)))
-    (λ claims. ReadsNeeded i outcome job all claims (λ text. Gives outcome (HasReported job all claims text))) s
-    (λ claims n. needed-seen i j outcome job all claims (λ text. Gives outcome (HasReported job all claims text)) s n) r)) h)
+-- what follows for the fails that are checked, and for the media, was seen later
+claims-seen : (i j : Inputs) (job : ReportJob) (outcome : Result Answer Failure) (media : List Media) (claims : List ReportProof) → Sees i j
+    → AnswersClaims job j outcome media claims → AnswersClaims job i outcome media claims
+claims-seen i j job outcome media claims s h = needed-seen i j outcome job media claims (λ text. Gives outcome (HasReported job media claims text)) s h
 
--- a report was read, and what follows for its fails was seen later
-pub report-read : (i j : Inputs) (job : ReportJob) (media : List Media) (outcome : Result Answer Failure) (asked : List ℕ) (all claims : List ReportProof)
-    → Sees i j → asked ≡ job.report → all ≡ claims → ¬ i.lacks asked
-    → ((text : List ℕ) → i.texts asked ≡ Some text → IsReport text claims)
-    → Yields outcome (ReadsNeeded j outcome job media all (λ text. Gives outcome (HasReported job media all text)))
-    → Yields outcome (ReadsReport i outcome job.report (λ c. ReadsNeeded i outcome job media c (λ text. Gives outcome (HasReported job media c text))))
-report-read i j job media outcome asked all claims s named same there told h =
-    follows-report i outcome job.report claims (λ c. ReadsNeeded i outcome job media c (λ text. Gives outcome (HasReported job media c text)))
+early-seen : (i j : Inputs) (job : ReportJob) (outcome : Result Answer Failure) (media : List Media) (settled : Option Answer) → Sees i j
+    → OnEarly settled outcome (AnswersReport job j outcome media) → OnEarly settled outcome (AnswersReport job i outcome media)
+early-seen i j job outcome media (Some settled) s h = h
+early-seen i j job outcome media None s h =
+    report-seen i j outcome job.report (λ claims. AnswersClaims job j outcome media (asked job.media claims))
+    (λ claims. AnswersClaims job i outcome media (asked job.media claims)) s (λ claims n. claims-seen i j job outcome media (asked job.media claims) s n) h
+
+-- a description was read, and what follows for its media was seen later
+pub report-session : (i j : Inputs) (job : ReportJob) (outcome : Result Answer Failure) (name : List ℕ) (media : List Media) → Sees i j → name ≡ job.sdp
+    → ¬ i.lacks name
+    → ((text : List ℕ) → i.texts name ≡ Some text → session text ≡ Ok media)
+    → Yields outcome (AnswersSession job j outcome media) → FollowsReport job i outcome
+report-session i j job outcome name media s named there told h =
+    follows-session i outcome job.sdp media (AnswersSession job i outcome)
+    (subst (λ (n : List ℕ). ¬ i.lacks n) named there) (λ text t. told text (ap i.texts named ∙ t))
+    (yields-on outcome _ _ (λ r. early-seen i j job outcome media (no_choice job.media media) s r) h)
+
+-- the media settle the answer, or don't
+pub session-settled : (i : Inputs) (job : ReportJob) (media : List Media) (found : Option Answer) (answer : Answer) → found ≡ Some answer
+    → found ≡ no_choice job.media media → Yields (Ok answer) (AnswersSession job i (Ok answer) media)
+session-settled i job media found answer is early =
+    inr (subst (λ o. OnEarly o (Ok answer) (AnswersReport job i (Ok answer) media)) (sym is ∙ early) (answer, refl, refl))
+
+pub session-open : (i : Inputs) (job : ReportJob) (outcome : Result Answer Failure) (all media : List Media) (found : Option Answer) → found ≡ None
+    → found ≡ no_choice job.media media → all ≡ media → Yields outcome (AnswersReport job i outcome all) → Yields outcome (AnswersSession job i outcome media)
+session-open i job outcome all media found is early same h =
+    yields-on outcome _ _ (λ r. subst (λ o. OnEarly o outcome (AnswersReport job i outcome media)) (sym is ∙ early)
+    (subst (λ (m : List Media). AnswersReport job i outcome m) same r)) h
+
+-- a report was read, and what follows for the fails that are checked was seen later
+pub report-read : (i j : Inputs) (job : ReportJob) (media : List Media) (outcome : Result Answer Failure) (name : List ℕ) (all claims : List ReportProof)
+    → Sees i j → name ≡ job.report → all ≡ asked job.media claims → ¬ i.lacks name
+    → ((text : List ℕ) → i.texts name ≡ Some text → IsReport text claims)
+    → Yields outcome (AnswersClaims job j outcome media all)
+    → Yields outcome (AnswersReport job i outcome media)
+report-read i j job media outcome name all claims s named same there told h =
+    follows-report i outcome job.report claims (λ c. AnswersClaims job i outcome media (asked job.media c))
     (subst (λ (n : List ℕ). ¬ i.lacks n) named there) (λ text t. told text (ap i.texts named ∙ t))
     (yields-on outcome _ _ (λ n.
-    subst (λ (c : List ReportProof). ReadsNeeded i outcome job media c (λ text. Gives outcome (HasReported job media c text))) same
-    (needed-seen i j outcome job media all (λ text. Gives outcome (HasReported job media all text)) s n)) h)
+    subst (λ (c : List ReportProof). AnswersClaims job i outcome media c) same (claims-seen i j job outcome media all s n)) h)
 
 -- what was found in captures with these contents is the answer of `verify`
 pub has-verified : (job : VerifyJob) (media : List Media) (m : Media) (texts : List (List ℕ)) (claim : ReportProof) (options : FlowOptions) (finding : Result
