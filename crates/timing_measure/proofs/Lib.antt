@@ -5,7 +5,8 @@ mod Ends
 mod Taken
 mod Whole
 pub mod Held
-mod Reading
+mod Packets
+mod Chosen
 pub mod Answering
 pub mod Some
 pub mod Numbers
