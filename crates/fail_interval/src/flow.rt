@@ -17,6 +17,7 @@ ghost use Rattle.fail_interval.specs.Metered.{Heads, TellsOf};
 ghost use Rattle.fail_interval.specs.Parts.{judged_parts};
 
 use crate::run::RunJudge;
+use crate::shift::NanosecondShift;
 use frame_group::Grouper;
 use run_meter::{RunHead, RunMeter, RunPacket};
 use std::alloc::{AllocError as OutOfMemory, Global};
@@ -105,7 +106,7 @@ pub struct Flow<M: Drop> {
     alloc: Global,
     media: Media,
     /// Shift of the capture timestamps.
-    shift: Shift,
+    shift: NanosecondShift,
     grouper: Grouper,
     /// Runs before the open one. If there are any, there is room for one more.
     done: Vec<Run>,
@@ -130,7 +131,7 @@ impl<M: RunMeter> Flow<M> {
         Flow {
             alloc,
             media: *media,
-            shift,
+            shift: NanosecondShift::of(shift),
             grouper: Grouper::new(media.pt),
             done: Vec::new(alloc),
             open: None,

@@ -22,6 +22,7 @@ mod lull;
 mod metered;
 mod meters;
 mod run;
+mod shift;
 
 pub use bank::Bank;
 pub use judge::FlowJudge;

@@ -55,7 +55,7 @@ few-left (suc first) number (m ∷ ms) h = let less = few-left first number ms h
 
 -- a chosen media has its number in the session
 within-session : (only : Option ℕ) (session : List Media) (number : ℕ) → number < length (chosen only session) → first_chosen only + number < length session
-within-session None session number h = h
+within-session None session number h = omega (arith, h)
 within-session (Some first) session number h = few-left first number session h
 
 each-from : (first count total : ℕ) → ((number : ℕ) → number < count → first + number < total) → (keys : List FlowKey)
@@ -70,6 +70,6 @@ keys_of_rows job session rows is are =
     let count = length (chosen job.media session) in
     let files = if job.joined then 1 else length job.captures in
     let keys : AllByRecursion (IsKeyOf 16 count) (keys_of job.joined (length job.captures) count) =
-      files_keys 16 0 files count (omega (arith, few_files job.joined (length job.captures) is.captures_are.few)) in
+    files_keys 16 0 files count (omega (arith, few_files job.joined (length job.captures) is.captures_are.few)) in
     each-map (IsKeyOf 16 (length session)) rows (subst (AllByRecursion (IsKeyOf 16 (length session))) (sym are)
-      (each-from (first_chosen job.media) count (length session) (within-session job.media session) (keys_of job.joined (length job.captures) count) keys))
+    (each-from (first_chosen job.media) count (length session) (within-session job.media session) (keys_of job.joined (length job.captures) count) keys))

@@ -4,7 +4,7 @@ use Rattle.fail_interval.proofs.flow.Flow.new.Goals as goal
 
 pub returns-clause-stands : goal.returns-clause-stands
 returns-clause-stands g c = record {
-  limits = c.requires;
+  limits = search rules;
   grouper = search rules;
   sound = search rules;
   so_far = in_head 0;
