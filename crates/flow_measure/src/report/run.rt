@@ -5,7 +5,9 @@ ghost use Rattle.timing_report.specs.Outcomes.{verdict_on};
 ghost use Rattle.flow_measure.specs.report.Json.{bins_text, breaks_text, gap_member, kind_at, kind_text, kinds_from, kinds_text, run_end, run_front, run_middle, run_rest, run_text};
 ghost use Rattle.flow_measure.specs.report.Told.{bins_told, gaps_told, kind_told, numbers_told, run_told};
 
-use crate::report::pieces::{Held, Level, NumberIf, Outcome, Steps, Whole, counts_of, flag_name};
+use crate::report::pieces::{
+    Held, Level, NumberIf, Offsets, Outcome, Steps, Whole, counts_of, flag_name,
+};
 use crate::{Bins, Gaps, KindNumbers, MeasuredRun, RunNumbers};
 use std::alloc::{AllocError as OutOfMemory, Global};
 use timing_base::{Judged, Kind, Media};
@@ -82,9 +84,12 @@ fn kind_of(
         verdict: verdict_on(judged, kind),
         place: numbers.named,
     };
+    let troff = Offsets {
+        troff: numbers.troff,
+    };
     let name = kind_name(kind);
     format!(in alloc;
-        "{{\"bucket\":{bucket},\"buffer\":{buffer},{breaks},{outcome},\"type\":\"{name}\"}}"
+        "{{\"bucket\":{bucket},\"buffer\":{buffer},{breaks},{outcome},\"troff\":{troff},\"type\":\"{name}\"}}"
     )
 }
 
