@@ -1,7 +1,8 @@
--- The head of the page with all styles, its heading, the line on how the capture ends, the legend of the pictures, and
+-- The head of the page with all styles, its heading, the lines on how the captures end, the legend of the pictures, and
 -- the end of the page. The page has no script and loads no other file. A name is escaped, and has its own text
 -- direction (HTML Standard, `bdi`). This project's own format.
-use Rattle.std.specs.Prelude.{ℕ, List, ◌++◌, codes}
+use Rattle.std.specs.Prelude.{ℕ, zero, suc, List, [], ◌∷◌, ◌++◌, codes, length}
+use Rattle.std.specs.Fmt.{decimal}
 use Rattle.timing_base.specs.declared.capture.FileNote.{FileNote}
 use Rattle.timing_report.specs.Words.{note_text}
 use Rattle.flow_page.specs.chart.Figures.{told}
@@ -51,14 +52,46 @@ front =
     codes "<!DOCTYPE html><html lang=\"en\"><head><meta charset=\"utf-8\"><meta name=\"viewport\""
     ++ codes " content=\"width=device-width,initial-scale=1\"><title>"
 
--- the start of the page of a capture with this name
-abbrev pub page_start : List ℕ → List ℕ
-page_start name = told front name ++ (told styles name ++ codes "</bdi></h1>\n")
+-- how many captures there are beside the one that is named, if there are more
+abbrev pub more_text : (more : ℕ) → List ℕ
+more_text zero = []
+more_text (suc more) = codes " and " ++ (decimal (suc more) ++ codes " more")
 
--- the line on how the capture ends
+-- the start of the page of a capture with this name, and of this many more
+abbrev pub start_with : List ℕ → (more : ℕ) → List ℕ
+start_with name more =
+    told front name ++ (more_text more ++ (told styles name ++ (codes "</bdi>" ++ (more_text more
+    ++ codes "</h1>\n"))))
+
+-- the start of the page of the captures with these names
+abbrev pub page_start : List (List ℕ) → List ℕ
+page_start [] = start_with [] 0
+page_start (name ∷ names) = start_with name (length names)
+
+-- the line on how one capture ends
 abbrev pub note_line : FileNote → List ℕ
 note_line note =
     codes "<p>By SMPTE ST 2110-21. How the capture ends: " ++ (note_text note ++ codes ".</p>\n")
+
+-- one of several captures, and how it ends
+abbrev pub note_item : List ℕ → FileNote → List ℕ
+note_item name note = told (codes "<li><bdi>") name ++ (codes "</bdi>: " ++ (note_text note ++ codes "</li>"))
+
+-- several captures in their order; if the lists differ in length, the shorter one counts
+abbrev pub note_items : List (List ℕ) → List FileNote → List ℕ
+note_items (name ∷ names) (note ∷ notes) = note_item name note ++ note_items names notes
+note_items [] notes = []
+note_items (name ∷ names) [] = []
+
+-- the list of several captures, and how each of them ends
+abbrev pub notes_list : List (List ℕ) → List FileNote → List ℕ
+notes_list names notes =
+    codes "<p>By SMPTE ST 2110-21. How the captures end:</p>\n<ol>" ++ (note_items names notes ++ codes "</ol>\n")
+
+-- how the captures with these names end
+abbrev pub notes_part : List (List ℕ) → List FileNote → List ℕ
+notes_part (name ∷ []) (note ∷ []) = note_line note
+notes_part names notes = notes_list names notes
 
 -- the legend of the pictures
 unfoldable pub legend : List ℕ

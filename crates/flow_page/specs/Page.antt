@@ -1,6 +1,6 @@
--- The whole page of a capture: the table of its media, for each flow with a judged run the pictures and the
--- measurements of one run, and the other contents of the capture. Capture timestamps are nanoseconds. Media count from
--- 1 in the text. This project's own format.
+-- The whole page of a capture, or of several that were taken as one: the table of the media, for each flow with a judged
+-- run the pictures and the measurements of one run, and the other contents of the captures. Capture timestamps are
+-- nanoseconds. Media count from 1 in the text. This project's own format.
 use Rattle.std.specs.Prelude.{ℕ, ◌+◌, List, [], ◌++◌, codes, Option, Some, None}
 use Rattle.std.specs.Fmt.{decimal}
 use Rattle.std.specs.List.{flat_map}
@@ -14,7 +14,7 @@ use Rattle.flow_measure.specs.declared.numbers.MeasuredFlow.{MeasuredFlow}
 use Rattle.flow_measure.specs.declared.numbers.MeasuredRun.{MeasuredRun}
 use Rattle.flow_page.specs.chart.Figures.{told}
 use Rattle.flow_page.specs.Around.{around_figures}
-use Rattle.flow_page.specs.Head.{legend, note_line, page_end, page_start}
+use Rattle.flow_page.specs.Head.{legend, notes_part, page_end, page_start}
 use Rattle.flow_page.specs.Levels.{level_figures}
 use Rattle.flow_page.specs.Media.{flow_media, media_table}
 use Rattle.flow_page.specs.Numbers.{numbers_table, runs_table, types_table}
@@ -87,8 +87,8 @@ contents_told lines = told (codes "<h2>What the capture holds</h2>\n<div class=\
 unfoldable pub contents_part : List ℕ → List ℕ
 contents_part lines = contents_told lines ++ codes "</pre></div>\n"
 
--- the page of a capture with this name and this end; `lines` is what the capture contains
-abbrev pub page_of : List ℕ → FileNote → (shift : Shift) → List Media → List FlowPage → List ℕ → List ℕ
-page_of name note shift session flows lines =
-    page_start name ++ (note_line note ++ (media_table session flows ++ (legend ++ (flow_parts shift session flows
-    ++ (contents_part lines ++ page_end)))))
+-- the page of the captures with these names and these ends, in their order; `lines` is what the captures contain
+abbrev pub page_of : List (List ℕ) → List FileNote → (shift : Shift) → List Media → List FlowPage → List ℕ → List ℕ
+page_of names notes shift session flows lines =
+    page_start names ++ (notes_part names notes ++ (media_table session flows ++ (legend
+    ++ (flow_parts shift session flows ++ (contents_part lines ++ page_end)))))

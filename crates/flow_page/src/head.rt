@@ -1,11 +1,13 @@
 //! The head and the end of the page.
 
 ghost use Rattle.std.specs.Prelude.{◌≡◌, ◌++◌, IfOk, string_bytes};
-ghost use Rattle.flow_page.specs.Head.{front, legend, note_line, page_end, page_start, styles};
+ghost use Rattle.flow_page.specs.Head.{front, legend, note_item, note_items, note_line, notes_list, notes_part};
+ghost use Rattle.flow_page.specs.Head.{page_end, page_start, start_with, styles};
 
 use crate::chart::add_told;
 use std::alloc::AllocError as OutOfMemory;
-use timing_base::FileNote;
+use std::fmt;
+use timing_base::{FileName, FileNote};
 use timing_report::NoteText;
 
 /// Returns the first bytes of the page, up to its title.
@@ -32,17 +34,64 @@ fn legend() -> &'static str
     "<p class=\"legend\">In the curves each mark spans the least and the greatest number of its packets, frames or fields <svg class=\"key\" viewBox=\"0 0 28 12\" aria-hidden=\"true\"><path class=\"band\" d=\"M2 3H26V9H2Z\"/></svg>, so no peak is hidden. Limits are lines with their names at the right: those of N and NL are dashed <svg class=\"key\" viewBox=\"0 0 28 12\" aria-hidden=\"true\"><path class=\"lim\" d=\"M0 6H28\"/></svg>, those of W dotted <svg class=\"key\" viewBox=\"0 0 28 12\" aria-hidden=\"true\"><path class=\"lim w\" d=\"M0 6H28\"/></svg>; faint uprights are the ends of frames or fields. In the bars what is beyond a limit stands behind the limit's line, or before 0, and is named so. Packets, frames and fields count from 0, records from 1.</p>\n"
 }
 
-/// Adds the start of the page of a capture with this name: the head with all styles, and the heading.
-pub(crate) fn add_page_start(text: &mut String, name: &str) -> Result<(), OutOfMemory>
-    ensures { IfOk result (λ _. string_bytes text.new ≡ string_bytes text.old ++ page_start name.now) }
-{
-    add_told(text, front(), name)?;
-    add_told(text, styles(), name)?;
-    text.push_str("</bdi></h1>\n")
+/// The words on how many captures there are beside the one that is named; empty if there are no more.
+#[derive(Clone, Copy)]
+struct More {
+    more: usize,
 }
 
-/// Adds the line on how the capture ends.
-pub(crate) fn add_note_line(text: &mut String, note: FileNote) -> Result<(), OutOfMemory>
+impl fmt::Display for More {
+    ghost use Rattle.std.specs.Prelude.{Some};
+    ghost use Rattle.flow_page.specs.Head.{more_text};
+
+    ghost output = { λ more. Some (more_text more.more) };
+
+    fn fmt<W: fmt::Write>(&self, f: &mut fmt::Formatter<W>) -> fmt::Result {
+        match self.more {
+            0 => Ok(()),
+            more => write!(f, " and {more} more"),
+        }
+    }
+}
+
+/// Adds the start of the page of captures with these names: the head with all styles, and the heading.
+pub(crate) fn add_page_start(text: &mut String, names: &[FileName]) -> Result<(), OutOfMemory>
+    ensures { IfOk result (λ _. string_bytes text.new ≡ string_bytes text.old ++ page_start names.now) }
+{
+    match names {
+        [] => add_start(text, "", 0),
+        [name, ..] => add_start(text, name.as_str(), names.len() - 1),
+    }
+}
+
+/// Adds the start of the page of a capture with this name, and of this many more.
+fn add_start(text: &mut String, name: &str, more: usize) -> Result<(), OutOfMemory>
+    ensures { IfOk result (λ _. string_bytes text.new ≡ string_bytes text.old ++ start_with name.now more) }
+{
+    let more = More { more };
+    add_told(text, front(), name)?;
+    write!(text, "{more}")?;
+    add_told(text, styles(), name)?;
+    write!(text, "</bdi>{more}</h1>\n")
+}
+
+/// Adds how the captures with these names end. If the lists differ in length, the shorter one counts.
+pub(crate) fn add_notes(
+    text: &mut String,
+    names: &[FileName],
+    notes: &[FileNote],
+) -> Result<(), OutOfMemory>
+    ensures { IfOk result (λ _. string_bytes text.new
+        ≡ string_bytes text.old ++ notes_part names.now notes.now) }
+{
+    match (names, notes) {
+        ([_], [note]) => add_note_line(text, *note),
+        _ => add_notes_list(text, names, notes),
+    }
+}
+
+/// Adds the line on how one capture ends.
+fn add_note_line(text: &mut String, note: FileNote) -> Result<(), OutOfMemory>
     ensures { IfOk result (λ _. string_bytes text.new ≡ string_bytes text.old ++ note_line note) }
 {
     let note = NoteText { note };
@@ -50,6 +99,47 @@ pub(crate) fn add_note_line(text: &mut String, note: FileNote) -> Result<(), Out
         text,
         "<p>By SMPTE ST 2110-21. How the capture ends: {note}.</p>\n"
     )
+}
+
+/// Adds the list of several captures, and how each of them ends.
+fn add_notes_list(
+    text: &mut String,
+    names: &[FileName],
+    notes: &[FileNote],
+) -> Result<(), OutOfMemory>
+    ensures { IfOk result (λ _. string_bytes text.new
+        ≡ string_bytes text.old ++ notes_list names.now notes.now) }
+{
+    text.push_str("<p>By SMPTE ST 2110-21. How the captures end:</p>\n<ol>")?;
+    add_note_items(text, names, notes)?;
+    text.push_str("</ol>\n")
+}
+
+/// Adds several captures in their order, and how each of them ends.
+fn add_note_items(
+    text: &mut String,
+    names: &[FileName],
+    notes: &[FileNote],
+) -> Result<(), OutOfMemory>
+    ensures { IfOk result (λ _. string_bytes text.new
+        ≡ string_bytes text.old ++ note_items names.now notes.now) }
+{
+    for (file, name) in names.iter().enumerate() {
+        let Some(note) = notes.get(file) else {
+            return Ok(());
+        };
+        add_note_item(text, name.as_str(), *note)?;
+    }
+    Ok(())
+}
+
+/// Adds one of several captures, and how it ends.
+fn add_note_item(text: &mut String, name: &str, note: FileNote) -> Result<(), OutOfMemory>
+    ensures { IfOk result (λ _. string_bytes text.new ≡ string_bytes text.old ++ note_item name.now note) }
+{
+    let note = NoteText { note };
+    add_told(text, "<li><bdi>", name)?;
+    write!(text, "</bdi>: {note}</li>")
 }
 
 /// Adds the legend of the pictures.

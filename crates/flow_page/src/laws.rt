@@ -2,6 +2,7 @@
 
 ghost use Rattle.std.specs.Prelude.{◌≡◌, ◌++◌, ◌∷◌, [], ℕ, codes, neg_ℤ, pos, true, false, Some, None};
 ghost use Rattle.timing_base.specs.Shifts.{no_shift};
+ghost use Rattle.timing_base.specs.declared.capture.FileNote.TheVariants as note;
 ghost use Rattle.timing_base.specs.declared.fail.Broken.TheVariants.{Bucket, Empty, Over};
 ghost use Rattle.timing_base.specs.declared.media.Kind.TheVariants.{N, NL, W};
 ghost use Rattle.sender_params.specs.Worked.{hd_25_interlaced, hd_50, hd_59_94};
@@ -9,6 +10,7 @@ ghost use Rattle.flow_measure.specs.Worked.{column};
 ghost use Rattle.flow_measure.specs.declared.numbers.KindNumbers.{KindNumbers};
 ghost use Rattle.flow_measure.specs.declared.numbers.RunNumbers.{RunNumbers};
 ghost use Rattle.flow_page.specs.Around.{around_detail, around_scene, broken_line};
+ghost use Rattle.flow_page.specs.Head.{more_text, notes_part, page_start, start_with};
 ghost use Rattle.flow_page.specs.Levels.{eye_columns, level_summary, limit_words, run_columns, type_line};
 ghost use Rattle.flow_page.specs.Media.{run_cells, type_cells};
 ghost use Rattle.flow_page.specs.Numbers.{after_row, level_rows, run_packets, run_peaks, step_row, summary_row};
@@ -28,6 +30,21 @@ ghost use Rattle.flow_page.specs.declared.levels.Level.TheVariants as level;
 ghost use Rattle.flow_page.specs.declared.shown.Curves.{Curves};
 ghost use Rattle.flow_page.specs.declared.shown.Region.{Region};
 ghost use Rattle.flow_page.specs.declared.timings.Timing.TheVariants.{First, Last, Latency, Offset};
+
+/// How captures end: one, and two of which the second ends within the packet record at byte 40. The title and the
+/// heading name the first one, and say how many more there are.
+#[tactic(auto, unfolding(crate::proofs::Numerals::numerals))]
+pub fn captures_by_hand()
+    ensures alone { notes_part (codes "a.pcap" ∷ []) (note.End ∷ [])
+        ≡ codes "<p>By SMPTE ST 2110-21. How the capture ends: end.</p>\n" }
+    ensures joined { notes_part (codes "a.pcap" ∷ codes "<b>.pcap" ∷ []) (note.End ∷ note.Cut 40 ∷ [])
+        ≡ codes "<p>By SMPTE ST 2110-21. How the captures end:</p>\n<ol><li><bdi>a.pcap</bdi>: end</li>"
+        ++ codes "<li><bdi>&lt;b&gt;.pcap</bdi>: cut at 40</li></ol>\n" }
+    ensures no_more { page_start (codes "a" ∷ []) ≡ start_with (codes "a") 0 }
+    ensures two_more { page_start (codes "a" ∷ codes "b" ∷ codes "c" ∷ []) ≡ start_with (codes "a") 2 }
+    ensures words { more_text 2 ≡ codes " and 2 more" }
+    ensures none { more_text 0 ≡ [] }
+{}
 
 /// A capture timestamp as the file has it: without a shift, with seconds that were added, and with a delay that was
 /// subtracted after them.

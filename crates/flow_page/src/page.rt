@@ -12,7 +12,7 @@ ghost use Rattle.flow_page.specs.Times.{file_time};
 
 use crate::around::add_around_figures;
 use crate::chart::add_told;
-use crate::head::{add_legend, add_note_line, add_page_end, add_page_start};
+use crate::head::{add_legend, add_notes, add_page_end, add_page_start};
 use crate::levels::{View, add_level_figures};
 use crate::media::{add_media_table, flow_media};
 use crate::numbers::{add_numbers_table, add_runs_table, add_types_table};
@@ -23,7 +23,7 @@ use crate::timings::{add_steps_line, add_timing_figures, period_of};
 use crate::words::add_words;
 use flow_measure::{MeasuredFlow, MeasuredRun};
 use std::alloc::{AllocError as OutOfMemory, Global};
-use timing_base::{FileNote, Media, Session, Shift, Target};
+use timing_base::{FileName, FileNote, Media, Session, Shift, Target};
 use timing_report::group_name;
 
 /// Adds markup as it is.
@@ -228,27 +228,28 @@ fn add_contents_part(text: &mut String, contents: &str) -> Result<(), OutOfMemor
     add_markup(text, "</pre></div>\n")
 }
 
-/// Returns the page of a capture. `name` is the name of the capture, `note` how it ends, and `shift` that of its
-/// timestamps, which the page shows as the capture has them. Each flow belongs to a media of the session, and
-/// `contents` is what `scan` prints for the capture. Returns `Err` if memory runs out.
+/// Returns the page of one capture, or of several that were taken as one. `names` has the names of the captures,
+/// `notes` how each of them ends, and `shift` is that of their timestamps, which the page shows as the captures have
+/// them. Each flow belongs to a media of the session, and `contents` is what `scan` prints for the captures. Returns
+/// `Err` if memory runs out.
 ///
 /// The page has no script and loads no other file. Numbers are drawn at the place of their value, rounded down to a
 /// tenth of an SVG unit. Characters of names that HTML would read as markup are escaped.
 pub fn page_text(
     alloc: Global,
-    name: &str,
-    note: FileNote,
+    names: &[FileName],
+    notes: &[FileNote],
     shift: Shift,
     session: &Session,
     flows: &[FlowPage],
     contents: &str,
 ) -> Result<String, OutOfMemory>
     requires { AreOfMedia session.now flows.now }
-    ensures { IfOk result (λ s. string_bytes s ≡ page_of name.now note shift session.now flows.now contents.now) }
+    ensures { IfOk result (λ s. string_bytes s ≡ page_of names.now notes.now shift session.now flows.now contents.now) }
 {
     let mut text = String::new(alloc);
-    add_page_start(&mut text, name)?;
-    add_note_line(&mut text, note)?;
+    add_page_start(&mut text, names)?;
+    add_notes(&mut text, names, notes)?;
     add_media_table(&mut text, alloc, session, flows)?;
     add_legend(&mut text)?;
     add_flow_parts(&mut text, alloc, shift, session, flows)?;

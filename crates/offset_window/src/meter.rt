@@ -30,7 +30,7 @@ pub struct WindowMeter {
     upper: WindowEnd,
     /// Next packets that move neither end.
     quiet: Quiet,
-    ghost few: { seen ≤ 2 ^ 40 },
+    ghost few: { seen ≤ 2 ^ 41 },
     ghost quiet_is: { seen < quiet.until → IsQuiet grid (late_of lower) (early_of upper) seen quiet },
 }
 
@@ -70,7 +70,7 @@ impl WindowMeter {
     #[inline(always)]
     pub fn feed(&mut self, params: &Params, at: u64)
         requires in_time { at < 2 ^ 62 }
-        requires few { self.old.seen < 2 ^ 40 }
+        requires few { self.old.seen < 2 ^ 41 }
 
         ensures seen { self.new.seen ≡ self.old.seen + 1 }
 
@@ -106,7 +106,7 @@ impl WindowMeter {
     #[inline(never)]
     fn measure(&mut self, full: u64, at: u64)
         requires in_time { at < 2 ^ 62 }
-        requires few { self.old.seen < 2 ^ 40 }
+        requires few { self.old.seen < 2 ^ 41 }
         ensures kind { self.new.kind ≡ self.old.kind }
         ensures grid { self.new.grid ≡ self.old.grid }
         ensures seen { self.new.seen ≡ self.old.seen + 1 }

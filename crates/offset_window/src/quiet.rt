@@ -48,7 +48,7 @@ impl Quiet {
     /// packets. With the offset `late` none of them comes after its own read, and with the offset `early` none comes
     /// before the read that makes room for it. Offsets are in microseconds.
     pub fn after(grid: &Grid, late: u32, early: u32, full: u64, seen: u64) -> Quiet
-        requires { seen ≤ 2 ^ 40 }
+        requires { seen ≤ 2 ^ 41 }
         ensures back { seen < result.until → result.back ≡ full }
         ensures quiet { seen < result.until → IsQuiet grid.now late early seen result }
     {

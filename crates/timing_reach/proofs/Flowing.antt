@@ -2,38 +2,38 @@
 use Rattle.std.proofs.Common.{◌≡◌, ◌^◌, ℕ, zero, suc, List, [], ◌∷◌, Option, Some, None, refl, sym, subst}
 use Rattle.std.specs.Prelude.{All, slice_get}
 use Rattle.std.proofs.lemmas.List.Elements.{All-head, All-tail}
-use Rattle.timing_base.specs.Captures.{Record}
+use Rattle.timing_base.specs.Captures.{Record, joined}
 use Rattle.timing_base.specs.Jobs.{FlowJob}
 use Rattle.timing_base.specs.Media.{Media}
 use Rattle.timing_base.specs.declared.capture.FileNote.{FileNote}
-use Rattle.pcap_reader.specs.Records.{Records}
+use Rattle.pcap_reader.specs.Records.{AreRecords}
 use Rattle.timing_steps.specs.Answers.{Answer}
 use Rattle.timing_steps.specs.Flows.{OnMedia, flow_query, no_media, no_such_media}
-use Rattle.timing_steps.specs.Queries.{HasAnswer, only_file, only_note}
+use Rattle.timing_steps.specs.Queries.{HasAnswer}
 use Rattle.timing_steps.proofs.Capturing.{some-none}
 use Rattle.timing_steps.proofs.Onces.{DefinesOnce}
 
--- the answer for a media that the SDP has, in a capture with these packet records
-pub has-flow : (job : FlowJob) (Has : Media → List Record → FileNote → Answer → Type 0) (media : List Media) (m : Media) (text : List ℕ) (items : List Record)
-    (note : FileNote) (answer : Answer) → slice_get media job.media ≡ Some m → Records text (2 ^ 40) items note → Has m items note answer
-    → HasAnswer (flow_query job Has) media (text ∷ []) answer
-has-flow job Has media m text items note answer found read h = record {
-  files = items ∷ [];
-  notes = note ∷ [];
-  records = (read, tt);
-  defined = subst (λ o. OnMedia o (λ x. Has x items note answer)) (sym found) h;
+-- the answer for a media that the SDP has, in captures with these packet records
+pub has-flow : (job : FlowJob) (Has : Media → List Record → List FileNote → Answer → Type 0) (media : List Media) (m : Media) (texts : List (List ℕ))
+    (files : List (List Record)) (notes : List FileNote) (answer : Answer) → slice_get media job.media ≡ Some m → AreRecords texts files notes
+    → Has m (joined files) notes answer → HasAnswer (flow_query job Has) media texts answer
+has-flow job Has media m texts files notes answer found read h = record {
+  files = files;
+  notes = notes;
+  records = read;
+  defined = subst (λ o. OnMedia o (λ x. Has x (joined files) notes answer)) (sym found) h;
 }
 
 -- a command on one flow has one answer, if each media has
-pub once-flow : (job : FlowJob) (Has : Media → List Record → FileNote → Answer → Type 0)
-    → ((m : Media) (items : List Record) (note : FileNote) (a b : Answer) → Has m items note a → Has m items note b → a ≡ b)
+pub once-flow : (job : FlowJob) (Has : Media → List Record → List FileNote → Answer → Type 0)
+    → ((m : Media) (items : List Record) (notes : List FileNote) (a b : Answer) → Has m items notes a → Has m items notes b → a ≡ b)
     → DefinesOnce (flow_query job Has)
 once-flow job Has once media files notes a b h k = on (slice_get media job.media) h k
   where
-    on : (found : Option Media) → OnMedia found (λ m. Has m (only_file files) (only_note notes) a)
-        → OnMedia found (λ m. Has m (only_file files) (only_note notes) b) → a ≡ b
+    on : (found : Option Media) → OnMedia found (λ m. Has m (joined files) notes a)
+        → OnMedia found (λ m. Has m (joined files) notes b) → a ≡ b
     on None h k = absurd h
-    on (Some m) h k = once m (only_file files) (only_note notes) a b h k
+    on (Some m) h k = once m (joined files) notes a b h k
 
 -- the media with a number has an answer, if the SDP has it
 pub some-on-media : (media : List Media) (number : ℕ) (Has : Media → Answer → Type 0) → no_media (slice_get media number) ≡ None

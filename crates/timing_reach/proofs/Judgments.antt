@@ -6,7 +6,8 @@ use Rattle.timing_base.specs.Verdicts.{Judged}
 use Rattle.timing_base.specs.declared.row.Verdict.TheVariants as verdict
 use Rattle.fail_interval.specs.Row.{judged_values, verdict_of}
 use Rattle.timing_steps.specs.Answers.{Answer}
-use Rattle.timing_reach.specs.Asked.{OnRun, not_judged}
+use Rattle.timing_steps.specs.Flows.{not_judged}
+use Rattle.timing_reach.specs.Asked.{OnRun}
 
 pub not-run : (m : Media) (next : JudgedRun → Answer → Type 0) (v : FlowVerdict) (answer : Answer) → ((j : Judged) → verdict_of m v ≡ verdict.Judged j → ⊥)
     → answer ≡ not_judged m (verdict_of m v) → OnRun m next v answer

@@ -10,7 +10,7 @@ use Rattle.std.proofs.lemmas.List.Elements.{All-push, filter_map-append}
 use Rattle.std.proofs.lemmas.Nat.{mul-le}
 use Rattle.timing_base.specs.Numbered.{numbered}
 use Rattle.timing_base.specs.Shifts.{FlowOptions, Shift}
-use Rattle.timing_base.specs.Captures.{IsStamp, Record}
+use Rattle.timing_base.specs.Captures.{IsStamp, Record, joined}
 use Rattle.timing_base.specs.Grouped.{IsGrouped, IsGroupedVerdict}
 use Rattle.timing_base.specs.Judged.{JudgedRun, in_one_run, judged, stamp_of, whole_frames}
 use Rattle.timing_base.specs.Media.{Media}
@@ -81,13 +81,13 @@ reads-packet old new p frame stamp short takes keeps = λ m r is carried key opt
       };
     }
 
--- the records of a text were read
-pub kept-in : (text : List ℕ) (m : Media) (key : FlowKey) (options : FlowOptions) (list : Bool) (old new : Reading) (f : KeptFlow)
+-- the records of captures were read
+pub kept-in : (texts : List (List ℕ)) (m : Media) (key : FlowKey) (options : FlowOptions) (list : Bool) (old new : Reading) (f : KeptFlow)
     → IsReading m key options list old []
-    → TakesIn (ReadsOn m) text old new → ((items : List Record) → IsReading m key options list new items → IsKeptFlow m options list items f)
-    → IsKeptIn m options list text f
-kept-in text m key options list old new f start t finish =
-    record { items = t.items; note = t.note; records = t.records; flow_is = finish t.items (t.fed key options list [] start) }
+    → TakesIn (ReadsOn m) texts old new → ((items : List Record) → IsReading m key options list new items → IsKeptFlow m options list items f)
+    → IsKeptIn m options list texts f
+kept-in texts m key options list old new f start t finish =
+    record { files = t.files; notes = t.notes; records = t.records; flow_is = finish (joined t.files) (t.fed key options list [] start) }
 
 -- some records were read, and few
 pub kept-some : (m : Media) (key : FlowKey) (options : FlowOptions) (most : ℕ) (list : Bool) (old new : Reading) (f : KeptFlow)

@@ -7,7 +7,7 @@ use Rattle.std.proofs.Math.Seq.{get_or-append_seam, take-length}
 use Rattle.std.proofs.lemmas.Bool.{cases_lt}
 use Rattle.std.proofs.lemmas.List.{get_or_append_left, length-take-le}
 use Rattle.timing_base.specs.Shifts.{Shift}
-use Rattle.timing_base.specs.Captures.{Record}
+use Rattle.timing_base.specs.Captures.{Record, joined}
 use Rattle.timing_base.specs.Jobs.{ShapeJob}
 use Rattle.timing_base.specs.Judged.{JudgedRun, judged}
 use Rattle.timing_base.specs.Media.{IsMedia, Media}
@@ -22,7 +22,6 @@ use Rattle.flow_shaper.proofs.SomeBound.{bound-some}
 use Rattle.udp_rtp.specs.Flow.{flow}
 use Rattle.timing_report.specs.declared.status.Status.TheVariants as status
 use Rattle.timing_steps.specs.Answers.{Answer}
-use Rattle.timing_steps.specs.Queries.{only_file, only_note}
 use Rattle.timing_steps.proofs.Onces.{DefinesOnce, DefinesSome}
 use Rattle.timing_reach.specs.Shaped.{DefinesShape, shape_query}
 use Rattle.timing_reach.specs.Shapes.{AreBounds, HasShape, IsLate, LeaveInTime, Prints, delays, delays_line, end_of, flow_records, greatest, not_shaped}
@@ -137,8 +136,8 @@ shape-some list shift kind m items run is some few =
 pub some-shape : (job : ShapeJob) (texts : List (List ℕ)) → DefinesSome (shape_query job) texts
 some-shape job texts media files notes are unsettled records =
     let options = job.flow.options in
-    let items = only_file files in
-    some-on-media media job.flow.media (λ m answer. DefinesShape job m items (only_note notes) answer) unsettled
+    let items = joined files in
+    some-on-media media job.flow.media (λ m answer. DefinesShape job m items notes answer) unsettled
     (λ m found. some-on m (HasShape job.list options.shift job.kind m items) (judged (flow items m) m.pt options) (judged-size (flow items m) m.pt options)
     (λ run size. shape-some job.list options.shift job.kind m items run (all-media IsMedia media job.flow.media m are found) size.some size.few))
 
@@ -146,5 +145,5 @@ some-shape job texts media files notes are unsettled records =
 pub once-shape : (job : ShapeJob) → DefinesOnce (shape_query job)
 once-shape job =
     once-flow job.flow (DefinesShape job)
-    (λ m items note a b h k. once-on m (HasShape job.list job.flow.options.shift job.kind m items) (judged (flow items m) m.pt job.flow.options) a b
+    (λ m items notes a b h k. once-on m (HasShape job.list job.flow.options.shift job.kind m items) (judged (flow items m) m.pt job.flow.options) a b
     (λ run x y. shape-once job.list job.flow.options.shift job.kind m items run a b x y) h k)

@@ -1,4 +1,4 @@
--- The records of a capture that stands alone, and what follows from an answer or an option.
+-- The records of captures that were taken, and what follows from an answer or an option.
 use Rattle.std.specs.Prelude.{IfOk, Result, Ok, Err, is_some}
 use Rattle.std.proofs.Common.{◌≡◌, ℕ, false, List, Option, Some, None, refl, sym, subst}
 use Rattle.std.proofs.lemmas.Bool.{false≢true}
@@ -7,7 +7,8 @@ use Rattle.timing_base.specs.Media.{Media}
 use Rattle.pcap_reader.specs.Taken.{TakesFew}
 use Rattle.pcap_reader.specs.declared.records.Taken.{Taken}
 use Rattle.pcap_reader.proofs.Captures.{map-raised}
-use Rattle.timing_steps.specs.Taken.{TakesText}
+use Rattle.timing_steps.specs.Taken.{TakesText, TakesTexts}
+use Rattle.timing_steps.specs.declared.captures.TakenCaptures.{TakenCaptures}
 use Rattle.flow_demux.specs.Takings.{TakesFlow}
 use Rattle.flow_demux.specs.declared.media_flow.MediaFlow.{MediaFlow}
 use Rattle.timing_reach.specs.judged.Flows.{TakesIn}
@@ -17,16 +18,17 @@ pub fed-alone : {T : Type 0} (takes : T → T → List Record → Type 0) (text 
     → takes old new t.items
 fed-alone takes text old new read t = subst (takes old new) (map-raised t.items) t.fed
 
--- a taker took the flow of a media in the packet records of a capture's contents
-pub flow-taken : {F : Type 0} (takes : Media → F → F → List Record → Type 0) (text : List ℕ) (m : Media) (taker : F) (old new : MediaFlow F) (read : Taken)
-    → old.media ≡ m → old.taker ≡ taker → TakesText (TakesFlow takes) text 0 old new read → TakesIn (takes m) text taker new.taker
-flow-taken {F} takes text m taker old new read media is t =
-    subst (λ (x : Media). TakesIn (takes x) text taker new.taker) media
-    (subst (λ (x : F). TakesIn (takes old.media) text x new.taker) is record {
-      items = t.items;
-      note = read.note;
+-- a taker took the flow of a media in the packet records of the contents of captures
+pub flow-taken : {F : Type 0} (takes : Media → F → F → List Record → Type 0) (texts : List (List ℕ)) (m : Media) (taker : F) (old new : MediaFlow F)
+    (read : TakenCaptures)
+    → old.media ≡ m → old.taker ≡ taker → TakesTexts (TakesFlow takes) texts old new read → TakesIn (takes m) texts taker new.taker
+flow-taken {F} takes texts m taker old new read media is t =
+    subst (λ (x : Media). TakesIn (takes x) texts taker new.taker) media
+    (subst (λ (x : F). TakesIn (takes old.media) texts x new.taker) is record {
+      files = t.files;
+      notes = read.notes.items;
       records = t.records;
-      fed = (fed-alone (TakesFlow takes) text old new read t).fed;
+      fed = t.fed.fed;
     })
 
 -- a taker took the flow of a media in some packet records

@@ -8,7 +8,8 @@ use Rattle.offset_window.proofs.Unique.{window-once, window-some}
 use Rattle.offset_window.specs.declared.window.Window.{Window}
 use Rattle.timing_report.specs.declared.status.Status.TheVariants as status
 use Rattle.timing_steps.specs.Answers.{Answer}
-use Rattle.timing_reach.specs.Asked.{OnRun, not_judged}
+use Rattle.timing_steps.specs.Flows.{not_judged}
+use Rattle.timing_reach.specs.Asked.{OnRun}
 use Rattle.timing_reach.specs.Windows.{AreWindowsOf, HasLines, windows_text}
 use Rattle.timing_reach.specs.declared.window.windows.Windows.{Windows}
 use Rattle.timing_reach.proofs.RunSizes.{HasSize, RunHasSize}

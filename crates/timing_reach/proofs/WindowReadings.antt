@@ -3,7 +3,7 @@ use Rattle.std.specs.Prelude.{IsSome, Option, Some, None}
 use Rattle.std.proofs.Common.{◌≡◌, ◌≤◌, ◌+◌, ℕ, List, [], ◌∷◌, refl, arith, ap, ◌∙◌, subst}
 use Rattle.timing_base.specs.Numbered.{numbered}
 use Rattle.timing_base.specs.Shifts.{FlowOptions}
-use Rattle.timing_base.specs.Captures.{Record}
+use Rattle.timing_base.specs.Captures.{Record, joined}
 use Rattle.timing_base.specs.Judged.{JudgedRun, in_one_run, judged, whole_frames}
 use Rattle.timing_base.specs.Media.{Media}
 use Rattle.timing_base.specs.Verdicts.{Judged}
@@ -15,7 +15,8 @@ use Rattle.fail_interval.specs.Meterings.{HasRoom as JudgeHasRoom}
 use Rattle.pcap_reader.specs.Taken.{TakesFew}
 use Rattle.udp_rtp.specs.Flow.{flow, flow_packet}
 use Rattle.timing_steps.specs.Answers.{Answer}
-use Rattle.timing_reach.specs.Asked.{OnRun, not_judged}
+use Rattle.timing_steps.specs.Flows.{not_judged}
+use Rattle.timing_reach.specs.Asked.{OnRun}
 use Rattle.timing_reach.specs.Windows.{HasLines}
 use Rattle.timing_reach.specs.judged.Flows.{TakesIn}
 use Rattle.timing_reach.specs.window.Gauging.{AreWindowsIn, IsGauged, Passes, count_gauged}
@@ -72,13 +73,13 @@ pub verdict-on : (m : Media) (options : FlowOptions) (packets : List FlowPacket)
 verdict-on m options packets x v answer is other e h =
     not-run m (HasLines m) (judged packets m.pt options) answer (λ j s. other j (h.verdict_is ∙ s)) (e ∙ ap (not_judged m) (is ∙ h.verdict_is))
 
--- the records of a text were read
-pub measured-in : (text : List ℕ) (m : Media) (key : FlowKey) (options : FlowOptions) (old new : Reading) (x : Measured) → IsReading m key options old []
-    → TakesIn (ReadsOn m) text old new → ((packets : List FlowPacket) → IsReading m key options new packets → IsMeasured m options packets x)
-    → IsMeasuredIn m options text x
-measured-in text m key options old new x start t finish = record {
-  items = t.items;
-  note = t.note;
+-- the records of captures were read
+pub measured-in : (texts : List (List ℕ)) (m : Media) (key : FlowKey) (options : FlowOptions) (old new : Reading) (x : Measured) → IsReading m key options old []
+    → TakesIn (ReadsOn m) texts old new → ((packets : List FlowPacket) → IsReading m key options new packets → IsMeasured m options packets x)
+    → IsMeasuredIn m options texts x
+measured-in texts m key options old new x start t finish = record {
+  files = t.files;
+  notes = t.notes;
   records = t.records;
-  measured_is = finish (flow t.items m) (t.fed key options [] start);
+  measured_is = finish (flow (joined t.files) m) (t.fed key options [] start);
 }

@@ -1,22 +1,15 @@
 -- The answer of a command on one flow by the verdict on the flow, and the reading of one capture. This project's
 -- profile.
-use Rattle.std.specs.Prelude.{◌≡◌, ◌⊎◌, List, ◌++◌, Some, Result, Err, codes, ℕ}
+use Rattle.std.specs.Prelude.{◌≡◌, ◌⊎◌, List, Some, Result, Err, ℕ}
 use Rattle.timing_base.specs.Judged.{FlowVerdict, JudgedRun, in_one_run, whole_frames}
 use Rattle.timing_base.specs.Media.{Media}
-use Rattle.timing_base.specs.declared.row.Verdict.{Verdict}
 use Rattle.fail_interval.specs.Row.{verdict_of}
 use Rattle.pcapng_reader.specs.Classic.{classic}
-use Rattle.timing_report.specs.Verdict.{verdict_text}
 use Rattle.timing_report.specs.declared.status.Input.TheVariants as input
-use Rattle.timing_report.specs.declared.status.Status.TheVariants as status
 use Rattle.timing_steps.specs.Answers.{Answer, HasRisen, Inputs}
+use Rattle.timing_steps.specs.Flows.{not_judged}
 use Rattle.timing_steps.specs.declared.failure.Failure.{Failure}
 use Rattle.timing_steps.specs.declared.failure.Failure.TheVariants as failure
-
--- `not judged: VERDICT`, with the newline
-abbrev pub not_judged : Media → Verdict → Answer
-not_judged m verdict =
-    record { text = codes "not judged: " ++ (verdict_text m verdict ++ codes "\n"); status = status.NotAllJudged }
 
 -- the answer for a flow that is judged in one run is `next` of that run; for any other flow it is the verdict
 abbrev pub OnRun : Media → (JudgedRun → Answer → Type 0) → FlowVerdict → Answer → Type 0

@@ -1,4 +1,4 @@
--- The output and status of `shape`, by the contents of its inputs: the SDP, then a capture. This project's profile.
+-- The output and status of `shape`, by the contents of its inputs: the SDP, then captures. This project's profile.
 use Rattle.std.specs.Prelude.{List}
 use Rattle.timing_base.specs.Captures.{Record}
 use Rattle.timing_base.specs.Jobs.{ShapeJob}
@@ -12,9 +12,9 @@ use Rattle.timing_steps.specs.Queries.{Query}
 use Rattle.timing_reach.specs.Asked.{OnRun}
 use Rattle.timing_reach.specs.Shapes.{HasShape}
 
--- the answer of `shape` for the flow of this media in a capture with these packet records, however it ends
-abbrev pub DefinesShape : ShapeJob → Media → List Record → FileNote → Answer → Type 0
-DefinesShape job m items note answer =
+-- the answer of `shape` for the flow of this media in captures with these packet records as one, however they end
+abbrev pub DefinesShape : ShapeJob → Media → List Record → List FileNote → Answer → Type 0
+DefinesShape job m items notes answer =
     OnRun m (HasShape job.list job.flow.options.shift job.kind m items) (judged (flow items m) m.pt job.flow.options)
     answer
 

@@ -1,4 +1,4 @@
--- The output and status of `window`, by the contents of its inputs: the SDP, then a capture. For a flow that is judged
+-- The output and status of `window`, by the contents of its inputs: the SDP, then captures. For a flow that is judged
 -- in one run the output has, for each sender type of SMPTE ST 2110-21, the offsets with which the receiver buffer would
 -- neither underflow nor overflow. Offsets are microseconds, and judged packets count from 0. This project's profile.
 use Rattle.std.specs.Prelude.{◌≡◌, ℕ, List, [], ◌++◌, Option, Some, None, codes}
@@ -55,9 +55,9 @@ pub record HasLines (m : Media) (run : JudgedRun) (answer : Answer) : Type 0 whe
   pub are : AreWindowsOf m run.n run.stamps windows
   pub answer_is : answer ≡ record { text = windows_text windows; status = status.Pass }
 
--- the answer of `window` for the flow of this media in a capture with these packet records, however it ends
-abbrev pub DefinesWindow : FlowOptions → Media → List Record → FileNote → Answer → Type 0
-DefinesWindow options m items note answer = OnRun m (HasLines m) (judged (flow items m) m.pt options) answer
+-- the answer of `window` for the flow of this media in captures with these packet records as one, however they end
+abbrev pub DefinesWindow : FlowOptions → Media → List Record → List FileNote → Answer → Type 0
+DefinesWindow options m items notes answer = OnRun m (HasLines m) (judged (flow items m) m.pt options) answer
 
 -- what `window` asks
 abbrev pub window_query : FlowJob → Query

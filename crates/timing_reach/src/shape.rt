@@ -12,11 +12,10 @@ mod words;
 ghost use Rattle.std.specs.Prelude.{◌≡◌, ◌≤◌, ◌∷◌, [], Bool, List, None, Some, IfErr, IfOk, ℕ, false, slice_get, true};
 ghost use Rattle.timing_base.specs.Captures.{Record};
 ghost use Rattle.timing_base.specs.Judged.{judged};
-ghost use Rattle.timing_outside.specs.Causes.{Rose};
 ghost use Rattle.timing_outside.specs.Shelves.{StaysAs};
 ghost use Rattle.pcapng_reader.specs.Classic.{classic_texts};
 ghost use Rattle.udp_rtp.specs.Flow.{flow};
-ghost use Rattle.timing_steps.specs.Answers.{CaptureRose, OnReadFault, seen_of};
+ghost use Rattle.timing_steps.specs.Answers.{AreThere, AreTold, CaptureRose, OnReadFault, seen_of};
 ghost use Rattle.timing_steps.specs.Flows.{OnMedia, no_media};
 ghost use Rattle.timing_steps.specs.Queries.{FollowsCaptures, judged_ends};
 ghost use Rattle.timing_reach.specs.Asked.{OnRun};
@@ -25,14 +24,13 @@ ghost use Rattle.timing_reach.specs.Shapes.{HasShape};
 ghost use Rattle.timing_reach.specs.shape.Readings.{AnswersSome, IsKeptFlow, IsKeptIn, IsRead};
 
 use crate::judged::flows::take_flow;
-use crate::judged::words::not_judged;
 use crate::shape::reading::{KeptFlow, Reading};
 use crate::shape::shaping::shape_kept;
 use std::alloc::{AllocError as OutOfMemory, Global};
 use timing_base::{FileName, FlowOptions, Kind, Media, Session, ShapeJob, Verdict};
 use timing_outside::{Shelf, Sink};
 use timing_report::Input;
-use timing_steps::{Answer, Command, Failure, early_of_media, media_of};
+use timing_steps::{Answer, Command, Failure, early_of_media, media_of, not_judged};
 
 /// Returns the answer for a flow that is kept: its shaped packets if it is judged in one run, else its verdict.
 fn told_of(
@@ -56,25 +54,25 @@ fn told_of(
     }
 }
 
-/// Opens the capture of a job, reads its flow, and keeps the packets while the flow is judged.
+/// Opens the captures of a job, reads the flow in all of them as one, and keeps the packets while the flow is judged.
 fn read<H: Shelf>(
     alloc: Global,
     job: &ShapeJob,
     shelf: &mut H,
     media: &Media,
 ) -> Result<KeptFlow, Failure>
-    ensures told { IfOk result (λ kept. (text : List ℕ)
-        → classic_texts (H.text shelf.old) job.now.flow.capture ≡ Some text
-        → IsKeptIn media.now job.now.flow.options job.now.list text kept) }
+    ensures told { IfOk result (λ kept. (texts : List (List ℕ))
+        → AreTold (classic_texts (H.text shelf.old)) job.now.flow.captures texts
+        → IsKeptIn media.now job.now.flow.options job.now.list texts kept) }
     ensures read { IfOk result (λ kept. IsRead media.now job.now.flow.options job.now.list kept) }
-    ensures cause { IfErr result (λ e. OnReadFault e (λ i. (i ≡ Input.Capture 0)
-        × Rose (H.faults shelf.old job.now.flow.capture) (H.faults shelf.new job.now.flow.capture))) }
-    ensures there { IfOk result (λ _. ¬ H.lacks shelf.old job.now.flow.capture) }
+    ensures cause { IfErr result (λ e. OnReadFault e (λ i. (number : ℕ) × (i ≡ Input.Capture number)
+        × CaptureRose (H.faults shelf.old) (H.faults shelf.new) job.now.flow.captures number)) }
+    ensures there { IfOk result (λ _. AreThere (H.lacks shelf.old) job.now.flow.captures) }
     ensures stays { StaysAs H.text H.lacks H.faults shelf.old shelf.new }
 {
     let flow = &job.flow;
     let reading = Reading::new(alloc, media, flow.media, flow.options, job.list)?;
-    let reading = take_flow(alloc, shelf, flow.capture.as_str(), media, reading)?;
+    let reading = take_flow(alloc, shelf, flow.captures.as_slice(), media, reading)?;
     Ok(reading.finish()?)
 }
 
@@ -98,7 +96,7 @@ fn answer_kept(
 }
 
 /// Returns the answer for the flow of the media of a job, or the reason why there is none. The answer is that for the
-/// packet records that were read, also if the contents of the capture aren't known.
+/// packet records that were read, also if the contents of the captures aren't known.
 fn answer_shape<H: Shelf>(
     alloc: Global,
     job: &ShapeJob,
@@ -112,7 +110,7 @@ fn answer_shape<H: Shelf>(
         OnMedia (slice_get session.now job.now.flow.media) (λ m. AnswersSome job.now m answer)) }
     ensures ends { IfOk result (λ answer. judged_ends false answer.status ≡ true) }
     ensures cause { IfErr result (λ e. OnReadFault e (λ i. (number : ℕ) × (i ≡ Input.Capture number)
-        × CaptureRose (H.faults shelf.old) (H.faults shelf.new) (job.now.flow.capture ∷ []) number)) }
+        × CaptureRose (H.faults shelf.old) (H.faults shelf.new) job.now.flow.captures number)) }
     ensures stays { StaysAs H.text H.lacks H.faults shelf.old shelf.new }
 {
     let flow = &job.flow;

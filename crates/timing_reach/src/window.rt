@@ -9,10 +9,9 @@ ghost use Rattle.std.specs.Prelude.{◌≡◌, ◌∷◌, [], ℕ, List, None, S
 ghost use Rattle.timing_base.specs.Shifts.{FlowOptions as FlowOptionsValue};
 ghost use Rattle.timing_base.specs.Judged.{judged};
 ghost use Rattle.timing_base.specs.declared.packet.FlowPacket.{FlowPacket as PacketValue};
-ghost use Rattle.timing_outside.specs.Causes.{Rose};
 ghost use Rattle.timing_outside.specs.Shelves.{StaysAs};
 ghost use Rattle.pcapng_reader.specs.Classic.{classic_texts};
-ghost use Rattle.timing_steps.specs.Answers.{CaptureRose, OnReadFault, seen_of};
+ghost use Rattle.timing_steps.specs.Answers.{AreThere, AreTold, CaptureRose, OnReadFault, seen_of};
 ghost use Rattle.timing_steps.specs.Flows.{no_media};
 ghost use Rattle.timing_steps.specs.Queries.{FollowsCaptures, judged_ends};
 ghost use Rattle.timing_reach.specs.Asked.{OnRun};
@@ -20,14 +19,13 @@ ghost use Rattle.timing_reach.specs.Windows.{HasLines, window_query};
 ghost use Rattle.timing_reach.specs.window.Readings.{HasWindows, IsMeasured, IsMeasuredIn};
 
 use crate::judged::flows::take_flow;
-use crate::judged::words::not_judged;
 use crate::window::reading::{Measured, Reading};
 use crate::window::windows::windowed;
 use std::alloc::{AllocError as OutOfMemory, Global};
 use timing_base::{FileName, FlowJob, Media, Session, Verdict};
 use timing_outside::{Shelf, Sink};
 use timing_report::Input;
-use timing_steps::{Answer, Command, Failure, early_of_media, media_of};
+use timing_steps::{Answer, Command, Failure, early_of_media, media_of, not_judged};
 
 /// Returns the lines for a flow that is judged in one run, or the verdict on any other.
 fn told_of(alloc: Global, media: &Media, measured: &Measured) -> Result<Answer, OutOfMemory>
@@ -43,24 +41,24 @@ fn told_of(alloc: Global, media: &Media, measured: &Measured) -> Result<Answer, 
     }
 }
 
-/// Opens the capture of a job, reads its flow, and measures the flow while it is judged.
+/// Opens the captures of a job, reads the flow in all of them as one, and measures the flow while it is judged.
 fn measure<H: Shelf>(
     alloc: Global,
     job: &FlowJob,
     shelf: &mut H,
     media: &Media,
 ) -> Result<Measured, Failure>
-    ensures told { IfOk result (λ measured. (text : List ℕ)
-        → classic_texts (H.text shelf.old) job.now.capture ≡ Some text
-        → IsMeasuredIn media.now job.now.options text measured) }
+    ensures told { IfOk result (λ measured. (texts : List (List ℕ))
+        → AreTold (classic_texts (H.text shelf.old)) job.now.captures texts
+        → IsMeasuredIn media.now job.now.options texts measured) }
     ensures windows { IfOk result (λ measured. HasWindows measured) }
-    ensures cause { IfErr result (λ e. OnReadFault e (λ i. (i ≡ Input.Capture 0)
-        × Rose (H.faults shelf.old job.now.capture) (H.faults shelf.new job.now.capture))) }
-    ensures there { IfOk result (λ _. ¬ H.lacks shelf.old job.now.capture) }
+    ensures cause { IfErr result (λ e. OnReadFault e (λ i. (number : ℕ) × (i ≡ Input.Capture number)
+        × CaptureRose (H.faults shelf.old) (H.faults shelf.new) job.now.captures number)) }
+    ensures there { IfOk result (λ _. AreThere (H.lacks shelf.old) job.now.captures) }
     ensures stays { StaysAs H.text H.lacks H.faults shelf.old shelf.new }
 {
     let reading = Reading::new(alloc, media, job.media, job.options);
-    let reading = take_flow(alloc, shelf, job.capture.as_str(), media, reading)?;
+    let reading = take_flow(alloc, shelf, job.captures.as_slice(), media, reading)?;
     Ok(reading.finish()?)
 }
 
@@ -76,7 +74,7 @@ fn answer_window<H: Shelf>(
         (seen_of H.Shelf shelf.old shelf.new) result }
     ensures ends { IfOk result (λ answer. judged_ends false answer.status ≡ true) }
     ensures cause { IfErr result (λ e. OnReadFault e (λ i. (number : ℕ) × (i ≡ Input.Capture number)
-        × CaptureRose (H.faults shelf.old) (H.faults shelf.new) (job.now.capture ∷ []) number)) }
+        × CaptureRose (H.faults shelf.old) (H.faults shelf.new) job.now.captures number)) }
     ensures stays { StaysAs H.text H.lacks H.faults shelf.old shelf.new }
 {
     let media = media_of(session, job.media);

@@ -10,3 +10,6 @@ pub mod Commanded
 pub mod Beginnings
 pub mod Capturing
 pub mod Onces
+pub mod Captured
+pub mod Joinings
+pub mod Following

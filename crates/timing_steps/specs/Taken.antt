@@ -2,7 +2,6 @@
 -- no others.
 use Rattle.std.specs.Prelude.{◌≡◌, ◌^◌, ◌+◌, ◌++◌, [], ◌∷◌, ℕ, List, length, map}
 use Rattle.timing_base.specs.Captures.{Record, joined, raised}
-use Rattle.timing_base.specs.declared.capture.FileNote.{FileNote}
 use Rattle.pcap_reader.specs.Records.{AreRecords, Records}
 use Rattle.pcap_reader.specs.declared.records.Taken.{Taken}
 use Rattle.timing_steps.specs.declared.captures.TakenCaptures.{TakenCaptures}

@@ -75,9 +75,8 @@ pub fn chosen_media(session: &Session, only: Option<u32>) -> &[Media]
     let media = session.media.as_slice();
     match only {
         Some(number) => {
-            let first = media.len().min(number as usize);
-            let end = media.len().min(first + 1);
-            &media[first..end]
+            let rest = &media[(number as usize).min(media.len())..];
+            &rest[..rest.len().min(1)]
         }
         None => media,
     }

@@ -1,8 +1,8 @@
--- The measurements of the flows of a capture as JSON (RFC 8259): one value without spaces, and a line end. The members
--- of each object stand in the byte order of their keys. Numbers are whole, of any size, and written in decimal. Media,
--- runs and packet records count from 1, packets from 0. Capture timestamps, `first`, `last`, `target`, `slack` and
--- `gap` are nanoseconds. `step`, `offset` and `latency` are ticks of 90 kHz. The other numbers are packets, frames or
--- fields, or counts of them. This project's profile: the whole format.
+-- The measurements of the flows of a capture, or of several that were taken as one, as JSON (RFC 8259): one value
+-- without spaces, and a line end. The members of each object stand in the byte order of their keys. Numbers are whole,
+-- of any size, and written in decimal. Media, runs and packet records count from 1, packets from 0. Capture timestamps,
+-- `first`, `last`, `target`, `slack` and `gap` are nanoseconds. `step`, `offset` and `latency` are ticks of 90 kHz. The
+-- other numbers are packets, frames or fields, or counts of them. This project's profile: the whole format.
 use Rattle.std.specs.Prelude.{ℕ, ◌+◌, ◌<◌, Bool, true, false, List, [], ◌∷◌, ◌++◌, length, Option, Some, None, codes}
 use Rattle.std.specs.Prelude.{All, zero, suc, nat_lt}
 use Rattle.std.specs.Fmt.{decimal, signed_decimal}
@@ -230,11 +230,34 @@ verdict_flow media f (verdict.Runs runs) = judged_text media f (codes "runs")
 abbrev pub flow_text : List Media → ToldFlow → List ℕ
 flow_text session f = verdict_flow (media_of session (key_of 0 f.media)) f f.verdict
 
--- the whole JSON of a capture with this name and this end
-abbrev pub measure_json : List ℕ → FileNote → List Media → List ToldFlow → List ℕ
-measure_json name note session flows =
+-- the whole JSON of one capture, with this name and this end
+abbrev pub alone_json : List ℕ → FileNote → List Media → List ToldFlow → List ℕ
+alone_json name note session flows =
     codes "{\"end\":" ++ (quoted_text (note_text note) ++ (codes ",\"flows\":" ++ (list_text (flow_text session) flows
     ++ (codes ",\"name\":" ++ (quoted_text name ++ codes "}\n")))))
+
+-- one of several captures
+abbrev pub file_text : List ℕ → FileNote → List ℕ
+file_text name note =
+    codes "{\"end\":" ++ (quoted_text (note_text note) ++ (codes ",\"name\":" ++ (quoted_text name ++ codes "}")))
+
+-- captures separated by commas, with a comma before the first one too if `later`; if the lists differ in length, the
+-- shorter one counts
+abbrev pub files_text : (later : Bool) → List (List ℕ) → List FileNote → List ℕ
+files_text later (name ∷ names) (note ∷ notes) = comma_if later ++ (file_text name note ++ files_text true names notes)
+files_text later [] notes = []
+files_text later (name ∷ names) [] = []
+
+-- the whole JSON of several captures that were taken as one
+abbrev pub joined_json : List (List ℕ) → List FileNote → List Media → List ToldFlow → List ℕ
+joined_json names notes session flows =
+    codes "{\"files\":[" ++ (files_text false names notes ++ (codes "],\"flows\":"
+    ++ (list_text (flow_text session) flows ++ codes "}\n")))
+
+-- the whole JSON of the captures with these names and these ends, in their order
+abbrev pub measure_json : List (List ℕ) → List FileNote → List Media → List ToldFlow → List ℕ
+measure_json (name ∷ []) (note ∷ []) session flows = alone_json name note session flows
+measure_json names notes session flows = joined_json names notes session flows
 
 -- each flow belongs to a media of the session
 abbrev pub AreOfMedia : List Media → List MeasuredFlow → Type 0

@@ -14,7 +14,7 @@ ghost use Rattle.flow_measure.specs.report.Told.{ToldRun};
 /// The JSON of a capture with one flow, which is judged.
 #[tactic(auto, unfolding(crate::proofs::lemmas::report::Numerals::measure_texts))]
 pub fn plain_json_by_hand()
-    ensures { measure_json (codes "a.pcap") note.End plain_session (plain_flow ∷ [])
+    ensures { measure_json (codes "a.pcap" ∷ []) (note.End ∷ []) plain_session (plain_flow ∷ [])
         ≡ codes "{\"end\":\"end\",\"flows\":[{\"media\":1,\"packets\":41,\"runs\":["
         ++ (codes "{\"bucket\":{\"greatest\":1,\"least\":1,\"sum\":40},"
         ++ (codes "\"first\":{\"first\":764000,\"greatest\":764000,\"last\":764000,\"least\":764000,"
@@ -46,6 +46,15 @@ pub fn plain_json_by_hand()
         ++ (codes "\"limit\":720,\"width\":12},\"frames_broken\":0,\"pass\":true,\"type\":\"W\"}]}],"
         ++ (codes "\"ssrc\":\"00000001\",\"target\":\"239.0.0.1:50000\",\"verdict\":\"judged\"}],"
         ++ codes "\"name\":\"a.pcap\"}\n"))))))))))))))))))))))))))))) }
+{}
+
+/// The JSON of two captures that were taken as one. The second ends within the packet record at byte 40.
+#[tactic(auto, unfolding(crate::proofs::lemmas::report::Numerals::measure_texts))]
+pub fn joined_json_by_hand()
+    ensures { measure_json (codes "a.pcap" ∷ codes "b.pcap" ∷ []) (note.End ∷ note.Cut 40 ∷ []) plain_session
+        (absent_flow ∷ [])
+        ≡ codes "{\"files\":[{\"end\":\"end\",\"name\":\"a.pcap\"},{\"end\":\"cut at 40\",\"name\":\"b.pcap\"}],"
+        ++ codes "\"flows\":[{\"media\":1,\"packets\":0,\"target\":\"239.0.0.1:50000\",\"verdict\":\"absent\"}]}\n" }
 {}
 
 /// Type N of a flow with five packets at once in the second frame. The last of them breaks the limit of the bucket.

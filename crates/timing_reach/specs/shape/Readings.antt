@@ -5,7 +5,7 @@ use Rattle.std.specs.List.{cons_option}
 use Rattle.std.proofs.Common.{arith, sym, subst, append-nil, append_assoc, ap, ◌∙◌}
 use Rattle.std.proofs.lemmas.List.Elements.{filter-append, filter_map-append}
 use Rattle.timing_base.specs.Shifts.{FlowOptions}
-use Rattle.timing_base.specs.Captures.{Record}
+use Rattle.timing_base.specs.Captures.{Record, joined}
 use Rattle.timing_base.specs.Grouped.{IsGroupedVerdict}
 use Rattle.timing_base.specs.Jobs.{ShapeJob}
 use Rattle.timing_base.specs.Judged.{judged}
@@ -15,7 +15,7 @@ use Rattle.timing_base.specs.declared.key.FlowKey.{FlowKey}
 use Rattle.timing_base.specs.declared.packet.FlowPacket.{FlowPacket}
 use Rattle.fail_interval.specs.Row.{verdict_of}
 use Rattle.fail_interval.specs.Stands.{StandsFor, count_fed}
-use Rattle.pcap_reader.specs.Records.{Records}
+use Rattle.pcap_reader.specs.Records.{AreRecords}
 use Rattle.udp_rtp.specs.Flow.{flow, flow_packet}
 use Rattle.timing_reach.specs.ShapedAgain.{CanBeHeld}
 use Rattle.timing_steps.specs.Answers.{Answer}
@@ -100,12 +100,13 @@ pub record IsKeptFlow (m : Media) (options : FlowOptions) (list : Bool) (items :
     pub packets : IsKept m list f.packets items
     pub grouped : IsGroupedVerdict (judged (flow items m) m.pt options)
 
--- the result of reading the flow of a media in a capture with these contents
-pub record IsKeptIn (m : Media) (options : FlowOptions) (list : Bool) (text : List ℕ) (f : KeptFlow) : Type 0 where
-  pub items : List Record
-  pub note : FileNote
-  pub records : Records text (2 ^ 40) items note
-  pub flow_is : IsKeptFlow m options list items f
+-- the result of reading the flow of a media in captures with these contents, taken as one
+pub record IsKeptIn (m : Media) (options : FlowOptions) (list : Bool) (texts : List (List ℕ)) (f : KeptFlow) : Type 0
+  where
+    pub files : List (List Record)
+    pub notes : List FileNote
+    pub records : AreRecords texts files notes
+    pub flow_is : IsKeptFlow m options list (joined files) f
 
 -- the result of reading some packet records
 pub record IsRead (m : Media) (options : FlowOptions) (list : Bool) (f : KeptFlow) : Type 0 where

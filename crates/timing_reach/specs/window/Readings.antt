@@ -4,7 +4,7 @@ use Rattle.std.specs.List.{cons_option}
 use Rattle.std.proofs.Common.{arith, sym, subst, append-nil, append_assoc, ap, ◌∙◌}
 use Rattle.std.proofs.lemmas.List.Elements.{filter_map-append}
 use Rattle.timing_base.specs.Shifts.{FlowOptions}
-use Rattle.timing_base.specs.Captures.{Record}
+use Rattle.timing_base.specs.Captures.{Record, joined}
 use Rattle.timing_base.specs.Judged.{RunOutcome, judged, run_outcome}
 use Rattle.timing_base.specs.Media.{Media}
 use Rattle.timing_base.specs.Numbered.{numbered}
@@ -16,7 +16,7 @@ use Rattle.timing_base.specs.declared.row.Verdict.TheVariants as verdict
 use Rattle.fail_interval.specs.Row.{verdict_of}
 use Rattle.fail_interval.specs.Meterings.{HasRoom as JudgeHasRoom, room_less as judge_less}
 use Rattle.fail_interval.specs.Stands.{StandsFor}
-use Rattle.pcap_reader.specs.Records.{Records}
+use Rattle.pcap_reader.specs.Records.{AreRecords}
 use Rattle.udp_rtp.specs.Flow.{flow, flow_packet}
 use Rattle.timing_reach.specs.window.Gauging.{AreWindowsIn, IsGauged, count_gauged}
 use Rattle.timing_reach.specs.declared.window.reading.Measured.{Measured}
@@ -75,12 +75,12 @@ pub record IsMeasured (m : Media) (options : FlowOptions) (packets : List FlowPa
   pub verdict_is : x.verdict ≡ verdict_of m (judged packets m.pt options)
   pub windows_are : AreWindowsIn m (whole_outcome options packets) x.windows
 
--- the result of reading the flow of a media in a capture with these contents
-pub record IsMeasuredIn (m : Media) (options : FlowOptions) (text : List ℕ) (x : Measured) : Type 0 where
-  pub items : List Record
-  pub note : FileNote
-  pub records : Records text (2 ^ 40) items note
-  pub measured_is : IsMeasured m options (flow items m) x
+-- the result of reading the flow of a media in captures with these contents, taken as one
+pub record IsMeasuredIn (m : Media) (options : FlowOptions) (texts : List (List ℕ)) (x : Measured) : Type 0 where
+  pub files : List (List Record)
+  pub notes : List FileNote
+  pub records : AreRecords texts files notes
+  pub measured_is : IsMeasured m options (flow (joined files) m) x
 
 -- if the flow was judged in one run, there are windows
 abbrev pub HasWindows : Measured → Type 0

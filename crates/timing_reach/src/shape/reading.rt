@@ -40,7 +40,7 @@ impl Reading {
         options: FlowOptions,
         list: bool,
     ) -> Result<Reading, OutOfMemory>
-        ensures room { IfOk result (λ reading. HasRoom (2 ^ 36) reading) }
+        ensures room { IfOk result (λ reading. HasRoom (2 ^ 40) reading) }
         ensures stands { IfOk result (λ reading.
             IsReading media.now (record { file = 0; media = number }) options list reading []) }
     {

@@ -34,7 +34,7 @@ impl Reading {
 
     /// Returns a reading of the flow of this media before the first packet record, with the options of the flow.
     pub fn new(alloc: Global, media: &Media, number: u32, options: FlowOptions) -> Reading
-        ensures room { HasRoom (2 ^ 36) result }
+        ensures room { HasRoom (2 ^ 40) result }
         ensures stands { IsReading media.now (record { file = 0; media = number }) options result [] }
     {
         let key = FlowKey {

@@ -4,7 +4,8 @@ use Rattle.timing_base.specs.Judged.{judged}
 use Rattle.udp_rtp.specs.Flow.{flow}
 use Rattle.timing_steps.specs.Answers.{Answer}
 use Rattle.timing_steps.specs.Queries.{judged_ends}
-use Rattle.timing_reach.specs.Asked.{OnRun, not_judged}
+use Rattle.timing_steps.specs.Flows.{not_judged}
+use Rattle.timing_reach.specs.Asked.{OnRun}
 use Rattle.timing_reach.specs.Shapes.{HasShape}
 use Rattle.timing_reach.specs.shape.Shaping.{CanShape, IsShapeOf}
 use Rattle.timing_reach.proofs.Keepings.{can-shape, run-kept}
