@@ -13,8 +13,8 @@
 //! The modules:
 //!
 //! - `judged`: the common part of the commands on one flow.
-//! - `laws`: contents have one answer, which is that of one capture with the same packet records; what `shape` writes is
-//!   read back; answers that are worked by hand.
+//! - `laws`: contents have one answer; captures as one have that of one capture; what `shape` writes is read back;
+//!   answers that are worked by hand.
 //! - `describe`, `scan`, `shape`, `skew`, `window`: the commands; `describe` has `sdp`.
 #![tactic(auto)]
 
