@@ -4,8 +4,7 @@ ghost use Rattle.std.specs.Prelude.{◌≡◌, ◌++◌, IfOk, false, string_byt
 ghost use Rattle.std.specs.Fmt.{decimal};
 ghost use Rattle.flow_measure.specs.report.Json.{flag_text, items_text, list_text, quoted_text};
 
-use crate::{Buffer, Place, Summary, micros_of};
-use offset_window::Window;
+use crate::{Buffer, Place, Summary};
 use serde_json::Value;
 use std::alloc::{AllocError as OutOfMemory, Global};
 use std::fmt;
@@ -186,31 +185,6 @@ impl fmt::Display for NumberIf {
         match self.number {
             None => Ok(()),
             Some(number) => write!(f, "\"{}\":{number},", self.key),
-        }
-    }
-}
-
-/// The offsets with which the buffer would be kept. An end that is absent has no member.
-#[derive(Clone, Copy)]
-pub(crate) struct Offsets {
-    pub(crate) troff: Window,
-}
-
-impl fmt::Display for Offsets {
-    ghost use Rattle.std.specs.Prelude.{Some};
-    ghost use Rattle.flow_measure.specs.report.Json.{troff_text};
-    ghost use Rattle.flow_measure.specs.report.Told.{offsets_told};
-
-    ghost output = { λ offsets. Some (troff_text (offsets_told offsets.troff)) };
-
-    fn fmt<W: fmt::Write>(&self, f: &mut fmt::Formatter<W>) -> fmt::Result {
-        match (micros_of(self.troff.lower), micros_of(self.troff.upper)) {
-            (None, None) => f.write_str("{}"),
-            (None, Some(greatest)) => write!(f, "{{\"greatest\":{greatest}}}"),
-            (Some(least), None) => write!(f, "{{\"least\":{least}}}"),
-            (Some(least), Some(greatest)) => {
-                write!(f, "{{\"greatest\":{greatest},\"least\":{least}}}")
-            }
         }
     }
 }
