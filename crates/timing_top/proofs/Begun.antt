@@ -27,7 +27,7 @@ use Rattle.timing_steps.proofs.Capturing.{reads-all}
 use Rattle.timing_top.specs.Found.{Judges}
 use Rattle.timing_top.specs.Report.{HasReport, check_query, printed}
 use Rattle.timing_top.specs.declared.captures.Found.{Found}
-use Rattle.timing_top.proofs.Following.{capture-earlier, fetched-same, told-same}
+use Rattle.timing_steps.proofs.Following.{capture-earlier, fetched-same, told-same}
 
 -- the results of a job, of those that were found, whose media count from the first one that was judged
 abbrev pub renumbered : CheckJob → List Row → List Row

@@ -1,6 +1,5 @@
 mod Asking
 mod Begun
-mod Captured
 mod Choosing
 mod ChosenRows
 mod Confirming
@@ -8,7 +7,6 @@ mod Crewing
 mod Ending
 mod Exact
 mod Finding
-mod Following
 mod Headlines
 mod Measurable
 mod Numbering

@@ -33,7 +33,7 @@ use Rattle.timing_steps.specs.declared.failure.Failure.{Failure}
 use Rattle.timing_steps.specs.declared.failure.Failure.TheVariants as failure
 use Rattle.fail_interval.specs.Found.{AreFound}
 use Rattle.timing_top.specs.SelfTest.{HasLine, HasLines, HasSelfTest, flaw_line}
-use Rattle.timing_top.proofs.Following.{fetched-same}
+use Rattle.timing_steps.proofs.Following.{fetched-same}
 
 -- a made capture is its own classic text
 and-false : (a b : Bool) → b ≡ false → (a && b) ≡ false

@@ -5,7 +5,7 @@ use Rattle.std.specs.List.{list_all}
 use Rattle.std.specs.Str.{bytes_eq}
 use Rattle.std.proofs.lemmas.Bool.{leb-true}
 use Rattle.timing_base.specs.Shifts.{FlowOptions, AreFlowOptions}
-use Rattle.timing_base.specs.Jobs.{CaptureJob, CheckJob, FlowJob, IsCaptureJob, IsCheckJob, IsFlowJob, IsReportJob, IsSelfTestJob}
+use Rattle.timing_base.specs.Jobs.{AreInputs, CaptureJob, CheckJob, FlowJob, IsCaptureJob, IsCheckJob, IsChoice, IsFlowJob, IsReportJob, IsSelfTestJob}
 use Rattle.timing_base.specs.Jobs.{IsSkewJob, IsVerifyJob, ReportJob, SelfTestJob, SeriesJob, ShapeJob}
 use Rattle.timing_base.specs.Jobs.{SkewJob, VerifyJob}
 use Rattle.timing_base.specs.Name.{is_file_name}
@@ -18,7 +18,7 @@ use Rattle.timing_words.specs.Line.{Stands, Text, line, stands}
 use Rattle.timing_words.specs.Request.{asked, asked_by, capture_asked, check_asked, check_workers, command_named, file_name, file_names}
 use Rattle.timing_words.specs.Request.{flow_asked, given, help_asked, kind_named, media, need, number, passing}
 use Rattle.timing_words.specs.Request.{proof_asked, report_asked, request, scan_asked, sdp_asked, self_test_asked, series_asked, shape_asked, skew_asked}
-use Rattle.timing_words.specs.Request.{delay, options_asked, sole, sorts, tai, test_workers, verify_asked, written}
+use Rattle.timing_words.specs.Request.{delay, inputs, only_media, options_asked, sole, sorts, tai, test_workers, verify_asked, written}
 use Rattle.timing_words.proofs.Checks.{both_true}
 
 -- a step that was needed gave something
@@ -56,6 +56,12 @@ media-few t m e =
     let n = mapped (λ n. n - 1) (number 1 64 t) m e in
     let k = within 1 64 t n.0 n.1 in
     omega (arith, k.0, k.1, n.2)
+
+only-few : (o : Option Text) (only : Option ℕ) → only_media o ≡ Some only → IsChoice only
+only-few None only e = subst IsChoice (same None only e) tt
+only-few (Some t) only e =
+    let m = mapped (λ n. Some n) (media t) only e in
+    subst IsChoice m.2 (media-few t m.0 m.1)
 
 tai-most : (o : Option Text) (n : ℕ) → tai o ≡ Some n → n ≤ 1000
 tai-most None n e = subst (λ m. m ≤ 1000) (same 0 n e) (omega arith)
@@ -96,6 +102,15 @@ captures-most : (joined : Bool) (n : ℕ) → n ≤ (if joined then 16 else 1) �
 captures-most true n e = (e, λ h. cc)
 captures-most false n e = (omega arith, λ h. e)
 
+inputs-are : (joined : Bool) (names captures : List Text) → inputs joined names ≡ Some captures → AreInputs joined captures
+inputs-are joined names captures e =
+    let few = names-few (if joined then 16 else 1) names captures e in
+    let most = captures-most joined (length captures) few.1 in
+    record {
+      captures_are = record { some = few.0; few = most.0 };
+      alone = λ unjoined. let one = most.1 unjoined in omega (arith, one, few.0);
+    }
+
 -- ---- commands
 
 check-within : (l : Stands) (job : CheckJob) → check_asked l ≡ Some job → IsCheckJob job
@@ -103,12 +118,14 @@ check-within l job e =
     let a = needed (given (codes "sdp") l file_name) _ job e in
     let b = needed (check_workers (l.value (codes "workers")) (l.flag (codes "serial"))) _ job a.rest in
     let c = needed (options_asked l) _ job b.rest in
-    let d = needed (file_names 16 l.names) _ job c.rest in
-    let few = names-few 16 l.names d.a d.gave in
-    subst IsCheckJob (same _ job d.rest) record {
+    let d = needed (only_media (l.value (codes "media"))) _ job c.rest in
+    let f = needed (file_names 16 l.names) _ job d.rest in
+    let few = names-few 16 l.names f.a f.gave in
+    subst IsCheckJob (same _ job f.rest) record {
       captures_are = record { some = few.0; few = few.1 };
       workers_few = workers-few (l.value (codes "workers")) (l.flag (codes "serial")) b.a b.gave;
       options_are = options-within l c.a c.gave;
+      media_few = only-few (l.value (codes "media")) d.a d.gave;
     }
 
 verify-within : (l : Stands) (job : VerifyJob) → verify_asked l ≡ Some job → IsVerifyJob job
@@ -118,15 +135,12 @@ verify-within l job e =
     let c = needed (given (codes "type") l kind_named) _ job b.rest in
     let d = needed (proof_asked l) _ job c.rest in
     let f = needed (options_asked l) _ job d.rest in
-    let g = needed (file_names (if l.flag (codes "joined") then 16 else 1) l.names) _ job f.rest in
+    let g = needed (inputs (l.flag (codes "joined")) l.names) _ job f.rest in
     let m = needed (l.value (codes "media")) media b.a b.gave in
-    let few = names-few (if l.flag (codes "joined") then 16 else 1) l.names g.a g.gave in
-    let most = captures-most (l.flag (codes "joined")) (length g.a) few.1 in
     subst IsVerifyJob (same _ job g.rest) record {
       media_few = media-few m.a b.a m.rest;
       options_are = options-within l f.a f.gave;
-      captures_are = record { some = few.0; few = most.0 };
-      alone = λ joined. let one = most.1 joined in omega (arith, one, few.0);
+      inputs = inputs-are (l.flag (codes "joined")) l.names g.a g.gave;
     }
 
 report-within : (l : Stands) (job : ReportJob) → report_asked l ≡ Some job → IsReportJob job
@@ -134,9 +148,14 @@ report-within l job e =
     let a = needed (given (codes "sdp") l file_name) _ job e in
     let b = needed (given (codes "report") l file_name) _ job a.rest in
     let c = needed (options_asked l) _ job b.rest in
-    let d = needed (file_names 16 l.names) _ job c.rest in
-    let few = names-few 16 l.names d.a d.gave in
-    subst IsReportJob (same _ job d.rest) record { options_are = options-within l c.a c.gave; captures_are = record { some = few.0; few = few.1 } }
+    let d = needed (only_media (l.value (codes "media"))) _ job c.rest in
+    let f = needed (file_names 16 l.names) _ job d.rest in
+    let few = names-few 16 l.names f.a f.gave in
+    subst IsReportJob (same _ job f.rest) record {
+      options_are = options-within l c.a c.gave;
+      captures_are = record { some = few.0; few = few.1 };
+      media_few = only-few (l.value (codes "media")) d.a d.gave;
+    }
 
 self_test-within : (l : Stands) (job : SelfTestJob) → self_test_asked l ≡ Some job → IsSelfTestJob job
 self_test-within l job e =
@@ -155,9 +174,13 @@ flow-within l job e =
     let a = needed (given (codes "sdp") l file_name) _ job e in
     let b = needed (given (codes "media") l media) _ job a.rest in
     let c = needed (options_asked l) _ job b.rest in
-    let d = needed (need (sole l.names) file_name) _ job c.rest in
+    let d = needed (inputs (l.flag (codes "joined")) l.names) _ job c.rest in
     let m = needed (l.value (codes "media")) media b.a b.gave in
-    subst IsFlowJob (same _ job d.rest) record { media_few = media-few m.a b.a m.rest; options_are = options-within l c.a c.gave }
+    subst IsFlowJob (same _ job d.rest) record {
+      media_few = media-few m.a b.a m.rest;
+      options_are = options-within l c.a c.gave;
+      inputs = inputs-are (l.flag (codes "joined")) l.names d.a d.gave;
+    }
 
 shape-within : (l : Stands) (job : ShapeJob) → shape_asked l ≡ Some job → IsFlowJob job.flow
 shape-within l job e =
@@ -186,8 +209,13 @@ capture-within : (l : Stands) (job : CaptureJob) → capture_asked l ≡ Some jo
 capture-within l job e =
     let a = needed (given (codes "sdp") l file_name) _ job e in
     let b = needed (options_asked l) _ job a.rest in
-    let c = needed (need (sole l.names) file_name) _ job b.rest in
-    subst IsCaptureJob (same _ job c.rest) record { options_are = options-within l b.a b.gave }
+    let c = needed (only_media (l.value (codes "media"))) _ job b.rest in
+    let d = needed (inputs (l.flag (codes "joined")) l.names) _ job c.rest in
+    subst IsCaptureJob (same _ job d.rest) record {
+      options_are = options-within l b.a b.gave;
+      inputs = inputs-are (l.flag (codes "joined")) l.names d.a d.gave;
+      media_few = only-few (l.value (codes "media")) c.a c.gave;
+    }
 
 -- ---- the whole line
 

@@ -27,9 +27,10 @@ same_asked command.Check found ps s =
     rw (
       s.value (codes "sdp") refl,
       s.value (codes "workers") refl,
-      s.flag (codes "serial") refl,
       s.value (codes "tai") refl,
       s.value (codes "delay") refl,
+      s.value (codes "media") refl,
+      s.flag (codes "serial") refl,
       s.flag (codes "seq16") refl,
       s.flag (codes "json") refl,
       s.flag (codes "joined") refl,
@@ -52,21 +53,73 @@ same_asked command.Verify found ps s =
       s.names,
     ) refl
 same_asked command.VerifyReport found ps s =
-    rw (s.value (codes "sdp") refl, s.value (codes "report") refl, s.value (codes "tai") refl, s.value (codes "delay") refl, s.flag (codes "seq16") refl, s.flag (codes "joined") refl, s.names) refl
+    rw (
+      s.value (codes "sdp") refl,
+      s.value (codes "report") refl,
+      s.value (codes "tai") refl,
+      s.value (codes "delay") refl,
+      s.value (codes "media") refl,
+      s.flag (codes "seq16") refl,
+      s.flag (codes "joined") refl,
+      s.names,
+    ) refl
 same_asked command.SelfTest found ps s = rw (s.value (codes "workers") refl, s.names) refl
 same_asked command.Window found ps s =
-    rw (s.value (codes "sdp") refl, s.value (codes "media") refl, s.value (codes "tai") refl, s.value (codes "delay") refl, s.flag (codes "seq16") refl, s.names) refl
+    rw (
+      s.value (codes "sdp") refl,
+      s.value (codes "media") refl,
+      s.value (codes "tai") refl,
+      s.value (codes "delay") refl,
+      s.flag (codes "seq16") refl,
+      s.flag (codes "joined") refl,
+      s.names,
+    ) refl
 same_asked command.Shape found ps s =
-    rw (s.value (codes "sdp") refl, s.value (codes "media") refl, s.value (codes "type") refl, s.value (codes "tai") refl, s.value (codes "delay") refl, s.flag (codes "seq16") refl, s.flag (codes "list") refl, s.names)
-    refl
-same_asked command.Skew found ps s =
-    rw (s.value (codes "sdp") refl, s.value (codes "media") refl, s.value (codes "pair") refl, s.names) refl
+    rw (
+      s.value (codes "sdp") refl,
+      s.value (codes "media") refl,
+      s.value (codes "type") refl,
+      s.value (codes "tai") refl,
+      s.value (codes "delay") refl,
+      s.flag (codes "seq16") refl,
+      s.flag (codes "list") refl,
+      s.flag (codes "joined") refl,
+      s.names,
+    ) refl
+same_asked command.Skew found ps s = rw (s.value (codes "sdp") refl, s.value (codes "media") refl, s.value (codes "pair") refl, s.names) refl
 same_asked command.Scan found ps s = rw (s.flag (codes "json") refl, s.flag (codes "draft") refl, s.names) refl
-same_asked command.Measure found ps s = rw (s.value (codes "sdp") refl, s.value (codes "tai") refl, s.value (codes "delay") refl, s.flag (codes "seq16") refl, s.names) refl
+same_asked command.Measure found ps s =
+    rw (
+      s.value (codes "sdp") refl,
+      s.value (codes "tai") refl,
+      s.value (codes "delay") refl,
+      s.value (codes "media") refl,
+      s.flag (codes "seq16") refl,
+      s.flag (codes "joined") refl,
+      s.names,
+    ) refl
 same_asked command.Series found ps s =
-    rw (s.value (codes "sdp") refl, s.value (codes "media") refl, s.value (codes "tai") refl, s.value (codes "delay") refl, s.flag (codes "seq16") refl, s.flag (codes "frames") refl, s.names) refl
+    rw (
+      s.value (codes "sdp") refl,
+      s.value (codes "media") refl,
+      s.value (codes "tai") refl,
+      s.value (codes "delay") refl,
+      s.flag (codes "seq16") refl,
+      s.flag (codes "frames") refl,
+      s.flag (codes "joined") refl,
+      s.names,
+    ) refl
 same_asked command.Sdp found ps s = rw (s.flag (codes "json") refl, s.names) refl
-same_asked command.Page found ps s = rw (s.value (codes "sdp") refl, s.value (codes "tai") refl, s.value (codes "delay") refl, s.flag (codes "seq16") refl, s.names) refl
+same_asked command.Page found ps s =
+    rw (
+      s.value (codes "sdp") refl,
+      s.value (codes "tai") refl,
+      s.value (codes "delay") refl,
+      s.value (codes "media") refl,
+      s.flag (codes "seq16") refl,
+      s.flag (codes "joined") refl,
+      s.names,
+    ) refl
 
 -- the matches of a line ask for what its words do
 pub asked_line : (c : Command) (words : List Text) (found : Found) → IsLine (sorts c) words found → asked_by c words ≡ asked c (found_stands found)

@@ -6,6 +6,7 @@ use Rattle.clap.specs.Walk.{rule_of}
 use Rattle.clap.specs.declared.builder.arg.Arg.{Arg}
 use Rattle.timing_words.specs.Clap.{app, names_told, told as told_rule}
 use Rattle.timing_words.specs.Line.{Sort, Text}
+use Rattle.timing_words.specs.declared.command.Command.{Command}
 use Rattle.timing_words.specs.Help.{told, word}
 use Rattle.timing_words.specs.Parsers.{told_in, word_in}
 
@@ -30,16 +31,16 @@ pub record Shows (g : Rule → Text) (f : Sort → Text) : Type 0 where
   pub names : g names_told ≡ []
   pub sorts : (b : Bool) (n : Text) → g (told_rule b n) ≡ f (record { name = n; valued = b })
 
-words-told : (b : Bool) (n : Text) → word_in (told_rule b n) ≡ word (record { name = n; valued = b })
-words-told true n = refl
-words-told false n = refl
+words-told : (c : Command) (b : Bool) (n : Text) → word_in c (told_rule b n) ≡ word c (record { name = n; valued = b })
+words-told c true n = refl
+words-told c false n = refl
 
 lines-told : (b : Bool) (n : Text) → told_in (told_rule b n) ≡ told (record { name = n; valued = b })
 lines-told true n = refl
 lines-told false n = refl
 
-pub shows-words : Shows word_in word
-shows-words = record { names = refl; sorts = words-told }
+pub shows-words : (c : Command) → Shows (word_in c) (word c)
+shows-words c = record { names = refl; sorts = words-told c }
 
 pub shows-lines : Shows told_in told
 shows-lines = record { names = refl; sorts = lines-told }

@@ -1,7 +1,7 @@
 -- Command lines for examples worked by hand.
 use Rattle.std.specs.Prelude.{ℕ, ◌≡◌, ◌==◌, if◌then◌else◌, List, [], ◌∷◌, Some, None, codes, false}
 use Rattle.timing_base.specs.Examples.{seconds_added}
-use Rattle.timing_base.specs.Jobs.{CheckJob, FlowJob}
+use Rattle.timing_base.specs.Jobs.{CaptureJob, CheckJob, FlowJob}
 use Rattle.timing_base.specs.Shifts.{no_options}
 use Rattle.timing_words.specs.declared.request.Request.{Request}
 use Rattle.timing_words.specs.Line.{Part, Text, cut}
@@ -50,8 +50,29 @@ plain_check = record {
   options = no_options;
   json = false;
   joined = false;
+  media = None;
 }
 
--- the flow of media 2 of the capture c, which p describes, with these seconds added
+-- the flow of media 2 in the capture c, which p describes, with these seconds added
 abbrev pub second_flow : ℕ → FlowJob
-second_flow seconds = record { sdp = codes "p"; media = 1; options = seconds_added seconds; capture = codes "c" }
+second_flow seconds = record {
+  sdp = codes "p";
+  media = 1;
+  options = seconds_added seconds;
+  captures = codes "c" ∷ [];
+  joined = false;
+}
+
+-- the job of `measure --sdp p c`, and of `page`
+abbrev pub plain_capture : CaptureJob
+plain_capture = record {
+  sdp = codes "p";
+  options = no_options;
+  captures = codes "c" ∷ [];
+  joined = false;
+  media = None;
+}
+
+-- two captures
+abbrev pub halves : List Text
+halves = codes "c" ∷ codes "d" ∷ []

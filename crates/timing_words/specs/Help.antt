@@ -1,7 +1,8 @@
 -- The output of `help`: of all commands the arguments, the exit statuses and where to read on; of one command more.
 -- The options and flags are those of the grammar.
 -- This project's profile: the whole text.
-use Rattle.std.specs.Prelude.{Bool, ◌||◌, if◌then◌else◌, ◌++◌, List, [], ◌∷◌, Option, Some, None, codes}
+use Rattle.std.specs.Prelude.{Bool, true, false, ◌&&◌, ◌||◌, if◌then◌else◌, ◌++◌, List, [], ◌∷◌, codes}
+use Rattle.std.specs.Prelude.{Option, Some, None}
 use Rattle.std.specs.List.{flat_map}
 use Rattle.std.specs.Str.{bytes_eq}
 use Rattle.timing_words.specs.Line.{Sort, Text}
@@ -47,21 +48,40 @@ meaning n =
     else if bytes_eq n (codes "seq16") then codes "the extended RTP sequence number is ignored"
     else codes "docs/FORMATS.md says what"
 
--- the option or flag of this name is optional
-abbrev pub may_be_missing : Text → Bool
-may_be_missing n =
+-- the option or flag of this name is optional in every command that takes it
+abbrev pub is_optional : Text → Bool
+is_optional n =
     bytes_eq n (codes "workers") || bytes_eq n (codes "tai") || bytes_eq n (codes "delay")
     || bytes_eq n (codes "serial") || bytes_eq n (codes "json") || bytes_eq n (codes "joined")
     || bytes_eq n (codes "list") || bytes_eq n (codes "draft") || bytes_eq n (codes "frames")
     || bytes_eq n (codes "seq16")
+
+-- the command judges every video of the description, or one that is chosen
+abbrev pub judges_all : Command → Bool
+judges_all command.Check = true
+judges_all command.Verify = false
+judges_all command.VerifyReport = true
+judges_all command.SelfTest = false
+judges_all command.Window = false
+judges_all command.Shape = false
+judges_all command.Skew = false
+judges_all command.Scan = false
+judges_all command.Measure = true
+judges_all command.Series = false
+judges_all command.Sdp = false
+judges_all command.Page = true
+
+-- the command's option or flag of this name is optional
+abbrev pub may_be_missing : Command → Text → Bool
+may_be_missing c n = is_optional n || (judges_all c && bytes_eq n (codes "media"))
 
 -- `--name VALUE`, or `--name`
 abbrev pub shown : Sort → Text
 shown s = if s.valued then codes "--" ++ (s.name ++ (codes " " ++ value_shape s.name)) else codes "--" ++ s.name
 
 -- an option or flag as in the arguments of a command, in brackets if it is optional
-abbrev pub word : Sort → Text
-word s = if may_be_missing s.name then codes " [" ++ (shown s ++ codes "]") else codes " " ++ shown s
+abbrev pub word : Command → Sort → Text
+word c s = if may_be_missing c s.name then codes " [" ++ (shown s ++ codes "]") else codes " " ++ shown s
 
 -- an option or flag with its meaning, on a line of its own
 abbrev pub told : Sort → Text
@@ -90,14 +110,14 @@ names_shape command.Check = codes "CAPTURE.."
 names_shape command.Verify = codes "CAPTURE.."
 names_shape command.VerifyReport = codes "CAPTURE.."
 names_shape command.SelfTest = codes "FRAMES"
-names_shape command.Window = codes "CAPTURE"
-names_shape command.Shape = codes "CAPTURE"
+names_shape command.Window = codes "CAPTURE.."
+names_shape command.Shape = codes "CAPTURE.."
 names_shape command.Skew = codes "CAPTURE [CAPTURE]"
 names_shape command.Scan = codes "CAPTURE"
-names_shape command.Measure = codes "CAPTURE"
-names_shape command.Series = codes "CAPTURE"
+names_shape command.Measure = codes "CAPTURE.."
+names_shape command.Series = codes "CAPTURE.."
 names_shape command.Sdp = codes "FILE"
-names_shape command.Page = codes "CAPTURE"
+names_shape command.Page = codes "CAPTURE.."
 
 -- what a command does, in words
 abbrev pub about : Command → Text
@@ -168,7 +188,7 @@ example command.Page = codes "./run page --sdp examples/plain.sdp examples/burst
 
 -- the arguments of a command
 abbrev pub usage : Command → Text
-usage c = name_of c ++ (flat_map word (sorts c) ++ (codes " " ++ names_shape c))
+usage c = name_of c ++ (flat_map (word c) (sorts c) ++ (codes " " ++ names_shape c))
 
 -- the arguments of a command and what it does, in two lines
 abbrev pub summary : Command → Text

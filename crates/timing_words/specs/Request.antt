@@ -90,6 +90,11 @@ abbrev pub delay : Option Text → Option ℕ
 delay None = Some 0
 delay (Some text) = number 0 999999999 text
 
+-- the media that is judged alone, if the option is given
+abbrev pub only_media : Option Text → Option (Option ℕ)
+only_media None = Some None
+only_media (Some text) = option_map (λ n. Some n) (media text)
+
 -- the number of workers of `check`: 4 without an option, and 0, for one thread, with `--serial`; `--workers` and
 -- `--serial` exclude each other
 abbrev pub check_workers : Option Text → Bool → Option ℕ
@@ -109,6 +114,10 @@ scan_form false false = Some form.Lines
 scan_form true false = Some form.Json
 scan_form false true = Some form.Draft
 scan_form true true = None
+
+-- one file name, or 1 to 16 if the captures are joined
+abbrev pub inputs : Bool → List Text → Option (List Text)
+inputs joined names = file_names (if joined then 16 else 1) names
 
 -- the only positional argument
 abbrev pub sole : List Text → Option Text
@@ -137,7 +146,7 @@ takes options flags = map (λ n. record { name = n; valued = true }) options
 -- the options and flags of `check`
 abbrev pub check_sorts : List Sort
 check_sorts = takes
-    (codes "sdp" ∷ codes "workers" ∷ codes "tai" ∷ codes "delay" ∷ [])
+    (codes "sdp" ∷ codes "workers" ∷ codes "tai" ∷ codes "delay" ∷ codes "media" ∷ [])
     (codes "serial" ∷ codes "json" ∷ codes "joined" ∷ codes "seq16" ∷ [])
 
 -- the job of `check`
@@ -146,6 +155,7 @@ check_asked l =
     need (given (codes "sdp") l file_name) (λ sdp.
     need (check_workers (l.value (codes "workers")) (l.flag (codes "serial"))) (λ workers.
     need (options_asked l) (λ options.
+    need (only_media (l.value (codes "media"))) (λ m.
     need (file_names 16 l.names) (λ captures.
     Some (record {
       sdp = sdp;
@@ -154,7 +164,8 @@ check_asked l =
       options = options;
       json = l.flag (codes "json");
       joined = l.flag (codes "joined");
-    })))))
+      media = m;
+    }))))))
 
 -- the options and flags of `verify`
 abbrev pub verify_sorts : List Sort
@@ -173,7 +184,7 @@ proof_asked l =
     need (given (codes "limit") l count) (λ limit.
     Some (record { model = model; from = from; to = to; count = counted; limit = limit }))))))
 
--- the job of `verify`, with one capture, or with 1 to 16 if they are joined
+-- the job of `verify`
 abbrev pub verify_asked : Stands → Option VerifyJob
 verify_asked l =
     need (given (codes "sdp") l file_name) (λ sdp.
@@ -181,7 +192,7 @@ verify_asked l =
     need (given (codes "type") l kind_named) (λ k.
     need (proof_asked l) (λ proof.
     need (options_asked l) (λ options.
-    need (file_names (if l.flag (codes "joined") then 16 else 1) l.names) (λ captures.
+    need (inputs (l.flag (codes "joined")) l.names) (λ captures.
     Some (record {
       sdp = sdp;
       media = m;
@@ -195,7 +206,7 @@ verify_asked l =
 -- the options and flags of `verify-report`
 abbrev pub report_sorts : List Sort
 report_sorts = takes
-    (codes "sdp" ∷ codes "report" ∷ codes "tai" ∷ codes "delay" ∷ [])
+    (codes "sdp" ∷ codes "report" ∷ codes "tai" ∷ codes "delay" ∷ codes "media" ∷ [])
     (codes "joined" ∷ codes "seq16" ∷ [])
 
 -- the job of `verify-report`
@@ -204,6 +215,7 @@ report_asked l =
     need (given (codes "sdp") l file_name) (λ sdp.
     need (given (codes "report") l file_name) (λ rep.
     need (options_asked l) (λ options.
+    need (only_media (l.value (codes "media"))) (λ m.
     need (file_names 16 l.names) (λ captures.
     Some (record {
       sdp = sdp;
@@ -211,7 +223,8 @@ report_asked l =
       options = options;
       captures = captures;
       joined = l.flag (codes "joined");
-    })))))
+      media = m;
+    }))))))
 
 -- the options and flags of `selftest`
 abbrev pub self_test_sorts : List Sort
@@ -230,18 +243,26 @@ flow_asked l =
     need (given (codes "sdp") l file_name) (λ sdp.
     need (given (codes "media") l media) (λ m.
     need (options_asked l) (λ options.
-    need (need (sole l.names) file_name) (λ capture.
-    Some (record { sdp = sdp; media = m; options = options; capture = capture })))))
+    need (inputs (l.flag (codes "joined")) l.names) (λ captures.
+    Some (record {
+      sdp = sdp;
+      media = m;
+      options = options;
+      captures = captures;
+      joined = l.flag (codes "joined");
+    })))))
 
 -- the options and flags of `window`
 abbrev pub window_sorts : List Sort
-window_sorts = takes (codes "sdp" ∷ codes "media" ∷ codes "tai" ∷ codes "delay" ∷ []) (codes "seq16" ∷ [])
+window_sorts = takes
+    (codes "sdp" ∷ codes "media" ∷ codes "tai" ∷ codes "delay" ∷ [])
+    (codes "joined" ∷ codes "seq16" ∷ [])
 
 -- the options and flags of `shape`
 abbrev pub shape_sorts : List Sort
 shape_sorts = takes
     (codes "sdp" ∷ codes "media" ∷ codes "type" ∷ codes "tai" ∷ codes "delay" ∷ [])
-    (codes "list" ∷ codes "seq16" ∷ [])
+    (codes "list" ∷ codes "joined" ∷ codes "seq16" ∷ [])
 
 -- the job of `shape`
 abbrev pub shape_asked : Stands → Option ShapeJob
@@ -276,21 +297,30 @@ scan_asked l =
 
 -- the options and flags of `measure` and of `page`
 abbrev pub capture_sorts : List Sort
-capture_sorts = takes (codes "sdp" ∷ codes "tai" ∷ codes "delay" ∷ []) (codes "seq16" ∷ [])
+capture_sorts = takes
+    (codes "sdp" ∷ codes "tai" ∷ codes "delay" ∷ codes "media" ∷ [])
+    (codes "joined" ∷ codes "seq16" ∷ [])
 
 -- the job of `measure` or `page`
 abbrev pub capture_asked : Stands → Option CaptureJob
 capture_asked l =
     need (given (codes "sdp") l file_name) (λ sdp.
     need (options_asked l) (λ options.
-    need (need (sole l.names) file_name) (λ capture.
-    Some (record { sdp = sdp; options = options; capture = capture }))))
+    need (only_media (l.value (codes "media"))) (λ m.
+    need (inputs (l.flag (codes "joined")) l.names) (λ captures.
+    Some (record {
+      sdp = sdp;
+      options = options;
+      captures = captures;
+      joined = l.flag (codes "joined");
+      media = m;
+    })))))
 
 -- the options and flags of `series`
 abbrev pub series_sorts : List Sort
 series_sorts = takes
     (codes "sdp" ∷ codes "media" ∷ codes "tai" ∷ codes "delay" ∷ [])
-    (codes "frames" ∷ codes "seq16" ∷ [])
+    (codes "frames" ∷ codes "joined" ∷ codes "seq16" ∷ [])
 
 -- the job of `series`
 abbrev pub series_asked : Stands → Option SeriesJob

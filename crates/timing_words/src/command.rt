@@ -73,7 +73,7 @@ impl Command {
         match self {
             Command::Check => parser_of(
                 alloc,
-                &["sdp", "workers", "tai", "delay"],
+                &["sdp", "workers", "tai", "delay", "media"],
                 &["serial", "json", "joined", "seq16"],
             ),
             Command::Verify => parser_of(
@@ -85,26 +85,38 @@ impl Command {
             ),
             Command::VerifyReport => parser_of(
                 alloc,
-                &["sdp", "report", "tai", "delay"],
+                &["sdp", "report", "tai", "delay", "media"],
                 &["joined", "seq16"],
             ),
             Command::SelfTest => parser_of(alloc, &["workers"], &[]),
-            Command::Window => { parser_of(alloc, &["sdp", "media", "tai", "delay"], &["seq16"]) }
+            Command::Window => parser_of(
+                alloc,
+                &["sdp", "media", "tai", "delay"],
+                &["joined", "seq16"],
+            ),
             Command::Shape => parser_of(
                 alloc,
                 &["sdp", "media", "type", "tai", "delay"],
-                &["list", "seq16"],
+                &["list", "joined", "seq16"],
             ),
             Command::Skew => parser_of(alloc, &["sdp", "media", "pair"], &[]),
             Command::Scan => parser_of(alloc, &[], &["json", "draft"]),
-            Command::Measure => parser_of(alloc, &["sdp", "tai", "delay"], &["seq16"]),
+            Command::Measure => parser_of(
+                alloc,
+                &["sdp", "tai", "delay", "media"],
+                &["joined", "seq16"],
+            ),
             Command::Series => parser_of(
                 alloc,
                 &["sdp", "media", "tai", "delay"],
-                &["frames", "seq16"],
+                &["frames", "joined", "seq16"],
             ),
             Command::Sdp => parser_of(alloc, &[], &["json"]),
-            Command::Page => parser_of(alloc, &["sdp", "tai", "delay"], &["seq16"]),
+            Command::Page => parser_of(
+                alloc,
+                &["sdp", "tai", "delay", "media"],
+                &["joined", "seq16"],
+            ),
         }
     }
 }

@@ -55,9 +55,9 @@ fn meaning(name: &str) -> &'static str
     }
 }
 
-/// Returns whether an option or flag of this name is optional.
-pub fn may_be_missing(name: &str) -> bool
-    ensures { result ≡ page.may_be_missing name.now }
+/// Returns whether an option or flag of this name is optional in every command that takes it.
+fn is_optional(name: &str) -> bool
+    ensures { result ≡ page.is_optional name.now }
 {
     matches!(
         name,
@@ -74,6 +74,13 @@ pub fn may_be_missing(name: &str) -> bool
     )
 }
 
+/// Returns whether the command's option or flag of this name is optional.
+pub fn may_be_missing(command: Command, name: &str) -> bool
+    ensures { result ≡ page.may_be_missing command name.now }
+{
+    is_optional(name) || (command.judges_all() && name == "media")
+}
+
 /// Returns an option with the placeholder for its value, or a flag.
 fn shown(alloc: Global, name: &str, valued: bool) -> Result<String, OutOfMemory>
     ensures { IfOk result (λ s. string_bytes s ≡ page.shown (record { name = name.now; valued = valued })) }
@@ -87,11 +94,12 @@ fn shown(alloc: Global, name: &str, valued: bool) -> Result<String, OutOfMemory>
 }
 
 /// Returns an option or flag as in the arguments of a command, in brackets if it is optional.
-fn word(alloc: Global, name: &str, valued: bool) -> Result<String, OutOfMemory>
-    ensures { IfOk result (λ s. string_bytes s ≡ page.word (record { name = name.now; valued = valued })) }
+fn word(alloc: Global, command: Command, name: &str, valued: bool) -> Result<String, OutOfMemory>
+    ensures { IfOk result (λ s.
+        string_bytes s ≡ page.word command (record { name = name.now; valued = valued })) }
 {
     let shown = shown(alloc, name, valued)?;
-    if may_be_missing(name) {
+    if may_be_missing(command, name) {
         format!(in alloc; " [{shown}]")
     } else {
         format!(in alloc; " {shown}")
@@ -109,11 +117,11 @@ fn told(alloc: Global, name: &str, valued: bool) -> Result<String, OutOfMemory>
 
 /// Returns an argument of a parser as in the arguments of a command; nothing for the positional
 /// ones.
-fn word_in(alloc: Global, arg: &Arg<'_>) -> Result<String, OutOfMemory>
-    ensures { IfOk result (λ s. string_bytes s ≡ word_in (rule_of arg.now)) }
+fn word_in(alloc: Global, command: Command, arg: &Arg<'_>) -> Result<String, OutOfMemory>
+    ensures { IfOk result (λ s. string_bytes s ≡ word_in command (rule_of arg.now)) }
 {
     match arg.get_long() {
-        Some(name) => word(alloc, name, arg.get_num_args().is_none()),
+        Some(name) => word(alloc, command, name, arg.get_num_args().is_none()),
         None => Ok(String::new(alloc)),
     }
 }
@@ -130,12 +138,12 @@ fn told_in(alloc: Global, arg: &Arg<'_>) -> Result<String, OutOfMemory>
 }
 
 /// Returns the options and flags of a parser as in the arguments of a command.
-fn words_in(alloc: Global, args: &[Arg<'_>]) -> Result<String, OutOfMemory>
-    ensures { IfOk result (λ s. string_bytes s ≡ flat_map (λ a. word_in (rule_of a)) args.now) }
+fn words_in(alloc: Global, command: Command, args: &[Arg<'_>]) -> Result<String, OutOfMemory>
+    ensures { IfOk result (λ s. string_bytes s ≡ flat_map (λ a. word_in command (rule_of a)) args.now) }
 {
     let mut text = String::new(alloc);
     for arg in args {
-        text.push_str(word_in(alloc, arg)?.as_str())?;
+        text.push_str(word_in(alloc, command, arg)?.as_str())?;
     }
     Ok(text)
 }
@@ -153,10 +161,10 @@ fn lines_in(alloc: Global, args: &[Arg<'_>]) -> Result<String, OutOfMemory>
 
 /// Returns the options and flags of a command as in its arguments.
 fn words_of(alloc: Global, command: Command) -> Result<String, OutOfMemory>
-    ensures { IfOk result (λ s. string_bytes s ≡ flat_map page.word (sorts command)) }
+    ensures { IfOk result (λ s. string_bytes s ≡ flat_map (page.word command) (sorts command)) }
 {
     let parser = command.parser(alloc)?;
-    words_in(alloc, parser.get_arguments())
+    words_in(alloc, command, parser.get_arguments())
 }
 
 /// Returns the options and flags of a command with their meanings, each on a line.
@@ -188,6 +196,16 @@ impl Command {
         }
     }
 
+    /// Returns whether the command judges every video of the description, or one that is chosen.
+    fn judges_all(self) -> bool
+        ensures { result ≡ page.judges_all self }
+    {
+        matches!(
+            self,
+            Command::Check | Command::VerifyReport | Command::Measure | Command::Page
+        )
+    }
+
     /// Returns the placeholder for the positional arguments of the command.
     fn names_shape(self) -> &'static str
         ensures { result.now ≡ page.names_shape self }
@@ -195,9 +213,10 @@ impl Command {
         match self {
             Command::Check | Command::Verify | Command::VerifyReport => "CAPTURE..",
             Command::SelfTest => "FRAMES",
-            Command::Window | Command::Shape => "CAPTURE",
+            Command::Window | Command::Shape => "CAPTURE..",
             Command::Skew => "CAPTURE [CAPTURE]",
-            Command::Scan | Command::Measure | Command::Series | Command::Page => "CAPTURE",
+            Command::Scan => "CAPTURE",
+            Command::Measure | Command::Series | Command::Page => "CAPTURE..",
             Command::Sdp => "FILE",
         }
     }

@@ -3,6 +3,7 @@
 
 ghost use Rattle.std.specs.Prelude.{◌≡◌, IfErr, IfOk, None, Some, ◌<◌, ◌≤◌, length};
 ghost use Rattle.clap.specs.Words.{found_of};
+ghost use Rattle.timing_base.specs.Jobs.{AreInputs};
 ghost use Rattle.timing_words.specs.Answers.{Gives};
 ghost use Rattle.timing_words.specs.Clap.{found_stands};
 ghost use Rattle.timing_words.specs.Request as words;
@@ -10,8 +11,8 @@ ghost use Rattle.timing_words.specs.Request as words;
 use crate::command::NAMES;
 use crate::line::WordFault;
 use crate::values::{
-    check_workers, count, delay, file_name, file_names, kind_named, media, model_named, number,
-    scan_form, sole, tai, test_workers,
+    check_workers, count, delay, file_name, file_names, inputs, kind_named, media, model_named,
+    number, only_media, scan_form, sole, tai, test_workers,
 };
 use clap::ArgMatches;
 use std::alloc::Global;
@@ -63,6 +64,21 @@ fn captures(
     }
 }
 
+/// Returns the positional arguments as one file name, or as 1 to 16 if the captures are joined.
+fn capture_or_joined(
+    alloc: Global,
+    matches: &ArgMatches<'_>,
+    joined: bool,
+) -> Result<Items<FileName>, WordFault>
+    ensures gives { Gives (words.inputs joined (found_stands (found_of matches.now)).names) result }
+    ensures are { IfOk result (AreInputs joined) }
+{
+    match matches.get_raw(NAMES) {
+        Some(names) => inputs(alloc, names, joined),
+        None => Err(WordFault::Usage),
+    }
+}
+
 /// Returns the only positional argument.
 fn sole_name<'a>(matches: &ArgMatches<'a>) -> Result<&'a str, WordFault>
     ensures one { IfOk result (λ s.
@@ -96,6 +112,7 @@ pub(crate) fn check_job(alloc: Global, matches: &ArgMatches<'_>) -> Result<Check
     let serial = matches.contains_id("serial");
     let workers = check_workers(matches.get_str("workers"), serial)?;
     let options = flow_options(matches)?;
+    let media = only_media(matches.get_str("media"))?;
     let captures = captures(alloc, matches, 16)?;
     Ok(CheckJob {
         sdp,
@@ -104,6 +121,7 @@ pub(crate) fn check_job(alloc: Global, matches: &ArgMatches<'_>) -> Result<Check
         options,
         json: matches.contains_id("json"),
         joined: matches.contains_id("joined"),
+        media,
     })
 }
 
@@ -130,8 +148,7 @@ pub(crate) fn verify_job(alloc: Global, matches: &ArgMatches<'_>) -> Result<Veri
     let proof = fail_proof(matches)?;
     let options = flow_options(matches)?;
     let joined = matches.contains_id("joined");
-    let most = if joined { 16 } else { 1 };
-    let captures = captures(alloc, matches, most)?;
+    let captures = capture_or_joined(alloc, matches, joined)?;
     Ok(VerifyJob {
         sdp,
         media,
@@ -150,6 +167,7 @@ pub(crate) fn report_job(alloc: Global, matches: &ArgMatches<'_>) -> Result<Repo
     let sdp = given_file(alloc, matches, "sdp")?;
     let report = given_file(alloc, matches, "report")?;
     let options = flow_options(matches)?;
+    let media = only_media(matches.get_str("media"))?;
     let captures = captures(alloc, matches, 16)?;
     Ok(ReportJob {
         sdp,
@@ -157,6 +175,7 @@ pub(crate) fn report_job(alloc: Global, matches: &ArgMatches<'_>) -> Result<Repo
         options,
         captures,
         joined: matches.contains_id("joined"),
+        media,
     })
 }
 
@@ -176,12 +195,14 @@ pub(crate) fn flow_job(alloc: Global, matches: &ArgMatches<'_>) -> Result<FlowJo
     let sdp = given_file(alloc, matches, "sdp")?;
     let media = given_media(matches, "media")?;
     let options = flow_options(matches)?;
-    let capture = file_name(alloc, sole_name(matches)?)?;
+    let joined = matches.contains_id("joined");
+    let captures = capture_or_joined(alloc, matches, joined)?;
     Ok(FlowJob {
         sdp,
         media,
         options,
-        capture,
+        captures,
+        joined,
     })
 }
 
@@ -229,11 +250,15 @@ pub(crate) fn capture_job(alloc: Global, matches: &ArgMatches<'_>) -> Result<Cap
 {
     let sdp = given_file(alloc, matches, "sdp")?;
     let options = flow_options(matches)?;
-    let capture = file_name(alloc, sole_name(matches)?)?;
+    let media = only_media(matches.get_str("media"))?;
+    let joined = matches.contains_id("joined");
+    let captures = capture_or_joined(alloc, matches, joined)?;
     Ok(CaptureJob {
         sdp,
         options,
-        capture,
+        captures,
+        joined,
+        media,
     })
 }
 

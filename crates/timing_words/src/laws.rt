@@ -9,15 +9,16 @@ ghost use Rattle.timing_base.specs.declared.job.ScanForm.TheVariants as form;
 ghost use Rattle.timing_base.specs.declared.media.Kind.TheVariants as kind;
 ghost use Rattle.timing_words.specs.declared.command.Command.{Command};
 ghost use Rattle.timing_words.specs.declared.command.Command.TheVariants as command;
-ghost use Rattle.timing_words.specs.Examples.{Asks, IsCut, IsRefused, IsUncut, plain_check, second_flow};
+ghost use Rattle.timing_words.specs.Examples.{Asks, IsCut, IsRefused, IsUncut, halves, plain_capture, plain_check};
 ghost use Rattle.timing_base.specs.Examples.{by_sequence_numbers, seconds_added};
 ghost use Rattle.timing_base.specs.Shifts.{no_options};
-ghost use Rattle.timing_words.specs.Examples.{sixteen, sixteen_names, words};
+ghost use Rattle.timing_words.specs.Examples.{second_flow, sixteen, sixteen_names, words};
 ghost use Rattle.timing_words.specs.Help.{commands, help_text, name_of, usage};
 ghost use Rattle.timing_words.specs.Limits.{IsWithinLimits};
 ghost use Rattle.timing_words.specs.Line.{Text, flag, line, name, option};
 ghost use Rattle.timing_words.specs.Request.{check_sorts, check_workers, command_named, count, file_name, file_names};
-ghost use Rattle.timing_words.specs.Request.{delay, kind_named, media, model_named, number, request, tai, test_workers};
+ghost use Rattle.timing_words.specs.Request.{delay, inputs, kind_named, media, model_named, number, only_media, request};
+ghost use Rattle.timing_words.specs.Request.{tai, test_workers};
 
 /// Worked by hand: arguments that can be separated.
 pub fn lines_by_hand()
@@ -69,6 +70,11 @@ pub fn numbers_by_hand()
     ensures media_first { media (codes "1") ≡ Some 0 }
     ensures media_last { media (codes "64") ≡ Some 63 }
     ensures media_over { media (codes "65") ≡ None }
+    ensures only_unsaid { only_media None ≡ Some None }
+    ensures only_none { only_media (Some (codes "0")) ≡ None }
+    ensures only_first { only_media (Some (codes "1")) ≡ Some (Some 0) }
+    ensures only_last { only_media (Some (codes "64")) ≡ Some (Some 63) }
+    ensures only_over { only_media (Some (codes "65")) ≡ None }
     ensures tai_unsaid { tai None ≡ Some 0 }
     ensures tai_least { tai (Some (codes "0")) ≡ Some 0 }
     ensures tai_most { tai (Some (codes "1000")) ≡ Some 1000 }
@@ -108,6 +114,12 @@ pub fn names_by_hand()
     ensures sixteen_files { file_names 16 sixteen ≡ Some sixteen }
     ensures seventeen_files { file_names 16 (codes "q" ∷ sixteen) ≡ None }
     ensures wrong_file { file_names 16 (codes "a" ∷ [] ∷ []) ≡ None }
+    ensures one_alone { inputs false (codes "a" ∷ []) ≡ Some (codes "a" ∷ []) }
+    ensures two_alone { inputs false halves ≡ None }
+    ensures one_joined { inputs true (codes "a" ∷ []) ≡ Some (codes "a" ∷ []) }
+    ensures sixteen_joined { inputs true sixteen ≡ Some sixteen }
+    ensures seventeen_joined { inputs true (codes "q" ∷ sixteen) ≡ None }
+    ensures none_joined { inputs true [] ≡ None }
     ensures narrow { kind_named (codes "N") ≡ Some kind.N }
     ensures narrow_linear { kind_named (codes "NL") ≡ Some kind.NL }
     ensures wide { kind_named (codes "W") ≡ Some kind.W }
@@ -139,7 +151,11 @@ pub fn checks_by_hand()
     ensures twice { IsRefused (codes "check --sdp p --serial --serial c") }
     ensures both { IsRefused (codes "check --sdp p --serial --workers=2 c") }
     ensures over { IsRefused (codes "check --sdp p --tai 1001 c") }
-    ensures media { IsRefused (codes "check --sdp p --media 1 c") }
+    ensures media { Asks (codes "check --sdp p --media 64 c d")
+        (asks.Check (record plain_check { captures = halves; media = Some 63 })) }
+    ensures media_none { IsRefused (codes "check --sdp p --media 0 c") }
+    ensures media_over { IsRefused (codes "check --sdp p --media 65 c") }
+    ensures media_twice { IsRefused (codes "check --sdp p --media 1 --media 1 c") }
 {}
 
 /// Worked by hand: how the packets of a flow are timed and numbered, in lines of the commands that
@@ -152,10 +168,8 @@ pub fn flow_options_by_hand()
     ensures window { Asks (codes "window --seq16 --media=2 --sdp=p c")
         (asks.Window (record (second_flow 0) { options = by_sequence_numbers })) }
     ensures page { Asks (codes "page --delay=7 --sdp=p c")
-        (asks.Page (record {
-          sdp = codes "p";
+        (asks.Page (record plain_capture {
           options = record { shift = record { tai = 0; delay = 7 }; seq16 = false };
-          capture = codes "c";
         })) }
     ensures over { IsRefused (codes "check --sdp p --delay 1000000000 c") }
     ensures twice { IsRefused (codes "check --sdp p --delay 1 --delay 1 c") }
@@ -220,17 +234,20 @@ pub fn reports_and_tests_by_hand()
           sdp = codes "p";
           report = codes "r";
           options = no_options;
-          captures = codes "c" ∷ codes "d" ∷ [];
+          captures = halves;
           joined = false;
+          media = None;
         })) }
-    ensures joined { Asks (codes "verify-report --sdp=p --report=r --tai=1 --joined c")
+    ensures joined { Asks (codes "verify-report --sdp=p --report=r --tai=1 --joined --media=3 c")
         (asks.VerifyReport (record {
           sdp = codes "p";
           report = codes "r";
           options = seconds_added 1;
           captures = codes "c" ∷ [];
           joined = true;
+          media = Some 2;
         })) }
+    ensures media_over { IsRefused (codes "verify-report --sdp p --report r --media 65 c") }
     ensures seventeen_captures { IsRefused (codes "verify-report --sdp p --report r q " ++ sixteen_names) }
     ensures no_report { IsRefused (codes "verify-report --sdp p c") }
     ensures no_sdp { IsRefused (codes "verify-report --report r c") }
@@ -252,11 +269,23 @@ pub fn flows_by_hand()
     ensures window_no_media { IsRefused (codes "window --sdp p c") }
     ensures window_no_capture { IsRefused (codes "window --sdp p --media 2") }
     ensures window_two_captures { IsRefused (codes "window --sdp p --media 2 c d") }
+    ensures window_joined { Asks (codes "window --joined --sdp p --media 2 c d")
+        (asks.Window (record (second_flow 0) { captures = halves; joined = true })) }
+    ensures window_joined_one { Asks (codes "window --joined --sdp p --media 2 c")
+        (asks.Window (record (second_flow 0) { joined = true })) }
+    ensures window_joined_none { IsRefused (codes "window --joined --sdp p --media 2") }
     ensures shape { Asks (codes "shape --sdp p --media 2 --type N --list c")
         (asks.Shape (record { flow = second_flow 0; kind = kind.N; list = true })) }
     ensures shape_unlisted { Asks (codes "shape --type=W --tai=5 --sdp=p --media=2 c")
         (asks.Shape (record { flow = second_flow 5; kind = kind.W; list = false })) }
     ensures shape_no_type { IsRefused (codes "shape --sdp p --media 2 c") }
+    ensures shape_no_media { IsRefused (codes "shape --sdp p --type N c") }
+    ensures shape_joined { Asks (codes "shape --sdp p --media 2 --type N c --joined d")
+        (asks.Shape (record {
+          flow = record (second_flow 0) { captures = halves; joined = true };
+          kind = kind.N;
+          list = false;
+        })) }
     ensures skew { Asks (codes "skew --sdp p --media 2 --pair 64 c d")
         (asks.Skew (record {
           sdp = codes "p";
@@ -272,6 +301,7 @@ pub fn flows_by_hand()
     ensures skew_no_media { IsRefused (codes "skew --sdp p --pair 1 c") }
     ensures skew_no_pair { IsRefused (codes "skew --sdp p --media 2 c") }
     ensures skew_tai { IsRefused (codes "skew --sdp p --media 2 --pair 1 --tai 0 c") }
+    ensures skew_joined { IsRefused (codes "skew --sdp p --media 2 --pair 1 --joined c d") }
 {}
 
 /// Worked by hand: command lines of `sdp`.
@@ -294,19 +324,27 @@ pub fn scans_by_hand()
     ensures two_captures { IsRefused (codes "scan c d") }
     ensures sdp { IsRefused (codes "scan --sdp p c") }
     ensures tai { IsRefused (codes "scan --tai 37 c") }
+    ensures media { IsRefused (codes "scan --media 1 c") }
+    ensures joined { IsRefused (codes "scan --joined c d") }
 {}
 
 /// Worked by hand: command lines of `measure`.
 pub fn measures_by_hand()
-    ensures plain { Asks (codes "measure --sdp p c")
-        (asks.Measure (record { sdp = codes "p"; options = no_options; capture = codes "c" })) }
+    ensures plain { Asks (codes "measure --sdp p c") (asks.Measure plain_capture) }
     ensures later { Asks (codes "measure c --tai=1000 --sdp=p")
-        (asks.Measure (record { sdp = codes "p"; options = seconds_added 1000; capture = codes "c" })) }
+        (asks.Measure (record plain_capture { options = seconds_added 1000 })) }
+    ensures joined { Asks (codes "measure --joined --sdp p c d")
+        (asks.Measure (record plain_capture { captures = halves; joined = true })) }
+    ensures joined_sixteen { Asks (codes "measure --joined --sdp p " ++ sixteen_names)
+        (asks.Measure (record plain_capture { captures = sixteen; joined = true })) }
+    ensures joined_seventeen { IsRefused (codes "measure --joined --sdp p q " ++ sixteen_names) }
+    ensures media { Asks (codes "measure --sdp p --media 1 c")
+        (asks.Measure (record plain_capture { media = Some 0 })) }
+    ensures media_over { IsRefused (codes "measure --sdp p --media 65 c") }
     ensures tai_over { IsRefused (codes "measure --sdp p --tai 1001 c") }
     ensures no_sdp { IsRefused (codes "measure c") }
     ensures no_capture { IsRefused (codes "measure --sdp p") }
     ensures two_captures { IsRefused (codes "measure --sdp p c d") }
-    ensures media { IsRefused (codes "measure --sdp p --media 1 c") }
     ensures json { IsRefused (codes "measure --sdp p --json c") }
 {}
 
@@ -320,20 +358,26 @@ pub fn series_by_hand()
     ensures no_sdp { IsRefused (codes "series --media 2 c") }
     ensures no_capture { IsRefused (codes "series --sdp p --media 2") }
     ensures two_captures { IsRefused (codes "series --sdp p --media 2 c d") }
+    ensures joined { Asks (codes "series --joined --sdp p --media 2 c d")
+        (asks.Series (record {
+          flow = record (second_flow 0) { captures = halves; joined = true };
+          frames = false;
+        })) }
     ensures valued { IsRefused (codes "series --sdp p --media 2 --frames=1 c") }
 {}
 
 /// Worked by hand: command lines of `page`.
 pub fn pages_by_hand()
-    ensures plain { Asks (codes "page --sdp p c")
-        (asks.Page (record { sdp = codes "p"; options = no_options; capture = codes "c" })) }
+    ensures plain { Asks (codes "page --sdp p c") (asks.Page plain_capture) }
     ensures later { Asks (codes "page c --tai=1000 --sdp=p")
-        (asks.Page (record { sdp = codes "p"; options = seconds_added 1000; capture = codes "c" })) }
+        (asks.Page (record plain_capture { options = seconds_added 1000 })) }
+    ensures chosen { Asks (codes "page --joined c --media=64 d --sdp=p")
+        (asks.Page (record plain_capture { captures = halves; joined = true; media = Some 63 })) }
     ensures tai_over { IsRefused (codes "page --sdp p --tai 1001 c") }
     ensures no_sdp { IsRefused (codes "page c") }
     ensures no_capture { IsRefused (codes "page --sdp p") }
     ensures two_captures { IsRefused (codes "page --sdp p c d") }
-    ensures media { IsRefused (codes "page --sdp p --media 1 c") }
+    ensures media_none { IsRefused (codes "page --sdp p --media 0 c") }
 {}
 
 /// Worked by hand: first arguments that are no command.
@@ -359,12 +403,16 @@ pub fn helps_by_hand()
     ensures flag { IsRefused (codes "--help") }
 {}
 
-/// Worked by hand: the arguments of two commands as `help` shows them, and the whole output of
+/// Worked by hand: the arguments of commands as `help` shows them, and the whole output of
 /// `help selftest`.
 pub fn help_texts_by_hand()
     ensures check { usage command.Check
         ≡ codes "check --sdp FILE [--workers N] [--tai SECONDS] [--delay NANOSECONDS] "
-        ++ codes "[--serial] [--json] [--joined] [--seq16] CAPTURE.." }
+        ++ codes "[--media N] [--serial] [--json] [--joined] [--seq16] CAPTURE.." }
+    ensures window { usage command.Window
+        ≡ codes "window --sdp FILE --media N [--tai SECONDS] [--delay NANOSECONDS] [--joined] [--seq16] CAPTURE.." }
+    ensures page { usage command.Page
+        ≡ codes "page --sdp FILE [--tai SECONDS] [--delay NANOSECONDS] [--media N] [--joined] [--seq16] CAPTURE.." }
     ensures skew { usage command.Skew ≡ codes "skew --sdp FILE --media N --pair N CAPTURE [CAPTURE]" }
     ensures whole { help_text (Some command.SelfTest)
         ≡ codes "selftest [--workers N] FRAMES\n"
@@ -381,8 +429,8 @@ pub fn shown_words_are_read()
     ensures all { (c : Command) → Contains commands c }
 {}
 
-/// The job of every request is within its limits: 1 to 16 captures, at most 16 workers and 1,000
-/// seconds, and so on for each command.
+/// The job of every request is within its limits: one capture, or 1 to 16 where they are joined or
+/// judged one by one, at most 16 workers and 1,000 seconds, and so on for each command.
 pub fn jobs_are_within_limits()
     ensures { (words : List Text) (asked : Request) → request words ≡ Some asked → IsWithinLimits asked }
 {}

@@ -5,6 +5,7 @@ ghost use Rattle.std.specs.Prelude.{◌≡◌, ◌≤◌, ◌<◌, IfErr, IfOk, 
 ghost use Rattle.std.specs.Option.{option_map};
 ghost use Rattle.std.specs.Char.{is_ascii_digit};
 ghost use Rattle.std.specs.List.{list_all};
+ghost use Rattle.timing_base.specs.Jobs.{AreInputs, IsChoice};
 ghost use Rattle.timing_base.specs.Name.{is_file_name, is_name_byte};
 ghost use Rattle.timing_words.specs.Answers.{Gives};
 ghost use Rattle.timing_words.specs.Request as words;
@@ -113,6 +114,18 @@ pub fn delay(text: Option<&str>) -> Result<u64, WordFault>
     }
 }
 
+/// Returns the media that is judged alone, counted from 1 to 64 in the text and from 0 in the
+/// result, or `None` without the option.
+pub(crate) fn only_media(text: Option<&str>) -> Result<Option<u32>, WordFault>
+    ensures value { Gives (words.only_media (option_map (λ s. s.now) text.entry)) result }
+    ensures few { IfOk result IsChoice }
+{
+    match text {
+        Some(text) => Ok(Some(media(text)?)),
+        None => Ok(None),
+    }
+}
+
 /// Returns the number of workers of `check`, 1 to 16, or 0 for one thread. It is 4 without an
 /// option. `--workers` and `--serial` exclude each other.
 pub fn check_workers(text: Option<&str>, serial: bool) -> Result<u32, WordFault>
@@ -197,6 +210,19 @@ pub(crate) fn file_names(
         files.push(file)?;
     }
     Ok(Items::from_vec(files))
+}
+
+/// Returns one file name, or 1 to 16 if the captures are joined. Returns `OutOfMemory` if memory
+/// runs out.
+pub(crate) fn inputs(
+    alloc: Global,
+    names: &[&str],
+    joined: bool,
+) -> Result<Items<FileName>, WordFault>
+    ensures names { Gives (words.inputs joined (map (λ s. s.now) names.now)) result }
+    ensures are { IfOk result (AreInputs joined) }
+{
+    file_names(alloc, names, if joined { 16 } else { 1 })
 }
 
 /// Returns the only positional argument.

@@ -63,12 +63,12 @@ fn capture_of(request: &Request, file: u32) -> Option<&FileName> {
         Request::Verify(job) => job.captures.as_slice().get(file as usize),
         Request::VerifyReport(job) => job.captures.as_slice().get(file as usize),
         Request::Skew(job) => job.captures.as_slice().get(file as usize),
-        Request::Window(job) => Some(&job.capture),
-        Request::Shape(job) => Some(&job.flow.capture),
+        Request::Window(job) => job.captures.as_slice().get(file as usize),
+        Request::Shape(job) => job.flow.captures.as_slice().get(file as usize),
         Request::Scan(job) => Some(&job.capture),
-        Request::Measure(job) => Some(&job.capture),
-        Request::Series(job) => Some(&job.flow.capture),
-        Request::Page(job) => Some(&job.capture),
+        Request::Measure(job) => job.captures.as_slice().get(file as usize),
+        Request::Series(job) => job.flow.captures.as_slice().get(file as usize),
+        Request::Page(job) => job.captures.as_slice().get(file as usize),
         Request::SelfTest(_) | Request::Sdp(_) | Request::Help(_) => None,
     }
 }

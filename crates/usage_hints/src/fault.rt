@@ -43,7 +43,7 @@ pub(crate) enum Mistake<'a> {
     TooManyDescriptions,
     /// There are more captures than this number, the most that the command takes.
     TooManyCaptures(usize),
-    /// `verify` without `--joined` has more than one capture.
+    /// There is more than one capture, without `--joined`.
     TooManyUnjoined,
     /// This argument can't be a file name.
     BadName(&'a str),
@@ -221,10 +221,8 @@ fn mistake_in(
         }
         Mistake::TooManyCaptures(most) => too_many(alloc, command, most),
         Mistake::TooManyUnjoined => {
-            String::from_str(
-                alloc,
-                "verify takes one capture, and with --joined at most 16\n",
-            )
+            let name = command.name();
+            format!(in alloc; "{name} takes one capture, and with --joined at most 16\n")
         }
         Mistake::BadName(name) => {
             let name = shown(alloc, name)?;

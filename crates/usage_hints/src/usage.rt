@@ -28,9 +28,13 @@ fn test_values<'a>(alloc: Global, parts: &Parts<'a>) -> Result<(), Stop<'a>> {
 }
 
 /// Returns `Err` for the first required option that is missing.
-fn test_presence<'a>(choices: &[Choice], parts: &Parts<'a>) -> Result<(), Stop<'a>> {
+fn test_presence<'a>(
+    command: Command,
+    choices: &[Choice],
+    parts: &Parts<'a>,
+) -> Result<(), Stop<'a>> {
     for choice in choices {
-        if !may_be_missing(choice.name) && !parts.has(choice.name) {
+        if !may_be_missing(command, choice.name) && !parts.has(choice.name) {
             return Err(Stop::Mistake(Mistake::Missing(choice.name)));
         }
     }
@@ -41,16 +45,17 @@ fn test_presence<'a>(choices: &[Choice], parts: &Parts<'a>) -> Result<(), Stop<'
 fn most_captures(command: Command, joined: bool) -> usize {
     match command {
         Command::Check | Command::VerifyReport => 16,
-        Command::Verify => if joined { 16 } else { 1 },
         Command::Skew => 2,
-        _ => 1,
+        Command::Scan => 1,
+        _ => if joined { 16 } else { 1 },
     }
 }
 
 /// Returns the mistake of more captures than a command takes.
 fn excess<'a>(command: Command, most: usize) -> Mistake<'a> {
     match command {
-        Command::Verify if most == 1 => Mistake::TooManyUnjoined,
+        Command::Scan => Mistake::TooManyCaptures(most),
+        _ if most == 1 => Mistake::TooManyUnjoined,
         _ => Mistake::TooManyCaptures(most),
     }
 }
@@ -104,7 +109,7 @@ fn test_command<'a>(alloc: Global, command: Command, words: &'a [String]) -> Res
     exclude(&parts, "serial", "workers")?;
     exclude(&parts, "json", "draft")?;
     test_values(alloc, &parts)?;
-    test_presence(choices.as_slice(), &parts)?;
+    test_presence(command, choices.as_slice(), &parts)?;
     match command {
         Command::SelfTest => test_frames(&parts),
         Command::Sdp => test_description(alloc, &parts),

@@ -40,14 +40,34 @@ fn shown_options(alloc: Global, options: FlowOptions) -> Result<String, AllocErr
     }
 }
 
+/// The media that is judged alone, counted from 0, or nothing.
+fn shown_only(alloc: Global, only: Option<u32>) -> Result<String, AllocError> {
+    match only {
+        Some(number) => format!(in alloc; " media {number}"),
+        None => Ok(String::new(alloc)),
+    }
+}
+
+/// Whether the captures are joined, and their names.
+fn shown_inputs(
+    alloc: Global,
+    joined: bool,
+    captures: &Items<FileName>,
+) -> Result<String, AllocError> {
+    let captures = files(alloc, captures)?;
+    let joined = if joined { " joined" } else { "" };
+    format!(in alloc; "{joined}:{captures}")
+}
+
 /// The fields of a `check`.
 fn shown_check(alloc: Global, job: &CheckJob) -> Result<String, AllocError> {
     let captures = files(alloc, &job.captures)?;
     let sdp = job.sdp.as_str();
     let workers = job.workers;
     let options = shown_options(alloc, job.options)?;
+    let only = shown_only(alloc, job.media)?;
     let (json, joined) = (job.json, job.joined);
-    format!(in alloc; "check {sdp} {workers} {options} {json} {joined}:{captures}")
+    format!(in alloc; "check {sdp} {workers} {options} {json} {joined}{only}:{captures}")
 }
 
 /// The numbers of a violation.
@@ -73,7 +93,8 @@ fn shown_report(alloc: Global, job: &ReportJob) -> Result<String, AllocError> {
     let (sdp, report) = (job.sdp.as_str(), job.report.as_str());
     let joined = job.joined;
     let options = shown_options(alloc, job.options)?;
-    format!(in alloc; "report {sdp} {report} {options} {joined}:{captures}")
+    let only = shown_only(alloc, job.media)?;
+    format!(in alloc; "report {sdp} {report} {options} {joined}{only}:{captures}")
 }
 
 /// The fields of a `selftest`.
@@ -84,19 +105,19 @@ fn shown_self_test(alloc: Global, job: &SelfTestJob) -> Result<String, AllocErro
 
 /// The fields of a `window`.
 fn shown_window(alloc: Global, job: &FlowJob) -> Result<String, AllocError> {
-    let (sdp, capture) = (job.sdp.as_str(), job.capture.as_str());
-    let media = job.media;
+    let (sdp, media) = (job.sdp.as_str(), job.media);
     let options = shown_options(alloc, job.options)?;
-    format!(in alloc; "window {sdp} {media} {options}: {capture}")
+    let inputs = shown_inputs(alloc, job.joined, &job.captures)?;
+    format!(in alloc; "window {sdp} {media} {options}{inputs}")
 }
 
 /// The fields of a `shape`.
 fn shown_shape(alloc: Global, job: &ShapeJob) -> Result<String, AllocError> {
-    let (sdp, capture) = (job.flow.sdp.as_str(), job.flow.capture.as_str());
-    let media = job.flow.media;
+    let (sdp, media) = (job.flow.sdp.as_str(), job.flow.media);
     let options = shown_options(alloc, job.flow.options)?;
+    let inputs = shown_inputs(alloc, job.flow.joined, &job.flow.captures)?;
     let (kind, list) = (job.kind, job.list);
-    format!(in alloc; "shape {sdp} {media} {kind:?} {options} {list}: {capture}")
+    format!(in alloc; "shape {sdp} {media} {kind:?} {options} {list}{inputs}")
 }
 
 /// The fields of a `skew`.
@@ -115,17 +136,19 @@ fn shown_scan(alloc: Global, job: &ScanJob) -> Result<String, AllocError> {
 
 /// The fields of a `series`.
 fn shown_series(alloc: Global, job: &SeriesJob) -> Result<String, AllocError> {
-    let (sdp, capture) = (job.flow.sdp.as_str(), job.flow.capture.as_str());
-    let (media, frames) = (job.flow.media, job.frames);
+    let (sdp, media, frames) = (job.flow.sdp.as_str(), job.flow.media, job.frames);
     let options = shown_options(alloc, job.flow.options)?;
-    format!(in alloc; "series {sdp} {media} {options} {frames}: {capture}")
+    let inputs = shown_inputs(alloc, job.flow.joined, &job.flow.captures)?;
+    format!(in alloc; "series {sdp} {media} {options} {frames}{inputs}")
 }
 
 /// The fields of a `measure` or a `page`.
 fn shown_capture(alloc: Global, command: &str, job: &CaptureJob) -> Result<String, AllocError> {
-    let (sdp, capture) = (job.sdp.as_str(), job.capture.as_str());
+    let sdp = job.sdp.as_str();
     let options = shown_options(alloc, job.options)?;
-    format!(in alloc; "{command} {sdp} {options}: {capture}")
+    let only = shown_only(alloc, job.media)?;
+    let inputs = shown_inputs(alloc, job.joined, &job.captures)?;
+    format!(in alloc; "{command} {sdp} {options}{only}{inputs}")
 }
 
 /// The fields of an `sdp`.
@@ -239,7 +262,6 @@ static ROWS: &str = concat!(
     "check|--sdp|p|--serial|true|c => check p 0 0 false false: true c\n",
     // options that the command does not have
     "check|--sdp|p|--list|c => Usage\n",
-    "check|--sdp|p|--media|1|c => Usage\n",
     "check|--sdp|p|--ser|c => Usage\n",
     "check|--sd|p|c => Usage\n",
     "check|--SDP|p|c => Usage\n",
@@ -290,6 +312,13 @@ static ROWS: &str = concat!(
     "check|--seq16|--delay=7|--tai=37|--sdp|p|c => check p 4 37 less 7 counted false false: c\n",
     "check|--sdp|p|--seq16=1|c => Usage\n",
     "check|--sdp|p|--seq16|--seq16|c => Usage\n",
+    "check|--sdp|p|--media|1|c => check p 4 0 false false media 0: c\n",
+    "check|--joined|--media=64|--sdp|p|c|d => check p 4 0 false true media 63: c d\n",
+    "check|--sdp|p|--media|0|c => Usage\n",
+    "check|--sdp|p|--media|65|c => Usage\n",
+    "check|--sdp|p|--media|+1|c => Usage\n",
+    "check|--sdp|p|--media=|c => Usage\n",
+    "check|--sdp|p|--media|1|--media|1|c => Usage\n",
     // options that exclude each other, and missing ones
     "check|--sdp|p|--workers|2|--serial|c => Usage\n",
     "check|--serial|--sdp|p|c|--workers=2 => Usage\n",
@@ -307,11 +336,20 @@ static ROWS: &str = concat!(
     "scan|--json|--draft|c => Usage\n",
     "scan|--draft=x|c => Usage\n",
     "scan|--seq16|c => Usage\n",
+    "scan|--joined|c|d => Usage\n",
+    "scan|--media|1|c => Usage\n",
     // measure
     "measure|--sdp|p|c => measure p 0: c\n",
     "measure|c|--tai=37|--sdp=p => measure p 37: c\n",
     "measure|c|--delay=5|--seq16|--sdp=p => measure p 0 less 5 counted: c\n",
-    "measure|--sdp|p|--media|1|c => Usage\n",
+    "measure|--sdp|p|--media|1|c => measure p 0 media 0: c\n",
+    "measure|--sdp|p|--media|64|c => measure p 0 media 63: c\n",
+    "measure|--sdp|p|--media|65|c => Usage\n",
+    "measure|--joined|--sdp|p|c|d => measure p 0 joined: c d\n",
+    "measure|--joined|--sdp|p|c => measure p 0 joined: c\n",
+    "measure|--joined|--sdp|p => Usage\n",
+    "measure|--joined|--sdp|p|c|c|c|c|c|c|c|c|c|c|c|c|c|c|c|c => measure p 0 joined: c c c c c c c c c c c c c c c c\n",
+    "measure|--joined|--sdp|p|c|c|c|c|c|c|c|c|c|c|c|c|c|c|c|c|c => Usage\n",
     "measure|--sdp|p|--tai|1001|c => Usage\n",
     "measure|--sdp|p|c|d => Usage\n",
     "measure|c => Usage\n",
@@ -323,12 +361,18 @@ static ROWS: &str = concat!(
     "series|--sdp|p|c => Usage\n",
     "series|--sdp|p|--media|1|--frames=1|c => Usage\n",
     "series|--sdp|p|--media|1|c|d => Usage\n",
+    "series|--sdp|p|--media|1|c|--joined|d => series p 0 0 false joined: c d\n",
+    "series|--sdp|p|--media|1|--joined|c|c|c|c|c|c|c|c|c|c|c|c|c|c|c|c|c => Usage\n",
     // page
     "page|--sdp|p|c => page p 0: c\n",
     "page|c|--tai=37|--sdp=p => page p 37: c\n",
     "page|c|--tai=37|--delay=1|--sdp=p|--seq16 => page p 37 less 1 counted: c\n",
     "page|--sdp|p|--json|c => Usage\n",
     "page|--sdp|p|c|d => Usage\n",
+    "page|--sdp|p|--joined|c|d => page p 0 joined: c d\n",
+    "page|--sdp|p|--media=2|--joined|c|d => page p 0 media 1 joined: c d\n",
+    "page|--sdp|p|--media|0|c => Usage\n",
+    "page|--sdp|p|--joined=1|c => Usage\n",
 );
 
 // File names with a line end.
@@ -383,6 +427,8 @@ static OTHER_ROWS: &str = concat!(
     "verify-report|--sdp|p|--report|r|--report|r|c => Usage\n",
     "verify-report|--sdp|p|--report|r|--tai|1001|c => Usage\n",
     "verify-report|--sdp|p|--report|-|- => report p - 0 false: -\n",
+    "verify-report|--sdp|p|--report|r|--media|3|c|d => report p r 0 false media 2: c d\n",
+    "verify-report|--sdp|p|--report|r|--media|65|c => Usage\n",
     // selftest
     "selftest|2 => selftest 2 0\n",
     "selftest|--workers|3|20000 => selftest 20000 3\n",
@@ -408,7 +454,11 @@ static OTHER_ROWS: &str = concat!(
     "window|--sdp|p|c => Usage\n",
     "window|--media|1|c => Usage\n",
     "window|--sdp|p|--media|1|--tai|1001|c => Usage\n",
-    "window|--sdp|p|--media|1|--joined|c => Usage\n",
+    "window|--sdp|p|--media|1|--joined|c => window p 0 0 joined: c\n",
+    "window|--joined|--sdp|p|--media|1|c|d => window p 0 0 joined: c d\n",
+    "window|--joined|--sdp|p|--media|1|c|c|c|c|c|c|c|c|c|c|c|c|c|c|c|c => window p 0 0 joined: c c c c c c c c c c c c c c c c\n",
+    "window|--joined|--sdp|p|--media|1|c|c|c|c|c|c|c|c|c|c|c|c|c|c|c|c|c => Usage\n",
+    "window|--joined|--sdp|p|c|d => Usage\n",
     "shape|--sdp|p|--media|1|--type|NL|--list|c => shape p 0 NL 0 true: c\n",
     "shape|--sdp|p|--media|1|c => Usage\n",
     "shape|--tai=1000|c|--type=W|--media=2|--sdp=p => shape p 1 W 1000 false: c\n",
@@ -418,6 +468,7 @@ static OTHER_ROWS: &str = concat!(
     "shape|--media|1|--type|N|c => Usage\n",
     "shape|--sdp|p|--media|1|--type|N => Usage\n",
     "shape|--sdp|p|--media|1|--type|N|c|d => Usage\n",
+    "shape|--joined|--sdp|p|--media|1|--type|N|--list|c|d => shape p 0 N 0 true joined: c d\n",
     "shape|--sdp|p|--media|1|--type|N|--list|--list|c => Usage\n",
     "shape|--sdp|p|--media|1|--type|N|--list=yes|c => Usage\n",
     "skew|--sdp|p|--media|1|--pair|2|c => skew p 0 1: c\n",
@@ -432,6 +483,7 @@ static OTHER_ROWS: &str = concat!(
     "skew|--sdp|p|--media|1|--pair|2|--tai|3|c => Usage\n",
     "skew|--sdp|p|--media|1|--pair|2|--delay|3|c => Usage\n",
     "skew|--sdp|p|--media|1|--pair|2|--seq16|c => Usage\n",
+    "skew|--sdp|p|--media|1|--pair|2|--joined|c|d => Usage\n",
     // help
     "help => help None\n",
     "help|skew => help Some(Skew)\n",

@@ -8,7 +8,7 @@ use Rattle.capture_gen.specs.Sdp.{sdp_text}
 use Rattle.timing_report.specs.declared.status.Input.{Input}
 use Rattle.timing_report.specs.declared.status.Input.TheVariants.{Capture}
 use Rattle.timing_steps.specs.Answers.{CaptureRose}
-use Rattle.timing_top.proofs.Following.{fetched-same}
+use Rattle.timing_steps.proofs.Following.{fetched-same}
 use Rattle.timing_top.proofs.SelfTests.{found-made, has-line, never-rose, no-cause, one-found, session-is, steady_faults, steady_left, steady_name}
 use Rattle.timing_top.proofs.self_tests.line_of.Goals as goal
 

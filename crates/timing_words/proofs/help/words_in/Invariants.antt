@@ -7,4 +7,4 @@ use Rattle.timing_words.proofs.help.words_in.Given as goal
 
 abbrev pub invariant-loop-arg : goal.invariant-loop-arg
 invariant-loop-arg l =
-    string_bytes l.text ++ flat_map (λ a. word_in (rule_of a)) (drop l.arg-index l.args) ≡ flat_map (λ a. word_in (rule_of a)) l.args
+    string_bytes l.text ++ flat_map (λ a. word_in l.command (rule_of a)) (drop l.arg-index l.args) ≡ flat_map (λ a. word_in l.command (rule_of a)) l.args

@@ -4,7 +4,7 @@ use Rattle.fail_interval.specs.Rows.{rows_of_files}
 use Rattle.pcapng_reader.specs.Sources.{faults_of, left_of}
 use Rattle.timing_steps.proofs.Readings.{fresh-tail, if_ok-at, none-left}
 use Rattle.timing_steps.proofs.Seeing.{stays-then}
-use Rattle.timing_top.proofs.Captured.{goes-first, goes-on, goes-past, goes-whole}
+use Rattle.timing_steps.proofs.Captured.{goes-first, goes-on, goes-past, goes-whole}
 use Rattle.timing_top.proofs.Takings.{found-if_read, found-none}
 use Rattle.timing_top.proofs.alone.Alone.judge_each.Goals as goal
 

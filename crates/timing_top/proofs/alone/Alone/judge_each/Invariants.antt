@@ -5,7 +5,7 @@ use Rattle.fail_interval.specs.Found.{AreFound}
 use Rattle.fail_interval.specs.Rows.{rows_of_files}
 use Rattle.pcapng_reader.specs.Sources.{faults_of}
 use Rattle.timing_report.specs.Outcomes.{AreOfSession}
-use Rattle.timing_top.proofs.Captured.{Goes}
+use Rattle.timing_steps.proofs.Captured.{Goes}
 use Rattle.timing_top.proofs.alone.Alone.judge_each.Given as goal
 
 abbrev pub invariant-loop-source : goal.invariant-loop-source
