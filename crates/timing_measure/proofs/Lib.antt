@@ -5,6 +5,7 @@ mod Ends
 mod Taken
 mod Whole
 pub mod Held
+mod Reading
 mod Packets
 mod Chosen
 pub mod Answering

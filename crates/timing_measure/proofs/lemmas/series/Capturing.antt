@@ -66,14 +66,14 @@ told-or texts (n ∷ ns) = by (texts n) refl (told-or texts ns)
     unknown is (t ∷ ts) h = none (texts n) is t h.0
 
     others : ((read : List (List ℕ)) → AreTold texts ns read → ⊥) → (read : List (List ℕ)) → AreTold texts (n ∷ ns) read → ⊥
-    others no [] h = h
-    others no (t ∷ ts) h = no ts h.1
+    others lacking [] h = h
+    others lacking (t ∷ ts) h = lacking ts h.1
 
     by : (o : Option (List ℕ)) → texts n ≡ o → ((read : List (List ℕ)) × AreTold texts ns read) ⊎ ((read : List (List ℕ)) → AreTold texts ns read → ⊥)
         → ((read : List (List ℕ)) × AreTold texts (n ∷ ns) read) ⊎ ((read : List (List ℕ)) → AreTold texts (n ∷ ns) read → ⊥)
     by None is rest = inr (unknown is)
     by (Some t) is (inl r) = inl (t ∷ r.0, (is, r.1))
-    by (Some t) is (inr no) = inr (others no)
+    by (Some t) is (inr lacking) = inr (others lacking)
 
 -- what was written, and of which something holds where all texts are told
 pub wrote-known : (texts : List ℕ → Option (List ℕ)) (names : List (List ℕ)) (o : Output) (Q : List (List ℕ) → List ℕ → Type 0)
@@ -87,4 +87,4 @@ wrote-known texts names o Q told some = by (told-or texts names)
     by (inl t) =
         let h = told t.0 t.1 in
         (h.0, h.1, λ read known. subst (λ l. Q l h.0) (told-once texts names t.0 read t.1 known) h.2)
-    by (inr no) = (some.0, some.1, λ read known. absurd (no read known))
+    by (inr lacking) = (some.0, some.1, λ read known. absurd (lacking read known))

@@ -1,9 +1,10 @@
 -- Rows of captures that are taken one after the other.
-use Rattle.std.proofs.Common.{◌≡◌, ◌≤◌, ◌+◌, ◌^◌, ◌++◌, ◌∷◌, [], ℕ, List, length, take, Option, Some, Ok, refl, ap, ◌∙◌, sym, subst, arith}
+use Rattle.std.proofs.Common.{◌≡◌, ◌≤◌, ◌+◌, ◌^◌, ◌++◌, ◌∷◌, [], ℕ, List, length, take, Option, Some, Ok, false, refl, ap, ◌∙◌, sym, subst, arith}
 use Rattle.std.proofs.Common.{append-nil, append_assoc, length-append}
-use Rattle.std.specs.Prelude.{Err, IfErr, IfOk, Result, map, slice_index_or}
+use Rattle.std.specs.Prelude.{Err, IfErr, IfOk, Result, is_ok, map, slice_index_or}
 use Rattle.std.specs.Io.KnownBytes.{Appends}
 use Rattle.std.proofs.KnownBytes.{Appends-trans}
+use Rattle.std.proofs.lemmas.Bool.{false≢true}
 use Rattle.std.proofs.lemmas.List.{length-map}
 use Rattle.timing_base.specs.Captures.{Record, joined, joined_after, raised}
 use Rattle.timing_base.specs.declared.capture.FileNote.{FileNote}
@@ -20,7 +21,6 @@ use Rattle.timing_steps.specs.Taken.{TakesNext, TakesTexts}
 use Rattle.timing_steps.specs.declared.captures.TakenCaptures.{TakenCaptures}
 use Rattle.timing_steps.specs.declared.failure.Failure.{Failure}
 use Rattle.timing_steps.specs.declared.failure.Failure.TheVariants as failure
-use Rattle.timing_steps.proofs.Readings.{capture-later}
 use Rattle.timing_measure.specs.series.Copies.{Copies, CopiesSome, CopiesSources, GoesOn, Stopped}
 use Rattle.timing_measure.specs.series.Stands.{StandsFor, text_of}
 use Rattle.timing_measure.specs.declared.series.flow.SeriesFlow.{SeriesFlow}
@@ -162,6 +162,9 @@ place-of : (past : List (List ℕ)) (n : List ℕ) (ns : List (List ℕ)) → sl
 place-of [] n ns = refl
 place-of (p ∷ ps) n ns = place-of ps n ns
 
+rose-later : (a b c : ℕ) → b ≤ c → Rose a b → Rose a c
+rose-later a b c h r = omega (arith, h, r)
+
 rose-from : (a b c : ℕ) → a ≤ b → Rose b c → Rose a c
 rose-from a b c h r = omega (arith, h, r)
 
@@ -171,6 +174,23 @@ failure-map : (x y z : Option (List ℕ)) (i j k : ℕ) (e : Failure) (P Q : Inp
 failure-map x y z i j k (failure.ReadFault n) P Q later f h = f n h
 failure-map x y z i j k failure.WriteFault P Q later f h = rose-from i j k later h
 failure-map x y z i j k failure.OutOfMemory P Q later f h = tt
+
+-- of a call that failed, what follows from what holds of its failure
+pub if_err-map : {T : Type 0} (r : Result T Failure) (P Q : Failure → Type 0) → ((e : Failure) → P e → Q e) → IfErr r P → IfErr r Q
+if_err-map (Ok x) P Q f h = tt
+if_err-map (Err e) P Q f h = f e h
+
+-- the count of faults of a capture rose from an earlier one
+pub failed-earlier : {T : Type 0} (o : Output) (before mid now : List ℕ → ℕ) (names : List (List ℕ)) (r : Result T Failure)
+    → ((n : List ℕ) → before n ≤ mid n)
+    → IfErr r (λ e. OnFailure o e (λ n. (at : ℕ) × (n ≡ Capture at) × CaptureRose mid now names at))
+    → IfErr r (λ e. OnFailure o e (λ n. (at : ℕ) × (n ≡ Capture at) × CaptureRose before now names at))
+failed-earlier o before mid now names r earlier =
+    if_err-map r (λ e. OnFailure o e (λ n. (at : ℕ) × (n ≡ Capture at) × CaptureRose mid now names at))
+    (λ e. OnFailure o e (λ n. (at : ℕ) × (n ≡ Capture at) × CaptureRose before now names at))
+    (λ e h. failure-map o.old o.old o.new o.before o.before o.now e (λ n. (at : ℕ) × (n ≡ Capture at) × CaptureRose mid now names at)
+    (λ n. (at : ℕ) × (n ≡ Capture at) × CaptureRose before now names at) (omega arith)
+    (λ n c. (c.0, c.1, record { within = c.2.within; rose = rose-from _ _ _ (earlier _) c.2.rose })) h)
 
 module _ {S : Type 0} (name : S → List ℕ) (left : S → Option (List ℕ)) (faults : S → ℕ) (texts : List ℕ → Option (List ℕ)) where
   -- none was taken yet
@@ -268,7 +288,8 @@ module _ {S : Type 0} (name : S → List ℕ) (left : S → Option (List ℕ)) (
         told = tt;
         stopped = g.stopped;
         cause = failure-map x x y i i j e (λ n. (at : ℕ) × (n ≡ Capture at) × CaptureRose before mid names at)
-            (λ n. (at : ℕ) × (n ≡ Capture at) × CaptureRose before now names at) (omega arith) (capture-later before mid now names later) g.cause;
+            (λ n. (at : ℕ) × (n ≡ Capture at) × CaptureRose before now names at) (omega arith)
+            (λ n c. (c.0, c.1, record { within = c.2.within; rose = rose-later _ _ _ (later _) c.2.rose })) g.cause;
       }
 
   -- all were taken
@@ -283,11 +304,11 @@ module _ {S : Type 0} (name : S → List ℕ) (left : S → Option (List ℕ)) (
 
   -- it stopped: so it did whatever follows
   pub sources-stopped : (before now : List ℕ → ℕ) (names read : List (List ℕ)) (rest : List S) (o : Output) (old flow : SeriesFlow) (done : TakenCaptures)
-      (outcome : Result (Unit {0}) Failure) (e : Failure) (files : List (List Record)) (notes : List FileNote) → outcome ≡ Err e
+      (outcome : Result (Unit {0}) Failure) (files : List (List Record)) (notes : List FileNote) → is_ok outcome ≡ false
       → CopiesSources name left faults texts before now names rest o old flow done outcome → AreTold texts names read → AreRecords read files notes
       → Stopped o old (joined files)
-  sources-stopped before now names read rest o old flow done outcome e files notes failed h told records =
-      let g = subst (λ r. CopiesSources name left faults texts before now names rest o old flow done r) failed h in
+  sources-stopped before now names read rest o old flow done (Ok u) files notes failed g told records = absurd (false≢true (sym failed))
+  sources-stopped before now names read rest o old flow done (Err e) files notes failed g told records =
       let names_parts = told-parts texts g.past g.ahead read (subst (λ l. AreTold texts l read) g.whole told) in
       let parts = records-parts names_parts.first names_parts.second files notes (subst (λ l. AreRecords l files notes) names_parts.whole records) in
       subst (Stopped o old) (sym (ap joined parts.whole ∙ joined-append 0 parts.first parts.second))

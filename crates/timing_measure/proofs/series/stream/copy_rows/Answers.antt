@@ -87,3 +87,15 @@ returns-in_err-pour-clause-front g c =
     any-err c.from_residual-in_err-pour.result _
     (front-more (g.K.Sink.written c.args.out.now) (g.K.Sink.written c.loop-at.out) (g.K.Sink.written c.pour.new.out) copies.written _ copies.appended
     c.in_err-pour.ensures.failed.3)
+
+pub returns-in-Ok-End-clause-room : goal.returns-in-Ok-End-clause-room
+returns-in-Ok-End-clause-room g c = λ count has.
+    let inv = c.loop-at.invariant in inv.room count (subst (λ k. HasRoom (k + count) c.args.flow.now) inv.number_is has)
+
+pub returns-in-Ok-Cut-clause-room : goal.returns-in-Ok-Cut-clause-room
+returns-in-Ok-Cut-clause-room g c = λ count has.
+    let inv = c.loop-at.invariant in inv.room count (subst (λ k. HasRoom (k + count) c.args.flow.now) inv.number_is has)
+
+pub returns-in-Err-clause-room : goal.returns-in-Err-clause-room
+returns-in-Err-clause-room g c = λ count has.
+    let inv = c.loop-at.invariant in inv.room count (subst (λ k. HasRoom (k + count) c.args.flow.now) inv.number_is has)

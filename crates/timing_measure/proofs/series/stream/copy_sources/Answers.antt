@@ -7,7 +7,7 @@ use Rattle.timing_steps.proofs.Readings.{fresh-tail, if_ok-at, none-left}
 use Rattle.timing_steps.proofs.Seeing.{stays-then}
 use Rattle.timing_measure.specs.series.Copies.{CopiesSome}
 use Rattle.timing_measure.specs.series.Stands.{HasRoom}
-use Rattle.timing_measure.proofs.lemmas.series.Copying.{copies-none}
+use Rattle.timing_measure.proofs.lemmas.series.Copying.{any-err, copies-none}
 use Rattle.timing_measure.proofs.lemmas.series.Going.{front-then, if_ok-some, sources-next, sources-past, sources-start, sources-stopped, sources-whole}
 use Rattle.timing_measure.proofs.series.stream.copy_sources.Goals as goal
 
@@ -34,17 +34,17 @@ loop-source-init g c =
 pub copy_next-outcome-requires-clause-few : goal.copy_next-outcome-requires-clause-few
 copy_next-outcome-requires-clause-few g c =
     let count : length c.loop-source.done.notes.items + length c.loop-source.source-iterator.rest.items ≡ length c.args.sources.items =
-    if_ok-at _ _ _ c.in-Ok-outcome.is c.loop-source.invariant.count in
+    if_ok-at _ _ _ c.in-Ok.is c.loop-source.invariant.count in
     omega (arith, count, ap length c.in-Some.ensures.steps.0, c.requires.few)
 
-pub loop-source-preserved-in-Ok-outcome : goal.loop-source-preserved-in-Ok-outcome
-loop-source-preserved-in-Ok-outcome g c =
+pub loop-source-preserved-in-Ok : goal.loop-source-preserved-in-Ok
+loop-source-preserved-in-Ok g c =
     let source = g.H.Source.Source in
     let shelf = g.H.Shelf in
     let sink = g.K.Sink in
     let inv = c.loop-source.invariant in
     let copied = c.copy_next-outcome in
-    let was : CopiesSome (output_of sink c.args.out.now c.loop-source.out) c.args.flow.now c.loop-source.flow = if_ok-at _ _ _ c.in-Ok-outcome.is inv.some in
+    let was : CopiesSome (output_of sink c.args.out.now c.loop-source.out) c.args.flow.now c.loop-source.flow = if_ok-at _ _ _ c.in-Ok.is inv.some in
     record {
       copying = λ names fetched.
           sources-next (name_of source.name) (left_of source.left) (faults_of source.faults) (classic_texts (shelf.text c.args.shelf.now))
@@ -52,7 +52,7 @@ loop-source-preserved-in-Ok-outcome g c =
           c.loop-source.source-iterator.rest.items c.next.new.self.rest.items (sink.written c.args.out.now) (sink.written c.loop-source.out)
           (sink.written copied.new.out) (sink.faults c.args.out.now) (sink.faults c.loop-source.out) (sink.faults copied.new.out) c.args.flow.now
           c.loop-source.flow copied.new.flow c.loop-source.done copied.new.done c.loop-source.outcome copied.result c.in-Some.ensures.steps.0
-          c.in-Ok-outcome.is inv.stays.later inv.later copied.ensures.told copied.ensures.count copied.ensures.stopped copied.ensures.cause
+          c.in-Ok.is inv.stays.later inv.later copied.ensures.told copied.ensures.count copied.ensures.stopped copied.ensures.cause
           (inv.copying names fetched);
       fresh = fresh-tail (λ s. faults_of source.faults s ≡ 0) _ c.in-Some.source _ c.in-Some.ensures.steps.0 inv.fresh;
       count = search rules;
@@ -75,14 +75,14 @@ loop-source-preserved g c =
     let inv = c.loop-source.invariant in
     let given = c.give_back in
     let front : (front : List ℕ) × Appended (output_of sink c.args.out.now c.loop-source.out) front =
-    subst (λ r. IfErr r (λ _. (front : List ℕ) × Appended (output_of sink c.args.out.now c.loop-source.out) front)) c.in-Err-outcome.is inv.front in
+    subst (λ r. IfErr r (λ _. (front : List ℕ) × Appended (output_of sink c.args.out.now c.loop-source.out) front)) c.in-Err.is inv.front in
     record {
       copying = λ names fetched.
           sources-past (name_of source.name) (left_of source.left) (faults_of source.faults) (classic_texts (shelf.text c.args.shelf.now))
           (shelf.faults c.args.shelf.now) (shelf.faults c.loop-source.shelf) (shelf.faults given.new.shelf) names
           c.loop-source.source-iterator.rest.items c.next.new.self.rest.items (sink.written c.args.out.now) (sink.written c.loop-source.out)
           (sink.faults c.args.out.now) (sink.faults c.loop-source.out) c.args.flow.now c.loop-source.flow c.loop-source.done c.loop-source.outcome
-          c.in-Err-outcome.failure c.in-Err-outcome.is given.ensures.stays.later (inv.copying names fetched);
+          c.in-Err.failure c.in-Err.is given.ensures.stays.later (inv.copying names fetched);
       fresh = fresh-tail (λ s. faults_of source.faults s ≡ 0) _ c.in-Some.source _ c.in-Some.ensures.steps.0 inv.fresh;
       count = tt;
       before = tt;
@@ -107,3 +107,14 @@ returns-clause-some g c =
     let o = output_of g.K.Sink c.args.out.now c.loop-source.out in
     let some : IfOk c.loop-source.outcome (λ _. CopiesSome o c.args.flow.now c.loop-source.flow) = c.loop-source.invariant.some in
     if_ok-at c.loop-source.outcome c.in_ok-outcome.field-0 (λ _. CopiesSome o c.args.flow.now c.loop-source.flow) (search rules) some
+
+pub returns-in_err-outcome-clause-stopped : goal.returns-in_err-outcome-clause-stopped
+returns-in_err-outcome-clause-stopped g c =
+    let source = g.H.Source.Source in
+    let shelf = g.H.Shelf in
+    any-err c.from_residual.result _
+    (λ names texts files notes fetched told records.
+    sources-stopped (name_of source.name) (left_of source.left) (faults_of source.faults) (classic_texts (shelf.text c.args.shelf.now))
+    (shelf.faults c.args.shelf.now) (shelf.faults c.loop-source.shelf) names texts c.loop-source.source-iterator.rest.items
+    (output_of g.K.Sink c.args.out.now c.loop-source.out) c.args.flow.now c.loop-source.flow c.loop-source.done c.loop-source.outcome
+    files notes (search rules) (c.loop-source.invariant.copying names fetched) told records)
