@@ -196,9 +196,11 @@ def fault_of(validator, text):
 
 
 def validate_cases(validators):
-    """Validates the expected output of each case that prints JSON."""
+    """Validates the expected output of each case that prints JSON. Of a media that the description lacks there is none."""
     for case in sorted((TOP / "tests" / "cases").iterdir()):
         if not (case / "args").exists() or not (case / "stdout").exists():
+            continue
+        if (case / "stdout").read_bytes() == b"no such media\n":
             continue
         status = (case / "status").read_text().strip() if (case / "status").exists() else "0"
         for line in (case / "args").read_text().splitlines():
