@@ -26,6 +26,28 @@ impl<R: Files + AllocGlobal + Drop> Causes for FileShelf<R> {
     }
 }
 
+/// Returns how a run ended, with the name of the input that its status is about, the cause that was kept for it, and
+/// its contents.
+fn ending_of<'a>(
+    arguments: &'a Arguments,
+    status: Status,
+    name: &'a Option<String>,
+    cause: &'a Option<String>,
+    contents: &'a Option<Vec<u8>>,
+) -> Ending<'a> {
+    let input = name.as_ref().map(|name| name.as_str());
+    let cause = cause.as_ref().map(|cause| cause.as_str());
+    let contents = contents.as_ref().map(|contents| contents.as_slice());
+    Ending {
+        words: &arguments.words,
+        are_text: arguments.are_text,
+        status,
+        input,
+        cause,
+        contents,
+    }
+}
+
 /// Returns whether this name is that of a regular file of at most 1,048,576 bytes, which can be read more than once.
 fn is_read_again<R: Files>(rt: &R, name: &str) -> bool {
     match fs::metadata(rt, name) {
@@ -58,14 +80,7 @@ fn explanation<R: Files + AllocGlobal, H: Causes>(
         ),
         None => (None, None),
     };
-    let ending = Ending {
-        words: &arguments.words,
-        are_text: arguments.are_text,
-        status,
-        input: name.as_ref().map(|name| name.as_str()),
-        cause: cause.as_ref().map(|cause| cause.as_str()),
-        contents: contents.as_ref().map(|contents| contents.as_slice()),
-    };
+    let ending = ending_of(arguments, status, &name, &cause, &contents);
     hint(alloc, ending)
 }
 
