@@ -1,5 +1,5 @@
--- What the commands on captures that are taken as one ask: those on the flow of one media, and those on all media of the
--- SDP or on a chosen one. Media count from 0. This project's profile.
+-- What the commands on captures that are taken as one ask: those on the flow of one media, and those on all media of
+-- the SDP or on a chosen one. Media count from 0. This project's profile.
 use Rattle.std.specs.Prelude.{List, ◌++◌, slice_get, Option, Some, None, codes, false, ℕ}
 use Rattle.timing_base.specs.Captures.{Record, joined}
 use Rattle.timing_base.specs.Jobs.{CaptureJob, FlowJob}

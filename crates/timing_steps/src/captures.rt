@@ -64,7 +64,8 @@ fn take_next<H: Shelf, T: Taker<Stop = OutOfMemory>>(
 /// Takes the packet records of these sources one after the other, as those of one capture, and gives the sources back
 /// to the shelf. After one that couldn't be read the others go back unread.
 ///
-/// Returns `ReadFault` with the number of the first source of which a read failed, and `OutOfMemory` if memory runs out.
+/// Returns `ReadFault` with the number of the first source of which a read failed, and `OutOfMemory` if memory runs
+/// out.
 pub fn take_sources<H: Shelf, T: Taker<Stop = OutOfMemory>>(
     alloc: Global,
     shelf: &mut H,
