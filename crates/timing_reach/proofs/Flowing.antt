@@ -1,12 +1,13 @@
 -- The answers of a command on one flow, by those for its media.
-use Rattle.std.proofs.Common.{◌≡◌, ◌^◌, ℕ, zero, suc, List, [], ◌∷◌, Option, Some, None, refl, sym, subst}
-use Rattle.std.specs.Prelude.{All, slice_get}
+use Rattle.std.proofs.Common.{◌≡◌, ◌^◌, ℕ, zero, suc, List, [], ◌∷◌, Option, Some, None, refl, sym, subst, ap, ◌∙◌, append-nil}
+use Rattle.std.specs.Prelude.{All, map, slice_get}
 use Rattle.std.proofs.lemmas.List.Elements.{All-head, All-tail}
-use Rattle.timing_base.specs.Captures.{Record, joined}
+use Rattle.timing_base.specs.Captures.{Record, joined, raised}
 use Rattle.timing_base.specs.Jobs.{FlowJob}
 use Rattle.timing_base.specs.Media.{Media}
 use Rattle.timing_base.specs.declared.capture.FileNote.{FileNote}
-use Rattle.pcap_reader.specs.Records.{AreRecords}
+use Rattle.pcap_reader.specs.Records.{AreRecords, Records}
+use Rattle.pcap_reader.proofs.Captures.{map-raised, only-records}
 use Rattle.timing_steps.specs.Answers.{Answer}
 use Rattle.timing_steps.specs.Flows.{OnMedia, flow_query, no_media, no_such_media}
 use Rattle.timing_steps.specs.Queries.{HasAnswer}
@@ -34,6 +35,28 @@ once-flow job Has once media files notes a b h k = on (slice_get media job.media
         → OnMedia found (λ m. Has m (joined files) notes b) → a ≡ b
     on None h k = absurd h
     on (Some m) h k = once m (joined files) notes a b h k
+
+-- a capture that is taken alone keeps its packet records
+joined-alone : (items : List Record) → joined (items ∷ []) ≡ items
+joined-alone items = append-nil (map (raised 0) items) ∙ map-raised items
+
+-- captures that are taken as one have the answer of one capture with their packet records
+pub flow-of_one : (job : FlowJob) (Has : Media → List Record → List FileNote → Answer → Type 0)
+    → ((m : Media) (items : List Record) (notes also : List FileNote) (a b : Answer) → Has m items notes a → Has m items also b → a ≡ b)
+    → (media : List Media) (texts : List (List ℕ)) (files : List (List Record)) (notes : List FileNote) (one : List ℕ) (end : FileNote) (a b : Answer)
+    → AreRecords texts files notes → Records one (2 ^ 40) (joined files) end
+    → HasAnswer (flow_query job Has) media texts a → HasAnswer (flow_query job Has) media (one ∷ []) b → a ≡ b
+flow-of_one job Has once media texts files notes one end a b are whole h k =
+    let same : joined h.files ≡ joined k.files =
+    ap joined (sym (only-records texts files h.files notes h.notes are h.records).0) ∙ sym (joined-alone (joined files))
+    ∙ ap joined (only-records (one ∷ []) (joined files ∷ []) k.files (end ∷ []) k.notes (whole, tt) k.records).0 in
+    on (slice_get media job.media)
+    (subst (λ items. OnMedia (slice_get media job.media) (λ m. Has m items h.notes a)) same h.defined) k.defined
+  where
+    on : (found : Option Media) → OnMedia found (λ m. Has m (joined k.files) h.notes a)
+        → OnMedia found (λ m. Has m (joined k.files) k.notes b) → a ≡ b
+    on None h k = absurd h
+    on (Some m) x y = once m (joined k.files) h.notes k.notes a b x y
 
 -- the media with a number has an answer, if the SDP has it
 pub some-on-media : (media : List Media) (number : ℕ) (Has : Media → Answer → Type 0) → no_media (slice_get media number) ≡ None

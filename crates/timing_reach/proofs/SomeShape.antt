@@ -1,8 +1,8 @@
--- Each flow has an answer of `shape`, and its capture has one.
+-- Each flow has an answer of `shape`, and its captures have one.
 use Rattle.std.specs.Prelude.{◌⊎◌, nat_lt, slice_index, slice_index_or}
 use Rattle.std.specs.List.{count_by}
-use Rattle.std.proofs.Common.{◌≡◌, ◌≤◌, ◌<◌, ◌+◌, ℕ, zero, suc, Bool, true, false, List, [], ◌∷◌, ◌++◌, length, take, refl, arith, ap, ◌∙◌, sym, subst, inl}
-use Rattle.std.proofs.Common.{inr, add-one, length-append}
+use Rattle.std.proofs.Common.{◌≡◌, ◌≤◌, ◌<◌, ◌+◌, ◌^◌, ℕ, zero, suc, Bool, true, false, List, [], ◌∷◌, ◌++◌, length, take, refl, arith, ap, ◌∙◌, sym, subst}
+use Rattle.std.proofs.Common.{inl, inr, add-one, length-append}
 use Rattle.std.proofs.Math.Seq.{get_or-append_seam, take-length}
 use Rattle.std.proofs.lemmas.Bool.{cases_lt}
 use Rattle.std.proofs.lemmas.List.{get_or_append_left, length-take-le}
@@ -11,6 +11,7 @@ use Rattle.timing_base.specs.Captures.{Record, joined}
 use Rattle.timing_base.specs.Jobs.{ShapeJob}
 use Rattle.timing_base.specs.Judged.{JudgedRun, judged}
 use Rattle.timing_base.specs.Media.{IsMedia, Media}
+use Rattle.timing_base.specs.declared.capture.FileNote.{FileNote}
 use Rattle.timing_base.specs.declared.media.Kind.{Kind}
 use Rattle.flow_shaper.specs.Bounds.{BoundAt}
 use Rattle.flow_shaper.specs.Plan.{Shaped, models_of}
@@ -19,15 +20,17 @@ use Rattle.flow_shaper.specs.declared.departure.Bound.TheVariants.{Arrival}
 use Rattle.flow_shaper.proofs.Exists.{shaped-some}
 use Rattle.flow_shaper.proofs.Greedy.{least-none}
 use Rattle.flow_shaper.proofs.SomeBound.{bound-some}
+use Rattle.pcap_reader.specs.Records.{AreRecords, Records}
 use Rattle.udp_rtp.specs.Flow.{flow}
 use Rattle.timing_report.specs.declared.status.Status.TheVariants as status
 use Rattle.timing_steps.specs.Answers.{Answer}
+use Rattle.timing_steps.specs.Queries.{HasAnswer}
 use Rattle.timing_steps.proofs.Onces.{DefinesOnce, DefinesSome}
 use Rattle.timing_reach.specs.Shaped.{DefinesShape, shape_query}
 use Rattle.timing_reach.specs.Shapes.{AreBounds, HasShape, IsLate, LeaveInTime, Prints, delays, delays_line, end_of, flow_records, greatest, not_shaped}
 use Rattle.timing_reach.specs.Shapes.{packet_lines, shaped_capture}
 use Rattle.timing_reach.proofs.OneShape.{shape-once}
-use Rattle.timing_reach.proofs.Flowing.{all-media, once-flow, some-on-media}
+use Rattle.timing_reach.proofs.Flowing.{all-media, flow-of_one, once-flow, some-on-media}
 use Rattle.timing_reach.proofs.RunSizes.{judged-size}
 use Rattle.timing_reach.proofs.Unique.{once-on, some-on}
 
@@ -132,7 +135,7 @@ shape-some list shift kind m items run is some few =
       | inr late ↦ (not_shaped late.0, inr (record { packet = late.0; late = late.1; answer_is = refl }))
     ]
 
--- the capture has an answer, if the media are within their limits
+-- the captures have an answer, if the media are within their limits
 pub some-shape : (job : ShapeJob) (texts : List (List ℕ)) → DefinesSome (shape_query job) texts
 some-shape job texts media files notes are unsettled records =
     let options = job.flow.options in
@@ -146,4 +149,13 @@ pub once-shape : (job : ShapeJob) → DefinesOnce (shape_query job)
 once-shape job =
     once-flow job.flow (DefinesShape job)
     (λ m items notes a b h k. once-on m (HasShape job.list job.flow.options.shift job.kind m items) (judged (flow items m) m.pt job.flow.options) a b
+    (λ run x y. shape-once job.list job.flow.options.shift job.kind m items run a b x y) h k)
+
+-- it is that of one capture with their packet records
+pub shape-of_one : (job : ShapeJob) (media : List Media) (texts : List (List ℕ)) (files : List (List Record)) (notes : List FileNote) (one : List ℕ)
+    (end : FileNote) (a b : Answer) → AreRecords texts files notes → Records one (2 ^ 40) (joined files) end
+    → HasAnswer (shape_query job) media texts a → HasAnswer (shape_query job) media (one ∷ []) b → a ≡ b
+shape-of_one job =
+    flow-of_one job.flow (DefinesShape job)
+    (λ m items notes also a b h k. once-on m (HasShape job.list job.flow.options.shift job.kind m items) (judged (flow items m) m.pt job.flow.options) a b
     (λ run x y. shape-once job.list job.flow.options.shift job.kind m items run a b x y) h k)

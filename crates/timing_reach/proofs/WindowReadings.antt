@@ -74,8 +74,9 @@ verdict-on m options packets x v answer is other e h =
     not-run m (HasLines m) (judged packets m.pt options) answer (λ j s. other j (h.verdict_is ∙ s)) (e ∙ ap (not_judged m) (is ∙ h.verdict_is))
 
 -- the records of captures were read
-pub measured-in : (texts : List (List ℕ)) (m : Media) (key : FlowKey) (options : FlowOptions) (old new : Reading) (x : Measured) → IsReading m key options old []
-    → TakesIn (ReadsOn m) texts old new → ((packets : List FlowPacket) → IsReading m key options new packets → IsMeasured m options packets x)
+pub measured-in : (texts : List (List ℕ)) (m : Media) (key : FlowKey) (options : FlowOptions) (old new : Reading) (x : Measured)
+    → IsReading m key options old [] → TakesIn (ReadsOn m) texts old new
+    → ((packets : List FlowPacket) → IsReading m key options new packets → IsMeasured m options packets x)
     → IsMeasuredIn m options texts x
 measured-in texts m key options old new x start t finish = record {
   files = t.files;

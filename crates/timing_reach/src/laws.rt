@@ -2,18 +2,20 @@
 
 pub mod shapes;
 
-ghost use Rattle.std.specs.Prelude.{◌≡◌, ◌++◌, ◌∷◌, [], ℕ, List, All, None, codes, map, pos, negsuc, true, false};
+ghost use Rattle.std.specs.Prelude.{◌≡◌, ◌^◌, ◌++◌, ◌∷◌, [], ℕ, List, All, None, codes, map, pos, negsuc, true, false};
 ghost use Rattle.timing_base.specs.Shifts.{FlowOptions};
-ghost use Rattle.timing_base.specs.Captures.{Record};
+ghost use Rattle.timing_base.specs.Captures.{Record, joined};
 ghost use Rattle.timing_base.specs.Jobs.{FlowJob, ScanJob, SdpJob, SkewJob};
 ghost use Rattle.timing_base.specs.Judged.{FlowRun, in_one_run, in_runs, judged, no_whole_frame};
 ghost use Rattle.timing_base.specs.Media.{IsMedia, Media};
+ghost use Rattle.timing_base.specs.declared.capture.FileNote.{FileNote};
 ghost use Rattle.timing_base.specs.declared.capture.FileNote.TheVariants as note;
 ghost use Rattle.timing_base.specs.declared.media.Kind.TheVariants.{N, NL, W};
 ghost use Rattle.timing_base.specs.declared.row.Verdict.TheVariants as verdict;
 ghost use Rattle.fail_interval.specs.Row.{run_of};
 ghost use Rattle.offset_window.specs.declared.window.WindowEnd.TheVariants.{Absent, At};
 ghost use Rattle.path_skew.specs.Examples.{at_records, told};
+ghost use Rattle.pcap_reader.specs.Records.{AreRecords, Records};
 ghost use Rattle.sender_params.specs.Worked.{hd_50};
 ghost use Rattle.timing_report.specs.declared.status.Status.TheVariants as status;
 ghost use Rattle.timing_steps.specs.Answers.{Answer};
@@ -26,13 +28,23 @@ ghost use Rattle.timing_reach.specs.Skewed.{first_of, last_of, skew_query, skew_
 ghost use Rattle.timing_reach.specs.Windows.{HasLines, window_line, window_query};
 ghost use Rattle.timing_reach.specs.Worked.{bound_at, from_to, narrow_frame, pair_of};
 
-/// The capture of `window` has exactly one answer, if the SDP has the media.
+/// The captures of `window` have exactly one answer, if the SDP has the media.
 pub fn one_window_answer()
     ensures some { (job : FlowJob) (media : List Media) (texts : List (List ℕ))
         → (window_query job).early media ≡ None
         → (answer : Answer) × HasAnswer (window_query job) media texts answer }
     ensures once { (job : FlowJob) (media : List Media) (texts : List (List ℕ)) (a b : Answer)
         → HasAnswer (window_query job) media texts a → HasAnswer (window_query job) media texts b → a ≡ b }
+{}
+
+/// The answer of `window` on captures that are taken as one is that on one capture with their packet records, however
+/// each of them ends.
+pub fn windows_are_of_one()
+    ensures { (job : FlowJob) (media : List Media) (texts : List (List ℕ)) (files : List (List Record))
+        (notes : List FileNote) (one : List ℕ) (end : FileNote) (a b : Answer)
+        → AreRecords texts files notes → Records one (2 ^ 40) (joined files) end
+        → HasAnswer (window_query job) media texts a
+        → HasAnswer (window_query job) media (one ∷ []) b → a ≡ b }
 {}
 
 /// The SDP of `sdp` has exactly one answer.

@@ -6,14 +6,15 @@
 //! - `scan` lists the streams of a capture.
 //! - `sdp` prints how a session description is read, and reads no capture.
 //!
-//! Each capture is read once: `window` measures a flow while it is judged, and `shape` keeps it until it is known which
-//! packets are judged. Captures, media and judged packets count from 0, and packet records from 1; capture timestamps
-//! are nanoseconds.
+//! `window` and `shape` take their captures as one. Each capture is read once: `window` measures a flow while it is
+//! judged, and `shape` keeps it until it is known which packets are judged. Captures, media and judged packets count
+//! from 0, and packet records from 1; capture timestamps are nanoseconds.
 //!
 //! The modules:
 //!
-//! - `judged`: the common parts of the commands on one flow.
-//! - `laws`: contents have one answer; what `shape` writes is read back; answers that are worked by hand.
+//! - `judged`: the common part of the commands on one flow.
+//! - `laws`: contents have one answer; captures as one have that of one capture; what `shape` writes is read back;
+//!   answers that are worked by hand.
 //! - `describe`, `scan`, `shape`, `skew`, `window`: the commands; `describe` has `sdp`.
 #![tactic(auto)]
 

@@ -1,4 +1,5 @@
-//! Takes the packets of a media's flow from the packet records of captures, in order. Each frame is parsed at most once.
+//! Takes the packets of a media's flow from the packet records of captures, in order. Each frame is parsed at most
+//! once.
 
 ghost use Rattle.std.specs.Prelude.{◌≡◌, ◌≤◌, ◌^◌, ℕ, List, IfErr, IfOk, length};
 ghost use Rattle.timing_outside.specs.Shelves.{StaysAs};

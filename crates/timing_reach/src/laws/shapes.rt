@@ -2,12 +2,14 @@
 
 ghost use Rattle.std.specs.Prelude.{◌≡◌, ◌≤◌, ◌^◌, ◌++◌, ◌∷◌, [], ℕ, List, All, Bool, None, true, false, codes, length};
 ghost use Rattle.timing_base.specs.Shifts.{FlowOptions, Shift, no_shift};
-ghost use Rattle.timing_base.specs.Captures.{Record};
+ghost use Rattle.timing_base.specs.Captures.{Record, joined};
 ghost use Rattle.timing_base.specs.Jobs.{ShapeJob};
 ghost use Rattle.timing_base.specs.Judged.{JudgedRun, in_one_run, judged, whole_frames};
 ghost use Rattle.timing_base.specs.Media.{IsMedia, Media};
+ghost use Rattle.timing_base.specs.declared.capture.FileNote.{FileNote};
 ghost use Rattle.timing_base.specs.declared.media.Kind.{Kind};
 ghost use Rattle.timing_base.specs.declared.media.Kind.TheVariants.{N};
+ghost use Rattle.pcap_reader.specs.Records.{AreRecords, Records};
 ghost use Rattle.pcap_reader.specs.WrittenHeads.{file_head};
 ghost use Rattle.sender_params.specs.Worked.{at_once, hd_50};
 ghost use Rattle.timing_report.specs.declared.status.Status.TheVariants as status;
@@ -22,7 +24,7 @@ ghost use Rattle.timing_reach.specs.WorkedShapes.{second_behind_delayed, two_dep
 
 use flow_shaper::laws::burst_by_hand;
 
-/// The capture of `shape` has exactly one answer, if the SDP has the media, and its media are within the limits of a
+/// The captures of `shape` have exactly one answer, if the SDP has the media, and its media are within the limits of a
 /// media.
 pub fn one_shape_answer()
     ensures some { (job : ShapeJob) (media : List Media) (texts : List (List ℕ)) → All IsMedia media
@@ -30,6 +32,16 @@ pub fn one_shape_answer()
         → (answer : Answer) × HasAnswer (shape_query job) media texts answer }
     ensures once { (job : ShapeJob) (media : List Media) (texts : List (List ℕ)) (a b : Answer)
         → HasAnswer (shape_query job) media texts a → HasAnswer (shape_query job) media texts b → a ≡ b }
+{}
+
+/// The answer of `shape` on captures that are taken as one is that on one capture with their packet records, however
+/// each of them ends.
+pub fn shapes_are_of_one()
+    ensures { (job : ShapeJob) (media : List Media) (texts : List (List ℕ)) (files : List (List Record))
+        (notes : List FileNote) (one : List ℕ) (end : FileNote) (a b : Answer)
+        → AreRecords texts files notes → Records one (2 ^ 40) (joined files) end
+        → HasAnswer (shape_query job) media texts a
+        → HasAnswer (shape_query job) media (one ∷ []) b → a ≡ b }
 {}
 
 /// A judged run has exactly one answer of `shape`, if its frames or fields have 1 to 262,144 packets.

@@ -11,7 +11,8 @@ returns-clause-told g c = λ texts whole.
     let same : c.job.inside.options ≡ c.args.job.now.options = search rules in
     subst (λ (x : FlowOptions). IsMeasuredIn c.args.media.now x texts c.in_ok-finish.field-0) same
     (measured-in texts c.args.media.now _ c.job.inside.options c.new-reading.result _ c.in_ok-finish.field-0 c.new-reading.ensures.stands
-    (c.in_ok-reading.ensures.told texts (subst (λ names. AreTold (classic_texts (g.H.Shelf.text c.args.shelf.now)) names texts) (search rules) whole)) (λ packets h. c.in_ok-finish.ensures c.args.media.now _ c.job.inside.options packets h))
+    (c.in_ok-reading.ensures.told texts (subst (λ names. AreTold (classic_texts (g.H.Shelf.text c.args.shelf.now)) names texts) (search rules) whole))
+    (λ packets h. c.in_ok-finish.ensures c.args.media.now _ c.job.inside.options packets h))
 
 pub returns-clause-windows : goal.returns-clause-windows
 returns-clause-windows g c =
