@@ -28,13 +28,13 @@ pairs-append R (a ∷ xs) (b ∷ ys) x y h is = (h.0, pairs-append R xs ys x y h
 pub next-taken : {X : Type 0} (n : ℕ) (xs : List X) (x : X) → n < length xs → get_or xs n x ≡ x → take (n + 1) xs ≡ take n xs ++ x ∷ []
 next-taken n xs x within at = take_more xs n x within ∙ ap (λ y. take n xs ++ y ∷ []) at
 
-pub each-more : {X Y : Type 0} (P : ℕ → X → Y → Type 0) (n : ℕ) (xs : List X) (ys more : List Y) (x : X) (y : Y) → n < length xs → get_or xs n x ≡ x
-    → EachOf P 0 (take n xs) ys → P n x y → more ≡ ys ++ y ∷ [] → EachOf P 0 (take (n + 1) xs) more
-each-more P n xs ys more x y within at h is e =
-    let long : 0 + length (take n xs) ≡ n = omega (arith, length-take-le n xs (omega arith)) in
-    subst (λ l. EachOf P 0 l more) (sym (next-taken n xs x within at))
-    (subst (EachOf P 0 (take n xs ++ x ∷ [])) (sym e)
-    (each-append P 0 (take n xs) ys x y h (subst (λ (k : ℕ). P k x y) (sym long) is)))
+pub each-more : {X Y : Type 0} (P : ℕ → X → Y → Type 0) (first n : ℕ) (xs : List X) (ys more : List Y) (x : X) (y : Y) → n < length xs
+    → get_or xs n x ≡ x → EachOf P first (take n xs) ys → P (first + n) x y → more ≡ ys ++ y ∷ [] → EachOf P first (take (n + 1) xs) more
+each-more P first n xs ys more x y within at h is e =
+    let long : first + length (take n xs) ≡ first + n = omega (arith, length-take-le n xs (omega arith)) in
+    subst (λ l. EachOf P first l more) (sym (next-taken n xs x within at))
+    (subst (EachOf P first (take n xs ++ x ∷ [])) (sym e)
+    (each-append P first (take n xs) ys x y h (subst (λ (k : ℕ). P k x y) (sym long) is)))
 
 -- of two items in one place
 each-get : {X Y : Type 0} (P : ℕ → X → Y → Type 0) (number n : ℕ) (xs : List X) (ys : List Y) (x : X) (y : Y) → n < length xs → n < length ys

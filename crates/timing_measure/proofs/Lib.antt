@@ -6,6 +6,8 @@ mod Taken
 mod Whole
 pub mod Held
 mod Reading
+mod Packets
+mod Chosen
 pub mod Answering
 pub mod Some
 pub mod Numbers

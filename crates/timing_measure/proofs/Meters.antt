@@ -8,11 +8,11 @@ use Rattle.timing_base.specs.declared.packet.FlowPacket.{FlowPacket}
 use Rattle.udp_rtp.specs.Flow.{flow_packet}
 use Rattle.fail_interval.specs.Metered.{Standing, Telling}
 use Rattle.fail_interval.specs.Meterings.{Feeds}
-use Rattle.timing_reach.proofs.Gauges.{one-packet}
-use Rattle.timing_reach.proofs.Takings.{if-ok}
+use Rattle.timing_steps.proofs.Takings.{if-ok}
 use Rattle.timing_measure.specs.Measured.{first_source}
 use Rattle.timing_measure.specs.flows.Meters.{TakesOn}
 use Rattle.timing_measure.specs.declared.flows.flow.FlowMeter.{FlowMeter}
+use Rattle.timing_measure.proofs.Packets.{one-packet}
 
 -- its judge and its meters took it, and it may be the first that was read
 pub meter-took : {M O Past : Type 0} (wants : Bool) (stands : Standing M) (tells : Telling Past O) (m : Media) (old new : FlowMeter M O) (r : Record)

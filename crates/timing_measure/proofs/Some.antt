@@ -1,4 +1,4 @@
--- The packet records of a capture have an answer of `measure`.
+-- The packet records of captures have an answer of `measure`.
 use Rattle.std.proofs.Common.{◌≡◌, ◌<◌, ◌+◌, ◌^◌, ◌∷◌, ℕ, zero, suc, List, [], length, map, Option, Some, None, refl, ◌∙◌, arith}
 use Rattle.std.proofs.Common.{slice_index}
 use Rattle.std.specs.Prelude.{All, slice_index_or}
@@ -6,7 +6,8 @@ use Rattle.std.specs.List.{cons_option}
 use Rattle.std.proofs.lemmas.List.{length-map}
 use Rattle.std.proofs.lemmas.List.Elements.{All-append, All-cons, All-drop, All-get_or, All-head, All-nil, All-tail, All-take}
 use Rattle.timing_base.specs.Shifts.{AreFlowOptions, FlowOptions, IsShift, Shift}
-use Rattle.timing_base.specs.Captures.{IsStamp, Record}
+use Rattle.timing_base.specs.Captures.{IsStamp, Record, joined}
+use Rattle.timing_base.specs.Choices.{chosen, first_chosen}
 use Rattle.timing_base.specs.Flows.{AreStamped, cuts, no_packet, packet, read_or_zeros}
 use Rattle.timing_base.specs.Jobs.{CaptureJob, IsCaptureJob}
 use Rattle.timing_base.specs.Judged.{FlowVerdict, RunOutcome, absent, gap, in_one_run, in_runs, judged, no_whole_frame, refused, run_outcome, stamp_of}
@@ -20,11 +21,10 @@ use Rattle.fail_interval.specs.Row.{verdict_of}
 use Rattle.flow_measure.specs.declared.numbers.MeasuredFlow.{MeasuredFlow}
 use Rattle.flow_measure.specs.declared.numbers.MeasuredRun.{MeasuredRun}
 use Rattle.flow_measure.proofs.Some.{some-measure as some-numbers}
-use Rattle.pcap_reader.specs.Records.{Records}
+use Rattle.pcap_reader.specs.Records.{AreRecords}
 use Rattle.timing_steps.specs.Answers.{Answer}
-use Rattle.timing_steps.specs.Queries.{HasAnswer, only_file, only_note}
+use Rattle.timing_steps.specs.Queries.{HasAnswer}
 use Rattle.timing_steps.proofs.Onces.{DefinesSome}
-use Rattle.timing_reach.proofs.Packets.{flow-few, packet-of}
 use Rattle.udp_rtp.specs.Flow.{flow, flow_packet}
 use Rattle.timing_measure.specs.Each.{EachOf}
 use Rattle.run_meter.specs.Runs.{JudgedPart, stamps_of}
@@ -33,7 +33,9 @@ use Rattle.flow_measure.specs.Measured.{AreMeasured, HasNumbers, IsMeasuredRun, 
 use Rattle.flow_measure.specs.Packets.{records_of, timestamps_of}
 use Rattle.timing_measure.specs.Measured.{IsMeasuredFlow, first_source}
 use Rattle.timing_measure.specs.Measures.{DefinesMeasure, measure_query, measured}
+use Rattle.timing_measure.proofs.Chosen.{chosen-all}
 use Rattle.timing_measure.proofs.Held.{AreHeld, HaveStamps}
+use Rattle.timing_measure.proofs.Packets.{flow-few, packet-at}
 use Rattle.timing_measure.proofs.Whole.{IsWhole, parts-whole}
 
 -- the packets of a judged run have stamps of a capture
@@ -77,7 +79,7 @@ pub flow-stamped : (m : Media) (items : List Record) → All (λ (r : Record). I
 flow-stamped m [] h = All-nil (λ (p : FlowPacket). IsStamp p.at)
 flow-stamped m (r ∷ items) h =
     stamped-option (flow_packet m r) (flow items m)
-    (λ p e. omega (arith, (packet-of m r p e).at, All-head (λ (r : Record). IsStamp r.stamp) r items h))
+    (λ p e. omega (arith, packet-at m r p e, All-head (λ (r : Record). IsStamp r.stamp) r items h))
     (flow-stamped m items (All-tail (λ (r : Record). IsStamp r.stamp) r items h))
 
 -- a judged run has its numbers
@@ -144,21 +146,24 @@ some-flows options items number (m ∷ media) is limits few held =
     let fs = some-flows options items (number + 1) media (All-tail IsMedia m media is) limits few held in
     (f.0 ∷ fs.0, (f.1, fs.1))
 
--- the answer over packet records of a capture
-pub measure-defined : (job : CaptureJob) (media : List Media) (items : List Record) (note : FileNote) → IsCaptureJob job → All IsMedia media → AreHeld items
-    → (answer : Answer) × DefinesMeasure job media items note answer
-measure-defined job media items note is all held =
-    let flows = some-flows job.options items 0 media all is.options_are held.few held.stamps in
-    (measured job.capture note media flows.0, record { flows = flows.0; are = flows.1; answer_is = refl })
+-- the answer over packet records of captures
+pub measure-defined : (job : CaptureJob) (media : List Media) (items : List Record) (notes : List FileNote) → IsCaptureJob job → All IsMedia media
+    → AreHeld items
+    → (answer : Answer) × DefinesMeasure job media items notes answer
+measure-defined job media items notes is all held =
+    let flows =
+    some-flows job.options items (first_chosen job.media) (chosen job.media media) (chosen-all IsMedia job.media media all) is.options_are held.few held.stamps in
+    (measured job.captures notes media flows.0, record { flows = flows.0; are = flows.1; answer_is = refl })
 
 pub some-measure : (job : CaptureJob) (texts : List (List ℕ)) → IsCaptureJob job → HaveStamps texts → DefinesSome (measure_query job) texts
 some-measure job texts is held media files notes are unsettled records =
-    measure-defined job media (only_file files) (only_note notes) is are (held files notes records)
+    measure-defined job media (joined files) notes is are (held files notes records)
 
--- over a capture with these contents
-pub some-measure-answer : (job : CaptureJob) (media : List Media) (text : List ℕ) (items : List Record) (note : FileNote) → IsCaptureJob job
-    → All IsMedia media → Records text (2 ^ 40) items note → length items < 2 ^ 41 → All (λ (r : Record). IsStamp r.stamp) items
-    → (answer : Answer) × HasAnswer (measure_query job) media (text ∷ []) answer
-some-measure-answer job media text items note is all records few stamps =
-    let made = measure-defined job media items note is all (record { few = few; stamps = stamps }) in
-    (made.0, record { files = items ∷ []; notes = note ∷ []; records = (records, tt); defined = made.1 })
+-- over captures with these contents
+pub some-measure-answer : (job : CaptureJob) (media : List Media) (texts : List (List ℕ)) (files : List (List Record)) (notes : List FileNote)
+    → IsCaptureJob job → All IsMedia media → AreRecords texts files notes → length (joined files) < 2 ^ 41
+    → All (λ (r : Record). IsStamp r.stamp) (joined files)
+    → (answer : Answer) × HasAnswer (measure_query job) media texts answer
+some-measure-answer job media texts files notes is all records few stamps =
+    let made = measure-defined job media (joined files) notes is all (record { few = few; stamps = stamps }) in
+    (made.0, record { files = files; notes = notes; records = records; defined = made.1 })

@@ -6,7 +6,7 @@ ghost use Rattle.flow_measure.specs.report.Json.{AreOfMedia};
 ghost use Rattle.timing_steps.specs.Queries.{judged_ends};
 ghost use Rattle.timing_measure.specs.Measures.{has_run, measure_status, measured};
 
-use crate::measured::MeasuredCapture;
+use crate::measured::MeasuredCaptures;
 use flow_measure::MeasuredFlow;
 use flow_measure::report::json_of;
 use std::alloc::{AllocError as OutOfMemory, Global};
@@ -28,36 +28,37 @@ fn is_one_measured(flows: &[MeasuredFlow]) -> bool
     flows.iter().any(has_run)
 }
 
-/// Returns the status for these flows of a capture that ends in this way.
-fn status_of(note: FileNote, flows: &[MeasuredFlow]) -> Status
-    ensures status { result ≡ measure_status note flows.now }
+/// Returns the status for these flows of captures that end in these ways.
+fn status_of(notes: &[FileNote], flows: &[MeasuredFlow]) -> Status
+    ensures status { result ≡ measure_status notes.now flows.now }
     ensures ends { judged_ends false result ≡ true }
 {
     if !is_one_measured(flows) {
         return Status::NotAllJudged;
     }
-    if any_refused(&[note]) {
+    if any_refused(notes) {
         return Status::NotAllJudged;
     }
     Status::Pass
 }
 
-/// Returns the answer for a capture with these flows. Returns `Err` if memory runs out.
+/// Returns the answer for captures with these flows. Returns `Err` if memory runs out.
 pub fn measured(
     alloc: Global,
     job: &CaptureJob,
     session: &Session,
-    capture: &MeasuredCapture,
+    captures: &MeasuredCaptures,
 ) -> Result<Answer, OutOfMemory>
-    requires { AreOfMedia session.now capture.now.flows.items }
+    requires { AreOfMedia session.now captures.now.flows.items }
     ensures answers { IfOk result (λ answer. answer
-        ≡ measured job.now.capture capture.now.note session.now capture.now.flows.items) }
+        ≡ measured job.now.captures captures.now.notes.items session.now captures.now.flows.items) }
     ensures ends { IfOk result (λ answer. judged_ends false answer.status ≡ true) }
 {
-    let flows = capture.flows.as_slice();
-    let text = json_of(alloc, job.capture.as_str(), capture.note, session, flows)?;
+    let notes = captures.notes.as_slice();
+    let flows = captures.flows.as_slice();
+    let text = json_of(alloc, job.captures.as_slice(), notes, session, flows)?;
     Ok(Answer {
         text: text.into_bytes(),
-        status: status_of(capture.note, flows),
+        status: status_of(notes, flows),
     })
 }

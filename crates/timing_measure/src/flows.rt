@@ -1,4 +1,4 @@
-//! The flows of all media of a session, which are judged and measured while the capture is read.
+//! The flows of the media of a session, which are judged and measured while the captures are read.
 
 mod flow;
 mod output;

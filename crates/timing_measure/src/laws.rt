@@ -2,12 +2,12 @@
 
 pub mod parts;
 
-ghost use Rattle.std.specs.Prelude.{◌≡◌, ◌<◌, ◌^◌, ◌∷◌, [], ℕ, All, List, length};
-ghost use Rattle.timing_base.specs.Captures.{IsStamp, Record};
+ghost use Rattle.std.specs.Prelude.{◌≡◌, ◌<◌, ◌^◌, ℕ, All, List, length};
+ghost use Rattle.timing_base.specs.Captures.{IsStamp, Record, joined};
 ghost use Rattle.timing_base.specs.Jobs.{CaptureJob, IsCaptureJob};
 ghost use Rattle.timing_base.specs.Media.{IsMedia, Media};
 ghost use Rattle.timing_base.specs.declared.capture.FileNote.{FileNote};
-ghost use Rattle.pcap_reader.specs.Records.{Records};
+ghost use Rattle.pcap_reader.specs.Records.{AreRecords};
 ghost use Rattle.timing_steps.specs.Answers.{Answer};
 ghost use Rattle.timing_steps.specs.Queries.{HasAnswer};
 ghost use Rattle.timing_measure.specs.Measures.{measure_query};
@@ -15,10 +15,11 @@ ghost use Rattle.timing_measure.specs.Measures.{measure_query};
 /// The contents of the inputs of `measure` have an answer, if the media are within their limits and the packet records
 /// have timestamps that a capture can have.
 pub fn some_measure_answer()
-    ensures { (job : CaptureJob) (media : List Media) (text : List ℕ) (items : List Record) (note : FileNote)
-        → IsCaptureJob job → All IsMedia media → Records text (2 ^ 40) items note → length items < 2 ^ 41
-        → All (λ r. IsStamp r.stamp) items
-        → (answer : Answer) × HasAnswer (measure_query job) media (text ∷ []) answer }
+    ensures { (job : CaptureJob) (media : List Media) (texts : List (List ℕ)) (files : List (List Record))
+        (notes : List FileNote)
+        → IsCaptureJob job → All IsMedia media → AreRecords texts files notes → length (joined files) < 2 ^ 41
+        → All (λ r. IsStamp r.stamp) (joined files)
+        → (answer : Answer) × HasAnswer (measure_query job) media texts answer }
 {}
 
 /// The contents of the inputs of `measure` don't have two answers.

@@ -1,10 +1,10 @@
-//! The commands that print numbers and pictures of the judged runs of a capture: `measure` the numbers of every judged
+//! The commands that print numbers and pictures of the judged runs of captures: `measure` the numbers of every judged
 //! run of every media as JSON, `series` the numbers of one flow as rows, and `page` the report as HTML.
 //!
-//! The capture is read once. While a flow is judged, meters are fed the packets of its runs.
+//! Each capture is read once; several are taken as one. While a flow is judged, meters are fed the packets of its runs.
 //!
 //! - `both`: two takers that are given the same packet records.
-//! - `flows`: the flows of all media of a session, judged and measured.
+//! - `flows`: the flows of the media of a session, judged and measured.
 //! - `laws`: contents have one answer; judged runs that are worked by hand.
 //! - `page`, `series`: the commands.
 //!

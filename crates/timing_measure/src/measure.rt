@@ -1,53 +1,54 @@
-//! `measure`: prints the numbers of every judged run of every media of a job.
+//! `measure`: prints the numbers of every judged run of every media of a job, or of the chosen media.
 
-ghost use Rattle.std.specs.Prelude.{◌≡◌, ◌≤◌, ◌∷◌, [], ℕ, List, Some, IfErr, IfOk, length, false, true};
-ghost use Rattle.timing_outside.specs.Causes.{Rose};
+ghost use Rattle.std.specs.Prelude.{◌≡◌, ◌≤◌, ℕ, List, IfErr, IfOk, length, false, true};
 ghost use Rattle.pcapng_reader.specs.Classic.{classic_texts};
 ghost use Rattle.timing_outside.specs.Shelves.{StaysAs};
-ghost use Rattle.timing_steps.specs.Answers.{CaptureRose, OnReadFault, seen_of};
+ghost use Rattle.timing_steps.specs.Answers.{AreThere, AreTold, CaptureRose, OnReadFault, seen_of};
 ghost use Rattle.timing_steps.specs.Queries.{FollowsCaptures, judged_ends};
 ghost use Rattle.timing_measure.specs.Measures.{AreFlows, measure_query};
-ghost use Rattle.timing_measure.specs.flows.Taken.{IsCaptureIn, IsCaptureOf};
+ghost use Rattle.timing_measure.specs.flows.Taken.{AreCapturesIn, AreCapturesOf};
 
 use crate::answer::measured;
 use crate::both::Nothing;
 use crate::flows::take_flows;
-use crate::measured::{MeasuredCapture, measured_flows};
+use crate::measured::{MeasuredCaptures, measured_flows};
 use flow_measure::{MeasuredRuns, NumbersMeter};
 use std::alloc::{AllocError as OutOfMemory, Global};
 use timing_base::{CaptureJob, FileName, Media, Session};
 use timing_outside::{Shelf, Sink};
 use timing_report::Input;
-use timing_steps::{Answer, Command, Failure};
+use timing_steps::{Answer, Command, Failure, chosen_media, early_of_choice, first_chosen};
 
-/// Returns the flows of these media in the capture of a job.
+/// Returns the flows of these media, which count from `first` on, in the captures of a job as one.
 fn read_flows<H: Shelf>(
     alloc: Global,
     job: &CaptureJob,
     shelf: &mut H,
     media: &[Media],
-) -> Result<MeasuredCapture, Failure>
+    first: u32,
+) -> Result<MeasuredCaptures, Failure>
     requires few { length media.now ≤ 64 }
-    ensures told { IfOk result (λ capture. (text : List ℕ)
-        → classic_texts (H.text shelf.old) job.now.capture ≡ Some text
-        → IsCaptureIn (AreFlows job.now.options media.now) text capture) }
-    ensures some { IfOk result (IsCaptureOf (AreFlows job.now.options media.now)) }
-    ensures cause { IfErr result (λ e. OnReadFault e (λ i. (i ≡ Input.Capture 0)
-        × Rose (H.faults shelf.old job.now.capture) (H.faults shelf.new job.now.capture))) }
-    ensures there { IfOk result (λ _. ¬ H.lacks shelf.old job.now.capture) }
+    requires low { first ≤ 64 }
+    ensures told { IfOk result (λ captures. (texts : List (List ℕ))
+        → AreTold (classic_texts (H.text shelf.old)) job.now.captures texts
+        → AreCapturesIn (AreFlows job.now.options first media.now) texts captures) }
+    ensures some { IfOk result (AreCapturesOf (AreFlows job.now.options first media.now)) }
+    ensures cause { IfErr result (λ e. OnReadFault e (λ i. (number : ℕ) × (i ≡ Input.Capture number)
+        × CaptureRose (H.faults shelf.old) (H.faults shelf.new) job.now.captures number)) }
+    ensures there { IfOk result (λ _. AreThere (H.lacks shelf.old) job.now.captures) }
     ensures stays { StaysAs H.text H.lacks H.faults shelf.old shelf.new }
 {
     let taken = take_flows::<H, NumbersMeter, MeasuredRuns, Nothing>(
-        alloc, job, shelf, media, Nothing,
+        alloc, job, shelf, media, first, Nothing,
     )?;
     let flows = measured_flows(alloc, taken.flows)?;
-    Ok(MeasuredCapture {
-        note: taken.note,
+    Ok(MeasuredCaptures {
+        notes: taken.notes,
         flows,
     })
 }
 
-/// Reads the capture of a job, and returns the answer over all media of a session.
+/// Reads the captures of a job, and returns the answer over all media of a session, or over the chosen one.
 fn answer_measure<H: Shelf>(
     alloc: Global,
     job: &CaptureJob,
@@ -58,17 +59,19 @@ fn answer_measure<H: Shelf>(
         (seen_of H.Shelf shelf.old shelf.new) result }
     ensures ends { IfOk result (λ answer. judged_ends false answer.status ≡ true) }
     ensures cause { IfErr result (λ e. OnReadFault e (λ i. (number : ℕ) × (i ≡ Input.Capture number)
-        × CaptureRose (H.faults shelf.old) (H.faults shelf.new) (job.now.capture ∷ []) number)) }
+        × CaptureRose (H.faults shelf.old) (H.faults shelf.new) job.now.captures number)) }
     ensures stays { StaysAs H.text H.lacks H.faults shelf.old shelf.new }
 {
-    let capture = read_flows(alloc, job, shelf, session.media.as_slice())?;
-    Ok(measured(alloc, job, session, &capture)?)
+    let media = chosen_media(session, job.media);
+    let captures = read_flows(alloc, job, shelf, media, first_chosen(job.media))?;
+    Ok(measured(alloc, job, session, &captures)?)
 }
 
-/// The command `measure`: prints the numbers of every judged run of every media of a job, as one JSON value.
+/// The command `measure`: prints the numbers of every judged run of every media of a job, or of the chosen media, as
+/// one JSON value.
 #[derive(Drop)]
 pub struct MeasureCommand {
-    /// The capture.
+    /// The captures, and which media is chosen.
     pub job: CaptureJob,
 }
 
@@ -84,8 +87,8 @@ impl Command for MeasureCommand {
         &job.sdp
     }
 
-    fn early(&self, _alloc: Global, _session: &Session) -> Result<Option<Answer>, OutOfMemory> {
-        Ok(None)
+    fn early(&self, alloc: Global, session: &Session) -> Result<Option<Answer>, OutOfMemory> {
+        early_of_choice(alloc, session, self.job.media)
     }
 
     fn answer<H: Shelf, K: Sink>(

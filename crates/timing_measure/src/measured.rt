@@ -14,11 +14,11 @@ use flow_measure::{MeasuredFlow, MeasuredRun, MeasuredRuns, NumbersMeter};
 use std::alloc::{AllocError as OutOfMemory, Global};
 use timing_base::{FileNote, Items, Verdict};
 
-/// The flows of the media of a session in a capture, and how it ends.
+/// The flows of media in captures that were taken as one, and how these end.
 #[derive(Drop)]
-pub struct MeasuredCapture {
-    /// How the capture ends.
-    pub note: FileNote,
+pub struct MeasuredCaptures {
+    /// How each capture ends, in their order.
+    pub notes: Vec<FileNote>,
     /// The flow of each media, in their order.
     pub flows: Vec<MeasuredFlow>,
 }

@@ -5,6 +5,8 @@ pub mod Copying
 pub mod Ending
 pub mod Existing
 pub mod Fronting
+pub mod Going
+pub mod Joining
 pub mod Pouring
 pub mod Resting
 pub mod Some

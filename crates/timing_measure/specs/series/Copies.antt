@@ -1,14 +1,19 @@
 -- The rows of a flow that were written while packet records were taken.
-use Rattle.std.specs.Prelude.{◌≡◌, ◌⊎◌, ◌^◌, ℕ, ⊤, Bool, List, ◌++◌, take}
+use Rattle.std.specs.Prelude.{◌≡◌, ◌⊎◌, ℕ, ⊤, Bool, List, ◌++◌, length, map, take, Option, Result, IfErr, IfOk}
 use Rattle.std.specs.Io.KnownBytes.{Appends}
 use Rattle.timing_base.specs.Shifts.{FlowOptions}
-use Rattle.timing_base.specs.Captures.{Record}
+use Rattle.timing_base.specs.Captures.{Record, joined, raised}
 use Rattle.timing_base.specs.Media.{Media}
 use Rattle.timing_base.specs.declared.capture.FileNote.{FileNote}
 use Rattle.timing_outside.specs.Causes.{Rose}
-use Rattle.pcap_reader.specs.Readers.{GivesNote}
-use Rattle.pcap_reader.specs.Records.{Records}
+use Rattle.pcap_reader.specs.Records.{AreRecords}
+use Rattle.timing_report.specs.declared.status.Input.TheVariants.{Capture}
+use Rattle.timing_steps.specs.Answers.{AreTold, CaptureRose}
+use Rattle.timing_steps.specs.Fetched.{AreFetched}
 use Rattle.timing_steps.specs.Ran.{Output}
+use Rattle.timing_steps.specs.Streams.{OnFailure}
+use Rattle.timing_steps.specs.Taken.{TakesTexts}
+use Rattle.timing_steps.specs.declared.captures.TakenCaptures.{TakenCaptures}
 use Rattle.timing_steps.specs.declared.failure.Failure.{Failure}
 use Rattle.timing_steps.specs.declared.failure.Failure.TheVariants as failure
 use Rattle.timing_measure.specs.series.Stands.{HoldsText, StandsFor, text_of}
@@ -31,21 +36,6 @@ pub record Copies (o : Output) (old new : SeriesFlow) (items : List Record) : Ty
 abbrev pub CopiesSome : Output → (old new : SeriesFlow) → Type 0
 CopiesSome o old new = (items : List Record) × Copies o old new items
 
--- all packet records of a capture with these contents were taken; the capture ends in this way
-pub record CopiesIn (o : Output) (old new : SeriesFlow) (text : List ℕ) (note : FileNote) : Type 0 where
-  pub items : List Record
-  pub records : Records text (2 ^ 40) items note
-  pub copies : Copies o old new items
-
--- these packet records were taken up to an end with this note: all of them, unless a read failed
-pub record Copied (o : Output) (old new : SeriesFlow) (note : FileNote) (items : List Record) (end : FileNote) : Type 0
-  where
-    pub taken : List Record
-    pub rest : List Record
-    pub whole : items ≡ taken ++ rest
-    pub ends : GivesNote note rest end
-    pub copies : Copies o old new taken
-
 -- the first of these packet records were taken. The output has the rows that were written, and behind them a prefix of
 -- those that weren't; that prefix is empty unless a row is among them
 pub record Stopped (o : Output) (old : SeriesFlow) (items : List Record) : Type 0 where
@@ -65,10 +55,30 @@ StopsAt o (failure.ReadFault input) = ⊥
 StopsAt o failure.WriteFault = Rose o.before o.now
 StopsAt o failure.OutOfMemory = ⊤
 
--- the packet records of a reader that were taken so far, with their rows; the reader still gives the others
-pub record IsCopying {R : Type 0} (gives : R → List Record → FileNote → Type 0) (o : Output) (first reader : R)
-    (old flow : SeriesFlow) : Type 0 where
+-- the packet records of a reader that were taken so far, this many, with their rows; `before` was added to each number.
+-- The reader still gives the others
+pub record IsCopying {R : Type 0} (gives : R → List Record → FileNote → Type 0) (o : Output) (before count : ℕ)
+    (first reader : R) (old flow : SeriesFlow) : Type 0 where
   pub taken : List Record
-  pub copies : Copies o old flow taken
+  pub count_is : length taken ≡ count
+  pub copies : Copies o old flow (map (raised before) taken)
   pub told : (items : List Record) (end : FileNote) → gives first items end
       → (rest : List Record) × (items ≡ taken ++ rest) × gives reader rest end
+
+-- of the captures with these names, those up to here were taken as one, with their rows; the sources of the others are
+-- in `rest`. Or it stopped among those up to here
+pub record CopiesSources {S : Type 0} (name : S → List ℕ) (left : S → Option (List ℕ)) (faults : S → ℕ)
+    (texts : List ℕ → Option (List ℕ)) (before now : List ℕ → ℕ) (names : List (List ℕ)) (rest : List S) (o : Output)
+    (old flow : SeriesFlow) (done : TakenCaptures) (outcome : Result (Unit {0}) Failure) : Type 0 where
+  pub past : List (List ℕ)
+  pub ahead : List (List ℕ)
+  pub whole : names ≡ past ++ ahead
+  pub fetched : IfOk outcome (λ _. AreFetched name left faults texts ahead rest)
+  pub count : IfOk outcome (λ _. length done.notes.items ≡ length past)
+  pub told : IfOk outcome
+      (λ _. (read : List (List ℕ)) → AreTold texts past read → TakesTexts (Copies o) read old flow done)
+  pub stopped : IfErr outcome
+      (λ _. (read : List (List ℕ)) (files : List (List Record)) (notes : List FileNote) → AreTold texts past read
+      → AreRecords read files notes → Stopped o old (joined files))
+  pub cause : IfErr outcome
+      (λ e. OnFailure o e (λ i. (number : ℕ) × (i ≡ Capture number) × CaptureRose before now names number))

@@ -7,7 +7,7 @@ ghost use Rattle.capture_scan.specs.report.Contents.{contents_of};
 ghost use Rattle.timing_steps.specs.Queries.{judged_ends};
 ghost use Rattle.timing_measure.specs.page.Pages.{is_judged, page_status, paged};
 
-use crate::page::capture::PageCapture;
+use crate::page::captures::PageCaptures;
 use capture_scan::report::text_of;
 use flow_page::{FlowPage, page_text};
 use std::alloc::{AllocError as OutOfMemory, Global};
@@ -29,41 +29,41 @@ fn is_one_judged(pages: &[FlowPage]) -> bool
     pages.iter().any(is_judged)
 }
 
-/// Returns the status for these flows of a capture that ends in this way.
-fn status_of(note: FileNote, pages: &[FlowPage]) -> Status
-    ensures status { result ≡ page_status note pages.now }
+/// Returns the status for these flows of captures that end in these ways.
+fn status_of(notes: &[FileNote], pages: &[FlowPage]) -> Status
+    ensures status { result ≡ page_status notes.now pages.now }
     ensures ends { judged_ends false result ≡ true }
 {
     if !is_one_judged(pages) {
         return Status::NotAllJudged;
     }
-    if any_refused(&[note]) {
+    if any_refused(notes) {
         return Status::NotAllJudged;
     }
     Status::Pass
 }
 
-/// Returns the answer for a capture that was read. Returns `Err` if memory runs out.
+/// Returns the answer for captures that were read. Returns `Err` if memory runs out.
 pub fn paged(
     alloc: Global,
     job: &CaptureJob,
     session: &Session,
-    capture: &PageCapture,
+    captures: &PageCaptures,
 ) -> Result<Answer, OutOfMemory>
-    requires { AreOfMedia session.now capture.now.flows.items }
+    requires { AreOfMedia session.now captures.now.flows.items }
     ensures answers { IfOk result (λ answer. answer
-        ≡ paged job.now.capture capture.now.note job.now.options.shift session.now capture.now.flows.items
-        (contents_of capture.now.found)) }
+        ≡ paged job.now.captures captures.now.notes.items job.now.options.shift session.now captures.now.flows.items
+        (contents_of captures.now.found)) }
     ensures ends { IfOk result (λ answer. judged_ends false answer.status ≡ true) }
 {
-    let name = job.capture.as_str();
-    let pages = capture.flows.as_slice();
-    let note = capture.note;
-    let contents = text_of(alloc, name, note, &capture.found)?;
+    let names = job.captures.as_slice();
+    let notes = captures.notes.as_slice();
+    let pages = captures.flows.as_slice();
+    let contents = text_of(alloc, names, notes, &captures.found)?;
     let text = page_text(
         alloc,
-        name,
-        note,
+        names,
+        notes,
         job.options.shift,
         session,
         pages,
@@ -71,6 +71,6 @@ pub fn paged(
     )?;
     Ok(Answer {
         text: text.into_bytes(),
-        status: status_of(note, pages),
+        status: status_of(notes, pages),
     })
 }

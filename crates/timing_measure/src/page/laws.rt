@@ -1,11 +1,11 @@
 //! Laws of the definitions. Each function is a theorem: it does nothing, and its clauses are proved.
 
 ghost use Rattle.std.specs.Prelude.{◌≡◌, ◌<◌, ◌^◌, ◌∷◌, [], ℕ, All, List, length};
-ghost use Rattle.timing_base.specs.Captures.{IsStamp, Record};
+ghost use Rattle.timing_base.specs.Captures.{IsStamp, Record, joined};
 ghost use Rattle.timing_base.specs.Jobs.{CaptureJob, IsCaptureJob};
 ghost use Rattle.timing_base.specs.Media.{IsMedia, Media};
 ghost use Rattle.timing_base.specs.declared.capture.FileNote.{FileNote};
-ghost use Rattle.pcap_reader.specs.Records.{Records};
+ghost use Rattle.pcap_reader.specs.Records.{AreRecords};
 ghost use Rattle.run_meter.specs.Runs.{JudgedPart};
 ghost use Rattle.timing_steps.specs.Answers.{Answer};
 ghost use Rattle.timing_steps.specs.Queries.{HasAnswer};
@@ -16,10 +16,11 @@ ghost use Rattle.timing_measure.specs.page.Worked.{part_of};
 /// The contents of the inputs of `page` have an answer, if the media are within their limits and the packet records
 /// have timestamps that a capture can have.
 pub fn some_page_answer()
-    ensures { (job : CaptureJob) (media : List Media) (text : List ℕ) (items : List Record) (note : FileNote)
-        → IsCaptureJob job → All IsMedia media → Records text (2 ^ 40) items note → length items < 2 ^ 41
-        → All (λ r. IsStamp r.stamp) items
-        → (answer : Answer) × HasAnswer (page_query job) media (text ∷ []) answer }
+    ensures { (job : CaptureJob) (media : List Media) (texts : List (List ℕ)) (files : List (List Record))
+        (notes : List FileNote)
+        → IsCaptureJob job → All IsMedia media → AreRecords texts files notes → length (joined files) < 2 ^ 41
+        → All (λ r. IsStamp r.stamp) (joined files)
+        → (answer : Answer) × HasAnswer (page_query job) media texts answer }
 {}
 
 /// The contents of the inputs of `page` don't have two answers.

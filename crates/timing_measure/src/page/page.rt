@@ -1,20 +1,20 @@
-//! `page`: prints the report of the capture of a job as one page.
+//! `page`: prints the report of the captures of a job as one page.
 
-ghost use Rattle.std.specs.Prelude.{◌≡◌, ◌∷◌, [], ℕ, IfErr, IfOk, false, true};
+ghost use Rattle.std.specs.Prelude.{◌≡◌, ℕ, IfErr, IfOk, false, true};
 ghost use Rattle.timing_outside.specs.Shelves.{StaysAs};
 ghost use Rattle.timing_steps.specs.Answers.{CaptureRose, OnReadFault, seen_of};
 ghost use Rattle.timing_steps.specs.Queries.{FollowsCaptures, judged_ends};
 ghost use Rattle.timing_measure.specs.page.Pages.{page_query};
 
 use crate::page::answer::paged;
-use crate::page::capture::read_pages;
+use crate::page::captures::read_pages;
 use std::alloc::{AllocError as OutOfMemory, Global};
 use timing_base::{CaptureJob, FileName, Session};
 use timing_outside::{Shelf, Sink};
 use timing_report::Input;
-use timing_steps::{Answer, Command, Failure};
+use timing_steps::{Answer, Command, Failure, chosen_media, early_of_choice, first_chosen};
 
-/// Reads the capture of a job, and returns the answer over all media of a session.
+/// Reads the captures of a job, and returns the answer over all media of a session, or over the chosen one.
 fn answer_page<H: Shelf>(
     alloc: Global,
     job: &CaptureJob,
@@ -25,17 +25,18 @@ fn answer_page<H: Shelf>(
         (seen_of H.Shelf shelf.old shelf.new) result }
     ensures ends { IfOk result (λ answer. judged_ends false answer.status ≡ true) }
     ensures cause { IfErr result (λ e. OnReadFault e (λ i. (number : ℕ) × (i ≡ Input.Capture number)
-        × CaptureRose (H.faults shelf.old) (H.faults shelf.new) (job.now.capture ∷ []) number)) }
+        × CaptureRose (H.faults shelf.old) (H.faults shelf.new) job.now.captures number)) }
     ensures stays { StaysAs H.text H.lacks H.faults shelf.old shelf.new }
 {
-    let capture = read_pages(alloc, job, shelf, session.media.as_slice())?;
-    Ok(paged(alloc, job, session, &capture)?)
+    let media = chosen_media(session, job.media);
+    let captures = read_pages(alloc, job, shelf, media, first_chosen(job.media))?;
+    Ok(paged(alloc, job, session, &captures)?)
 }
 
-/// The command `page`: prints the report of the capture of a job as one HTML page that needs no other file.
+/// The command `page`: prints the report of the captures of a job as one HTML page that needs no other file.
 #[derive(Drop)]
 pub struct PageCommand {
-    /// The capture.
+    /// The captures, and which media is chosen.
     pub job: CaptureJob,
 }
 
@@ -51,8 +52,8 @@ impl Command for PageCommand {
         &job.sdp
     }
 
-    fn early(&self, _alloc: Global, _session: &Session) -> Result<Option<Answer>, OutOfMemory> {
-        Ok(None)
+    fn early(&self, alloc: Global, session: &Session) -> Result<Option<Answer>, OutOfMemory> {
+        early_of_choice(alloc, session, self.job.media)
     }
 
     fn answer<H: Shelf, K: Sink>(

@@ -13,9 +13,8 @@ use flow_measure::rows::{Rows, RowsMeter, header};
 use std::alloc::{AllocError as OutOfMemory, Global};
 use timing_base::{FileNote, FlowKey, FlowOptions, Media, Verdict};
 use timing_outside::{Sink, put_all};
-use timing_reach::judged::words::not_judged;
 use timing_report::{Status, any_refused};
-use timing_steps::{Answer, Failure};
+use timing_steps::{Answer, Failure, not_judged};
 
 /// The flow of a job, which is judged while it is read, with the rows of its judged runs that aren't written yet.
 #[derive(Drop)]
@@ -28,11 +27,11 @@ pub struct SeriesFlow {
 
 ghost use Rattle.timing_measure.specs.series.Status.{series_status};
 
-/// Returns the status for the rows of a flow with this verdict, of a capture that ends in this way.
-fn status_of(note: FileNote, verdict: &Verdict) -> Status
-    ensures { result ≡ series_status note verdict.now }
+/// Returns the status for the rows of a flow with this verdict, of captures that end in these ways.
+fn status_of(notes: &[FileNote], verdict: &Verdict) -> Status
+    ensures { result ≡ series_status notes.now verdict.now }
 {
-    if any_refused(&[note]) {
+    if any_refused(notes) {
         return Status::NotAllJudged;
     }
     match verdict {
@@ -46,7 +45,7 @@ impl SeriesFlow {
     ghost use Rattle.timing_measure.specs.series.Stands.{text_of};
     ghost use Rattle.timing_measure.specs.series.Ends.{EndsSeries};
 
-    /// Returns the flow before the first packet record of a capture. Rows are frames or fields if `frames` is true,
+    /// Returns the flow before the first packet record. Rows are frames or fields if `frames` is true,
     /// else packets. Returns `Err` if memory runs out.
     pub fn new(
         alloc: Global,
@@ -72,7 +71,7 @@ impl SeriesFlow {
         })
     }
 
-    /// Takes the next packet record of the capture. Returns `Err` if memory runs out.
+    /// Takes the next packet record. Returns `Err` if memory runs out.
     #[inline(always)]
     pub fn take(&mut self, number: u64, at: u64, frame: &[u8]) -> Result<(), OutOfMemory>
         requires stamp { IsStamp at }
@@ -129,10 +128,10 @@ impl SeriesFlow {
         }
     }
 
-    /// Returns the rest of the answer for a capture that ends in this way, behind what was written. Returns `Err` if
+    /// Returns the rest of the answer for captures that end in these ways, behind what was written. Returns `Err` if
     /// memory runs out.
-    pub fn finish(self, alloc: Global, note: FileNote) -> Result<Answer, OutOfMemory>
-        ensures { IfOk result (EndsSeries note self) }
+    pub fn finish(self, alloc: Global, notes: &[FileNote]) -> Result<Answer, OutOfMemory>
+        ensures { IfOk result (EndsSeries notes.now self) }
     {
         let SeriesFlow { flow, waiting } = self;
         let MediaFlow { media, taker, .. } = flow;
@@ -142,7 +141,7 @@ impl SeriesFlow {
         }
         Ok(Answer {
             text: rows.text,
-            status: status_of(note, &row.verdict),
+            status: status_of(notes, &row.verdict),
         })
     }
 }

@@ -1,119 +1,143 @@
-//! Reads the packet records of a capture while rows are written.
+//! Reads the packet records of captures while rows are written.
 
-ghost use Rattle.std.specs.Prelude.{◌≡◌, ◌≢◌, ◌≤◌, ◌+◌, ◌^◌, ℕ, List, None, Some, IfErr, IfOk};
-ghost use Rattle.timing_base.specs.Captures.{Record};
+ghost use Rattle.std.specs.Prelude.{◌≡◌, ◌≤◌, ◌<◌, ◌+◌, ◌-◌, ◌*◌, ◌^◌, ℕ, List, All, None, Some, IfErr, IfOk, length, map};
+ghost use Rattle.timing_base.specs.Captures.{Record, joined, raised};
+ghost use Rattle.timing_base.specs.declared.capture.FileNote.{FileNote as NoteValue};
 ghost use Rattle.timing_base.specs.declared.capture.FileNote.TheVariants as file_note;
 ghost use Rattle.timing_base.specs.declared.capture.PcapFault.TheVariants as fault;
 ghost use Rattle.timing_outside.specs.Causes.{Rose};
 ghost use Rattle.timing_outside.specs.Shelves.{StaysAs};
 ghost use Rattle.pcap_reader.specs.Readers.{WillGive, end_note, frame_count, most_of, under};
-ghost use Rattle.pcap_reader.specs.Records.{Records};
+ghost use Rattle.pcap_reader.specs.Records.{AreRecords, Records};
+ghost use Rattle.pcap_reader.specs.Taken.{HasTaken};
 ghost use Rattle.pcapng_reader.specs.Classic.{classic_texts};
+ghost use Rattle.pcapng_reader.specs.Sources.{faults_of, left_of, name_of};
+ghost use Rattle.timing_steps.specs.Answers.{AreThere, AreTold, CaptureRose};
+ghost use Rattle.timing_steps.specs.Fetched.{AreFetched};
 ghost use Rattle.timing_steps.specs.Ran.{Appended, output_of};
-ghost use Rattle.timing_steps.specs.declared.failure.Failure.TheVariants as failure;
-ghost use Rattle.timing_measure.specs.series.Stands.{HasRoom};
-ghost use Rattle.timing_measure.specs.series.Copies.{Copied, CopiesIn, CopiesSome, Stopped, StopsAt};
 ghost use Rattle.timing_steps.specs.Streams.{OnFailure};
+ghost use Rattle.timing_steps.specs.Taken.{TakesNext, TakesText, TakesTexts};
+ghost use Rattle.timing_measure.specs.series.Stands.{HasRoom};
+ghost use Rattle.timing_measure.specs.series.Copies.{Copies, CopiesSome, Stopped, StopsAt};
 
 use crate::series::flow::SeriesFlow;
-use pcap_reader::{MOST, PcapReader, Step};
+use pcap_reader::{MOST, PcapReader, Step, Taken};
+use pcapng_reader::Classic;
 use std::alloc::Global;
-use timing_base::{FileNote, PcapFault};
+use timing_base::{FileName, FileNote};
 use timing_outside::{Shelf, Sink, Source};
 use timing_report::Input;
-use timing_steps::{Failure, fetch_classic, give_back};
+use timing_steps::{Failure, TakenCaptures, fetch_captures, give_back};
 
-/// Takes the packet records of a reader from its start, and writes their rows. Returns how the records end, also if a
-/// read failed. Returns `Err` if memory runs out or a write fails.
+/// Takes the packet records of a reader from its start, with `before` added to their numbers, and writes their rows.
+/// Returns how many there are and how they end, also if a read failed. Returns `Err` if memory runs out or a write
+/// fails.
 fn copy_rows<S: Source, K: Sink>(
     reader: &mut PcapReader<S>,
+    before: u64,
     flow: &mut SeriesFlow,
     out: &mut K,
-) -> Result<FileNote, Failure>
+) -> Result<Taken, Failure>
     requires fresh { end_note reader.old ≡ None }
     requires first { frame_count reader.old ≡ 0 }
     requires most { most_of reader.old ≤ 2 ^ 40 }
+    requires before { before ≤ 2 ^ 41 }
     requires room { HasRoom (2 ^ 36 + 1) flow.old }
-    ensures told { IfOk result (λ note. (items : List Record) (end : _)
+    ensures told { IfOk result (λ taken. (items : List Record) (end : _)
         → WillGive S.left reader.old items end
-        → Copied (output_of K.Sink out.old out.new) flow.old flow.new note items end) }
+        → HasTaken (Copies (output_of K.Sink out.old out.new)) before flow.old flow.new taken.note taken.records
+        items end) }
     ensures some { IfOk result (λ _. CopiesSome (output_of K.Sink out.old out.new)
         flow.old flow.new) }
+    ensures few { IfOk result (λ taken. taken.records ≤ 2 ^ 36) }
+    ensures room { (count : ℕ) → IfOk result (λ taken. HasRoom (taken.records + count) flow.old
+        → HasRoom count flow.new) }
     ensures stopped { IfErr result (λ e. (items : List Record) (end : _)
         → WillGive S.left reader.old items end
-        → Stopped (output_of K.Sink out.old out.new) flow.old items) }
+        → Stopped (output_of K.Sink out.old out.new) flow.old (map (raised before) items)) }
     ensures front { IfErr result (λ _. (front : List ℕ)
         × Appended (output_of K.Sink out.old out.new) front) }
     ensures cause { IfErr result (λ e. StopsAt (output_of K.Sink out.old out.new) e) }
     ensures later { K.faults out.old ≤ K.faults out.new }
     ensures name { S.name (under reader.new) ≡ S.name (under reader.old) }
     ensures later_source { S.faults (under reader.old) ≤ S.faults (under reader.new) }
-    ensures failed { IfOk result (λ note. note ≡ file_note.Refused fault.ReadFault
+    ensures failed { IfOk result (λ taken. taken.note ≡ file_note.Refused fault.ReadFault
         → Rose (S.faults (under reader.old)) (S.faults (under reader.new))) }
 {
-    let mut number = 0;
+    let mut records = 0;
     loop {
         match reader.next() {
             Ok(Step::Frame { at, bytes }) => {
-                number += 1;
-                flow.take(number, at, bytes)?;
+                records += 1;
+                flow.take(before + records, at, bytes)?;
             }
-            Ok(Step::End) => return Ok(FileNote::End),
-            Ok(Step::Cut { at }) => return Ok(FileNote::Cut { at }),
-            Err(fault) => return Ok(FileNote::Refused(fault)),
+            Ok(Step::End) => {
+                return Ok(Taken {
+                    note: FileNote::End,
+                    records,
+                });
+            }
+            Ok(Step::Cut { at }) => {
+                return Ok(Taken {
+                    note: FileNote::Cut { at },
+                    records,
+                });
+            }
+            Err(fault) => {
+                return Ok(Taken {
+                    note: FileNote::Refused(fault),
+                    records,
+                });
+            }
         }
         flow.pour(out)?;
     }
 }
 
-/// Returns how the packet records of a capture end, or `ReadFault` if a read failed.
-fn whole_note(note: FileNote) -> Result<FileNote, Failure>
-    ensures kept { IfOk result (λ kept. (kept ≡ note)
-        × (note ≢ file_note.Refused fault.ReadFault)) }
-    ensures failed { IfErr result (λ e. (e ≡ failure.ReadFault (Input.Capture 0))
-        × (note ≡ file_note.Refused fault.ReadFault)) }
-{
-    match note {
-        FileNote::Refused(PcapFault::ReadFault) => Err(Failure::ReadFault(Input::Capture(0))),
-        FileNote::Refused(_) | FileNote::End | FileNote::Cut { .. } => Ok(note),
-    }
-}
-
-/// Opens a capture, reads it, writes its rows, and gives its source back to the shelf. Returns how the capture ends.
-pub fn copy_capture<H: Shelf, K: Sink>(
+/// Takes the packet records of a capture, with `before` added to their numbers, writes their rows, and gives the source
+/// back to the shelf. `number` is the number of the capture, from 0.
+fn copy_source<H: Shelf, K: Sink>(
     alloc: Global,
     shelf: &mut H,
-    name: &str,
+    source: Classic<H::Source>,
+    number: u32,
+    before: u64,
     flow: &mut SeriesFlow,
     out: &mut K,
-) -> Result<FileNote, Failure>
+) -> Result<Taken, Failure>
+    requires fresh { faults_of H.Source.faults source ≡ 0 }
+    requires before { before ≤ 2 ^ 41 }
     requires room { HasRoom (2 ^ 36 + 1) flow.old }
-    ensures told { IfOk result (λ note. (text : List ℕ)
-        → classic_texts (H.text shelf.old) name.now ≡ Some text
-        → CopiesIn (output_of K.Sink out.old out.new) flow.old flow.new text note) }
+    ensures told { IfOk result (λ taken. (text : List ℕ) → left_of H.Source.left source ≡ Some text
+        → TakesText (Copies (output_of K.Sink out.old out.new)) text before flow.old flow.new taken) }
     ensures some { IfOk result (λ _. CopiesSome (output_of K.Sink out.old out.new)
         flow.old flow.new) }
-    ensures there { IfOk result (λ _. ¬ H.lacks shelf.old name.now) }
-    ensures stopped { IfErr result (λ _. (text : List ℕ) (items : List Record) (end : _)
-        → classic_texts (H.text shelf.old) name.now ≡ Some text → Records text (2 ^ 40) items end
-        → Stopped (output_of K.Sink out.old out.new) flow.old items) }
+    ensures few { IfOk result (λ taken. taken.records ≤ 2 ^ 36) }
+    ensures room { (count : ℕ) → IfOk result (λ taken. HasRoom (taken.records + count) flow.old
+        → HasRoom count flow.new) }
+    ensures stopped { IfErr result (λ _. (text : List ℕ) (items : List Record) (end : NoteValue)
+        → left_of H.Source.left source ≡ Some text → Records text (2 ^ 40) items end
+        → Stopped (output_of K.Sink out.old out.new) flow.old (map (raised before) items)) }
     ensures front { IfErr result (λ _. (front : List ℕ)
         × Appended (output_of K.Sink out.old out.new) front) }
     ensures cause { IfErr result (λ e. OnFailure (output_of K.Sink out.old out.new) e (λ i.
-        (i ≡ Input.Capture 0) × Rose (H.faults shelf.old name.now) (H.faults shelf.new name.now))) }
+        (i ≡ Input.Capture number) × Rose (H.faults shelf.old (name_of H.Source.name source))
+        (H.faults shelf.new (name_of H.Source.name source)))) }
     ensures later { K.faults out.old ≤ K.faults out.new }
     ensures stays { StaysAs H.text H.lacks H.faults shelf.old shelf.new }
 {
-    let source = match fetch_classic(alloc, shelf, name) {
-        Ok(source) => source,
-        Err(fault) => return Err(Failure::of_input(fault, Input::Capture(0))),
-    };
     match PcapReader::start(alloc, source, MOST) {
         Ok(mut reader) => {
-            let copied = copy_rows(&mut reader, flow, out);
+            let copied = copy_rows(&mut reader, before, flow, out);
             give_back(shelf, reader.into_source());
             match copied {
-                Ok(note) => whole_note(note),
+                Ok(taken) => {
+                    if taken.read_failed() {
+                        Err(Failure::ReadFault(Input::Capture(number)))
+                    } else {
+                        Ok(taken)
+                    }
+                }
                 Err(failure) => Err(failure),
             }
         }
@@ -122,4 +146,131 @@ pub fn copy_capture<H: Shelf, K: Sink>(
             Err(Failure::OutOfMemory)
         }
     }
+}
+
+/// Takes the packet records of one more capture, and writes their rows. Its first packet record follows the last one of
+/// the captures before.
+fn copy_next<H: Shelf, K: Sink>(
+    alloc: Global,
+    shelf: &mut H,
+    source: Classic<H::Source>,
+    done: &mut TakenCaptures,
+    flow: &mut SeriesFlow,
+    out: &mut K,
+) -> Result<(), Failure>
+    requires fresh { faults_of H.Source.faults source ≡ 0 }
+    requires few { length done.old.notes.items < 16 }
+    requires before { done.old.records ≤ length done.old.notes.items * 2 ^ 36 }
+    requires room { HasRoom (2 ^ 41 - done.old.records) flow.old }
+    ensures told { IfOk result (λ _. (text : List ℕ) → left_of H.Source.left source ≡ Some text
+        → TakesNext (Copies (output_of K.Sink out.old out.new)) text flow.old flow.new done.old done.new) }
+    ensures some { IfOk result (λ _. CopiesSome (output_of K.Sink out.old out.new)
+        flow.old flow.new) }
+    ensures count { IfOk result (λ _. length done.new.notes.items ≡ length done.old.notes.items + 1) }
+    ensures few { IfOk result (λ _. done.new.records ≤ length done.new.notes.items * 2 ^ 36) }
+    ensures room { IfOk result (λ _. HasRoom (2 ^ 41 - done.new.records) flow.new) }
+    ensures stopped { IfErr result (λ _. (text : List ℕ) (items : List Record) (end : NoteValue)
+        → left_of H.Source.left source ≡ Some text → Records text (2 ^ 40) items end
+        → Stopped (output_of K.Sink out.old out.new) flow.old (map (raised done.old.records) items)) }
+    ensures front { IfErr result (λ _. (front : List ℕ)
+        × Appended (output_of K.Sink out.old out.new) front) }
+    ensures cause { IfErr result (λ e. OnFailure (output_of K.Sink out.old out.new) e (λ i.
+        (i ≡ Input.Capture (length done.old.notes.items))
+        × Rose (H.faults shelf.old (name_of H.Source.name source))
+        (H.faults shelf.new (name_of H.Source.name source)))) }
+    ensures later { K.faults out.old ≤ K.faults out.new }
+    ensures stays { StaysAs H.text H.lacks H.faults shelf.old shelf.new }
+{
+    let number = done.notes.len() as u32;
+    let taken = copy_source(alloc, shelf, source, number, done.records, flow, out)?;
+    done.notes.push(taken.note)?;
+    done.records += taken.records;
+    Ok(())
+}
+
+/// Takes the packet records of these sources one after the other, as those of one capture, writes their rows, and gives
+/// the sources back to the shelf. After one that couldn't be read, or of which a row couldn't be written, the others go
+/// back unread.
+fn copy_sources<H: Shelf, K: Sink>(
+    alloc: Global,
+    shelf: &mut H,
+    sources: Vec<Classic<H::Source>>,
+    flow: &mut SeriesFlow,
+    out: &mut K,
+) -> Result<TakenCaptures, Failure>
+    requires few { length sources.items ≤ 16 }
+    requires fresh { All (λ source. faults_of H.Source.faults source ≡ 0) sources.items }
+    requires room { HasRoom (2 ^ 41) flow.old }
+    ensures told { IfOk result (λ taken. (names texts : List (List ℕ))
+        → AreFetched (name_of H.Source.name) (left_of H.Source.left) (faults_of H.Source.faults)
+        (classic_texts (H.text shelf.old)) names sources.items
+        → AreTold (classic_texts (H.text shelf.old)) names texts
+        → TakesTexts (Copies (output_of K.Sink out.old out.new)) texts flow.old flow.new taken) }
+    ensures some { IfOk result (λ _. CopiesSome (output_of K.Sink out.old out.new)
+        flow.old flow.new) }
+    ensures stopped { IfErr result (λ _. (names texts : List (List ℕ)) (files : List (List Record))
+        (notes : List NoteValue)
+        → AreFetched (name_of H.Source.name) (left_of H.Source.left) (faults_of H.Source.faults)
+        (classic_texts (H.text shelf.old)) names sources.items
+        → AreTold (classic_texts (H.text shelf.old)) names texts → AreRecords texts files notes
+        → Stopped (output_of K.Sink out.old out.new) flow.old (joined files)) }
+    ensures front { IfErr result (λ _. (front : List ℕ)
+        × Appended (output_of K.Sink out.old out.new) front) }
+    ensures cause { (names : List (List ℕ)) → AreFetched (name_of H.Source.name) (left_of H.Source.left)
+        (faults_of H.Source.faults) (classic_texts (H.text shelf.old)) names sources.items
+        → IfErr result (λ e. OnFailure (output_of K.Sink out.old out.new) e (λ i. (number : ℕ)
+        × (i ≡ Input.Capture number) × CaptureRose (H.faults shelf.old) (H.faults shelf.new) names number)) }
+    ensures later { K.faults out.old ≤ K.faults out.new }
+    ensures stays { StaysAs H.text H.lacks H.faults shelf.old shelf.new }
+{
+    let mut done = TakenCaptures {
+        notes: Vec::new(alloc),
+        records: 0,
+    };
+    let mut outcome = Ok(());
+    for source in sources {
+        outcome = match outcome {
+            Ok(()) => copy_next(alloc, shelf, source, &mut done, flow, out),
+            Err(failure) => {
+                give_back(shelf, source);
+                Err(failure)
+            }
+        };
+    }
+    outcome?;
+    Ok(done)
+}
+
+/// Opens the captures with these names in order, reads them as one, writes their rows, and gives their sources back to
+/// the shelf. Returns how each capture ends.
+///
+/// Returns `ReadFault` with the number of the first capture that can't be opened, or of which a read failed, and `Err`
+/// if memory runs out or a write fails.
+pub fn copy_captures<H: Shelf, K: Sink>(
+    alloc: Global,
+    shelf: &mut H,
+    names: &[FileName],
+    flow: &mut SeriesFlow,
+    out: &mut K,
+) -> Result<TakenCaptures, Failure>
+    requires few { length names.now ≤ 16 }
+    requires room { HasRoom (2 ^ 41) flow.old }
+    ensures told { IfOk result (λ taken. (texts : List (List ℕ))
+        → AreTold (classic_texts (H.text shelf.old)) names.now texts
+        → TakesTexts (Copies (output_of K.Sink out.old out.new)) texts flow.old flow.new taken) }
+    ensures some { IfOk result (λ _. CopiesSome (output_of K.Sink out.old out.new)
+        flow.old flow.new) }
+    ensures there { IfOk result (λ _. AreThere (H.lacks shelf.old) names.now) }
+    ensures stopped { IfErr result (λ _. (texts : List (List ℕ)) (files : List (List Record)) (notes : List NoteValue)
+        → AreTold (classic_texts (H.text shelf.old)) names.now texts → AreRecords texts files notes
+        → Stopped (output_of K.Sink out.old out.new) flow.old (joined files)) }
+    ensures front { IfErr result (λ _. (front : List ℕ)
+        × Appended (output_of K.Sink out.old out.new) front) }
+    ensures cause { IfErr result (λ e. OnFailure (output_of K.Sink out.old out.new) e (λ i. (number : ℕ)
+        × (i ≡ Input.Capture number) × CaptureRose (H.faults shelf.old) (H.faults shelf.new) names.now number)) }
+    ensures later { K.faults out.old ≤ K.faults out.new }
+    ensures stays { StaysAs H.text H.lacks H.faults shelf.old shelf.new }
+{
+    let sources = fetch_captures(alloc, shelf, names)?;
+    copy_sources(alloc, shelf, sources, flow, out)
 }

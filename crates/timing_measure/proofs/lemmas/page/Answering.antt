@@ -1,9 +1,10 @@
--- What follows for `page` from what the readings of its capture came to.
+-- What follows for `page` from what the readings of its captures came to.
 use Rattle.std.specs.Prelude.{◌<◌, All}
-use Rattle.std.proofs.Common.{◌≡◌, ◌+◌, ℕ, List, [], ◌∷◌, length, ap, ◌∙◌, arith}
+use Rattle.std.proofs.Common.{◌≡◌, ◌+◌, ℕ, List, [], ◌∷◌, length, Option, ap, ◌∙◌, arith}
 use Rattle.std.proofs.lemmas.List.Elements.{All-cons, All-nil, All-weaker}
 use Rattle.timing_base.specs.Shifts.{FlowOptions}
-use Rattle.timing_base.specs.Captures.{Record}
+use Rattle.timing_base.specs.Captures.{Record, joined}
+use Rattle.timing_base.specs.Choices.{chosen, first_chosen}
 use Rattle.timing_base.specs.Jobs.{CaptureJob}
 use Rattle.timing_base.specs.Media.{Media}
 use Rattle.flow_page.specs.Media.{AreOfMedia}
@@ -11,15 +12,17 @@ use Rattle.flow_page.specs.declared.shown.FlowPage.{FlowPage}
 use Rattle.capture_scan.specs.report.Contents.{contents_of}
 use Rattle.timing_steps.specs.Answers.{Answer}
 use Rattle.timing_steps.specs.Queries.{HasAnswer}
-use Rattle.timing_reach.proofs.Scannings.{found-contents}
+use Rattle.capture_scan.proofs.lemmas.report.Founds.{found-contents}
 use Rattle.udp_rtp.specs.Flow.{flow}
 use Rattle.timing_measure.specs.Each.{EachOf}
 use Rattle.timing_measure.specs.page.Shown.{IsFlowPage}
 use Rattle.timing_measure.specs.page.Pages.{page_query, paged}
 use Rattle.timing_measure.specs.page.Captures.{IsPageIn, IsPageOf}
-use Rattle.timing_measure.specs.declared.page.capture.PageCapture.{PageCapture}
+use Rattle.timing_measure.specs.declared.page.captures.PageCaptures.{PageCaptures}
+use Rattle.timing_measure.proofs.Chosen.{chosen-within}
+use Rattle.timing_measure.proofs.Eaches.{each-long}
 
--- each flow is of a media of the session
+-- each flow is of one of the media
 pages-of : (options : FlowOptions) (items : List Record) (number : ℕ) (media : List Media) (pages : List FlowPage)
     → EachOf (λ n m p. IsFlowPage m n options (flow items m) p) number media pages
     → All (λ (p : FlowPage). p.flow.media < number + length media) pages
@@ -32,21 +35,24 @@ pages-of options items number (m ∷ media) (p ∷ pages) h =
     (All-weaker (λ (p : FlowPage). p.flow.media < number + 1 + length media) (λ (p : FlowPage). p.flow.media < number + length (m ∷ media))
     (λ p few. omega (arith, few)) pages (pages-of options items (number + 1) media pages h.1))
 
-pub of-media : (options : FlowOptions) (media : List Media) (r : PageCapture) → IsPageOf options media r → AreOfMedia media r.flows.items
-of-media options media r h =
-    All-weaker (λ (p : FlowPage). p.flow.media < 0 + length media) (λ (p : FlowPage). p.flow.media < length media) (λ p few. omega (arith, few)) r.flows.items
-    (pages-of options h.items 0 media r.flows.items h.are)
+pub of-media : (options : FlowOptions) (only : Option ℕ) (media : List Media) (r : PageCaptures)
+    → IsPageOf options (first_chosen only) (chosen only media) r → AreOfMedia media r.flows.items
+of-media options only media r h =
+    chosen-within (λ (p : FlowPage). p.flow.media) only media r.flows.items
+    (each-long (λ n m p. IsFlowPage m n options (flow h.items m) p) (first_chosen only) (chosen only media) r.flows.items h.are)
+    (pages-of options h.items (first_chosen only) (chosen only media) r.flows.items h.are)
 
 -- the answer on what was read
-pub has-page : (job : CaptureJob) (media : List Media) (text : List ℕ) (r : PageCapture) (answer : Answer) → IsPageIn job.options media text r
-    → answer ≡ paged job.capture r.note job.options.shift media r.flows.items (contents_of r.found) → HasAnswer (page_query job) media (text ∷ []) answer
-has-page job media text r answer h e = record {
-  files = h.items ∷ [];
-  notes = r.note ∷ [];
-  records = (h.records, tt);
+pub has-page : (job : CaptureJob) (media : List Media) (texts : List (List ℕ)) (r : PageCaptures) (answer : Answer)
+    → IsPageIn job.options (first_chosen job.media) (chosen job.media media) texts r
+    → answer ≡ paged job.captures r.notes.items job.options.shift media r.flows.items (contents_of r.found) → HasAnswer (page_query job) media texts answer
+has-page job media texts r answer h e = record {
+  files = h.files;
+  notes = r.notes.items;
+  records = h.records;
   defined = record {
     pages = r.flows.items;
     are = h.are;
-    answer_is = e ∙ ap (paged job.capture r.note job.options.shift media r.flows.items) (found-contents h.items r.found h.found_is);
+    answer_is = e ∙ ap (paged job.captures r.notes.items job.options.shift media r.flows.items) (found-contents (joined h.files) r.found h.found_is);
   };
 }

@@ -1,4 +1,4 @@
--- The packet records of a capture have an answer of `page`.
+-- The packet records of captures have an answer of `page`.
 use Rattle.std.proofs.Common.{◌≡◌, ◌≤◌, ◌<◌, ◌+◌, ◌-◌, ◌*◌, ◌^◌, ◌++◌, ℕ, ℤ, inl, inr, Bool, true, false}
 use Rattle.std.proofs.Common.{List, [], ◌∷◌, length, Option, Some, None, refl, sym, ap, subst, arith}
 use Rattle.std.specs.Prelude.{All, slice_index}
@@ -6,7 +6,8 @@ use Rattle.std.proofs.Math.Nat.{mul-le-mul_right}
 use Rattle.std.proofs.lemmas.Bool.{cases_lt}
 use Rattle.std.proofs.lemmas.List.Elements.{All-append, All-cons, All-nil, All-weaker}
 use Rattle.timing_base.specs.Shifts.{FlowOptions, Shift}
-use Rattle.timing_base.specs.Captures.{IsStamp, Record}
+use Rattle.timing_base.specs.Captures.{IsStamp, Record, joined}
+use Rattle.timing_base.specs.Choices.{chosen, first_chosen}
 use Rattle.timing_base.specs.Jobs.{CaptureJob, IsCaptureJob}
 use Rattle.timing_base.specs.Media.{IsMedia, Media}
 use Rattle.timing_base.specs.Numbered.{numbered}
@@ -30,11 +31,11 @@ use Rattle.flow_page.specs.declared.shown.Curves.{Curves}
 use Rattle.flow_page.specs.declared.shown.FlowPage.{FlowPage}
 use Rattle.flow_page.specs.declared.shown.Region.{Region}
 use Rattle.flow_page.specs.declared.shown.ShownRun.{ShownRun}
-use Rattle.pcap_reader.specs.Records.{Records}
+use Rattle.pcap_reader.specs.Records.{AreRecords}
 use Rattle.timing_steps.specs.Answers.{Answer}
-use Rattle.timing_steps.specs.Queries.{HasAnswer, only_file, only_note}
+use Rattle.timing_steps.specs.Queries.{HasAnswer}
 use Rattle.timing_steps.proofs.Onces.{DefinesSome}
-use Rattle.timing_reach.specs.Scanned.{contents}
+use Rattle.capture_scan.specs.report.Contents.{contents}
 use Rattle.udp_rtp.specs.Flow.{flow}
 use Rattle.timing_measure.specs.Each.{EachOf}
 use Rattle.run_meter.specs.Runs.{JudgedPart, stamps_of}
@@ -240,22 +241,23 @@ some-pages options items number (m ∷ media) (f ∷ flows) h =
     let later = some-pages options items (number + 1) media flows h.1 in
     (record { flow = f; shown = s.0 } ∷ later.0, (record { flow_is = h.0; shows = s.1 }, later.1))
 
--- the answer over packet records of a capture
-page-defined : (job : CaptureJob) (media : List Media) (items : List Record) (note : FileNote) → IsCaptureJob job → All IsMedia media → AreHeld items
-    → (answer : Answer) × DefinesPage job media items note answer
-page-defined job media items note is all held =
-    let measure = (measure-defined job media items note is all held).1 in
-    let pages = some-pages job.options items 0 media measure.flows measure.are in
-    (paged job.capture note job.options.shift media pages.0 (contents items), record { pages = pages.0; are = pages.1; answer_is = refl })
+-- the answer over packet records of captures
+page-defined : (job : CaptureJob) (media : List Media) (items : List Record) (notes : List FileNote) → IsCaptureJob job → All IsMedia media → AreHeld items
+    → (answer : Answer) × DefinesPage job media items notes answer
+page-defined job media items notes is all held =
+    let measure = (measure-defined job media items notes is all held).1 in
+    let pages = some-pages job.options items (first_chosen job.media) (chosen job.media media) measure.flows measure.are in
+    (paged job.captures notes job.options.shift media pages.0 (contents items), record { pages = pages.0; are = pages.1; answer_is = refl })
 
 pub some-page : (job : CaptureJob) (texts : List (List ℕ)) → IsCaptureJob job → HaveStamps texts → DefinesSome (page_query job) texts
 some-page job texts is held media files notes are unsettled records =
-    page-defined job media (only_file files) (only_note notes) is are (held files notes records)
+    page-defined job media (joined files) notes is are (held files notes records)
 
--- over a capture with these contents
-pub some-page-answer : (job : CaptureJob) (media : List Media) (text : List ℕ) (items : List Record) (note : FileNote) → IsCaptureJob job
-    → All IsMedia media → Records text (2 ^ 40) items note → length items < 2 ^ 41 → All (λ (r : Record). IsStamp r.stamp) items
-    → (answer : Answer) × HasAnswer (page_query job) media (text ∷ []) answer
-some-page-answer job media text items note is all records few stamps =
-    let made = page-defined job media items note is all (record { few = few; stamps = stamps }) in
-    (made.0, record { files = items ∷ []; notes = note ∷ []; records = (records, tt); defined = made.1 })
+-- over captures with these contents
+pub some-page-answer : (job : CaptureJob) (media : List Media) (texts : List (List ℕ)) (files : List (List Record)) (notes : List FileNote)
+    → IsCaptureJob job → All IsMedia media → AreRecords texts files notes → length (joined files) < 2 ^ 41
+    → All (λ (r : Record). IsStamp r.stamp) (joined files)
+    → (answer : Answer) × HasAnswer (page_query job) media texts answer
+some-page-answer job media texts files notes is all records few stamps =
+    let made = page-defined job media (joined files) notes is all (record { few = few; stamps = stamps }) in
+    (made.0, record { files = files; notes = notes; records = records; defined = made.1 })

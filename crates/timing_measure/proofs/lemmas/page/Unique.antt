@@ -1,5 +1,7 @@
--- The packet records of a capture have one answer of `page`.
+-- The packet records of captures have one answer of `page`.
 use Rattle.std.proofs.Common.{◌≡◌, ◌∷◌, ℕ, List, [], length, Option, Some, None, refl, ap, ◌∙◌, sym, subst, arith, length-append}
+use Rattle.timing_base.specs.Captures.{joined}
+use Rattle.timing_base.specs.Choices.{chosen, first_chosen}
 use Rattle.timing_base.specs.Shifts.{FlowOptions, Shift}
 use Rattle.timing_base.specs.Jobs.{CaptureJob}
 use Rattle.timing_base.specs.Media.{Media}
@@ -11,8 +13,7 @@ use Rattle.run_meter.specs.Runs.{JudgedPart, stamps_of}
 use Rattle.fail_interval.specs.Parts.{judged_parts}
 use Rattle.flow_measure.specs.Packets.{timestamps_of}
 use Rattle.flow_page.specs.drawing.Told.{IsLongest}
-use Rattle.timing_reach.specs.Scanned.{contents}
-use Rattle.timing_steps.specs.Queries.{only_file, only_note}
+use Rattle.capture_scan.specs.report.Contents.{contents}
 use Rattle.timing_steps.proofs.Onces.{DefinesOnce}
 use Rattle.udp_rtp.specs.Flow.{flow}
 use Rattle.timing_measure.specs.page.Pages.{page_query, paged}
@@ -58,8 +59,8 @@ page-once m number options packets p q h k =
 -- no media and packet records have two answers
 pub once-page : (job : CaptureJob) → DefinesOnce (page_query job)
 once-page job media files notes a b h k =
-    let items = only_file files in
+    let items = joined files in
     let pages : h.pages ≡ k.pages =
-    each-once (λ n m page. IsFlowPage m n job.options (flow items m) page) (λ n m. page-once m n job.options (flow items m)) 0 media
-    h.pages k.pages h.are k.are in
-    h.answer_is ∙ ap (λ pages. paged job.capture (only_note notes) job.options.shift media pages (contents items)) pages ∙ sym k.answer_is
+    each-once (λ n m page. IsFlowPage m n job.options (flow items m) page) (λ n m. page-once m n job.options (flow items m))
+    (first_chosen job.media) (chosen job.media media) h.pages k.pages h.are k.are in
+    h.answer_is ∙ ap (λ pages. paged job.captures notes job.options.shift media pages (contents items)) pages ∙ sym k.answer_is

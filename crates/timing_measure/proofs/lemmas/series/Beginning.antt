@@ -117,10 +117,10 @@ series-begun frames m number options gone x taken rest is h =
     h.fed.judge_is.state (h.fed.told refl))
 
 -- an answer that has rows
-text-of-rows : (frames : Bool) (m : Media) (note : FileNote) (v : Verdict) (rows : List ℕ) → 0 < length rows
-    → (series_of frames m note v rows).text ≡ header_text frames ++ rows
-text-of-rows frames m note v [] some = absurd (omega (arith, some))
-text-of-rows frames m note v (byte ∷ rows) some = refl
+text-of-rows : (frames : Bool) (m : Media) (notes : List FileNote) (v : Verdict) (rows : List ℕ) → 0 < length rows
+    → (series_of frames m notes v rows).text ≡ header_text frames ++ rows
+text-of-rows frames m notes v [] some = absurd (omega (arith, some))
+text-of-rows frames m notes v (byte ∷ rows) some = refl
 
 -- the pieces of a text
 pieces : (gone text put more header : List ℕ) (count : ℕ) → gone ++ text ≡ header ++ put
@@ -131,20 +131,20 @@ pieces gone text put more header count is =
     ∙ append_assoc (gone ++ take count text) (drop count text) more
 
 -- a prefix of what was made so far is one of the answer's text, if a row was made
-begins-some : (frames : Bool) (m : Media) (options : FlowOptions) (items : List Record) (note : FileNote) (gone made : List ℕ) (count : ℕ)
+begins-some : (frames : Bool) (m : Media) (options : FlowOptions) (items : List Record) (notes : List FileNote) (gone made : List ℕ) (count : ℕ)
     → AreBegun frames m options.shift (numbered options.seq16 (flow items m)) gone made
     → length (header_text frames) < length gone + length made
-    → IsFrontOf (DefinesSeries frames options m items note) (gone ++ take count made)
-begins-some frames m options items note gone made count begun more =
+    → IsFrontOf (DefinesSeries frames options m items notes) (gone ++ take count made)
+begins-some frames m options items notes gone made count begun more =
     let rows = begun.put ++ begun.more in
     let v = verdict_of m (judged (flow items m) m.pt options) in
     let put : 0 < length begun.put = some-put (header_text frames) begun.put gone made begun.text_is more in
     let some : 0 < length rows = omega (arith, put, length-append begun.put begun.more) in
     record {
-      answer = series_of frames m note v rows;
+      answer = series_of frames m notes v rows;
       has = record { rows = rows; are = begun.are; answer_is = refl };
       rest = drop count made ++ begun.more;
-      whole = text-of-rows frames m note v rows some ∙ pieces gone made begun.put begun.more (header_text frames) count begun.text_is;
+      whole = text-of-rows frames m notes v rows some ∙ pieces gone made begun.put begun.more (header_text frames) count begun.text_is;
     }
 
 -- what was written behind the header has a row
@@ -158,36 +158,36 @@ rows-held : (frames : Bool) (gone made : List ℕ) (waiting : ℕ) → Waits fra
 rows-held frames gone made waiting (inl w) some = omega (arith, w.1, some)
 rows-held frames gone made waiting (inr w) some = omega (arith, w.1)
 
-begins-none : (frames : Bool) (m : Media) (options : FlowOptions) (items : List Record) (note : FileNote) (gone made : List ℕ)
+begins-none : (frames : Bool) (m : Media) (options : FlowOptions) (items : List Record) (notes : List FileNote) (gone made : List ℕ)
     → AreBegun frames m options.shift (numbered options.seq16 (flow items m)) gone made
     → (gone ≡ []) ⊎ (length (header_text frames) < length gone + length made)
-    → (gone ≡ []) ⊎ IsFrontOf (DefinesSeries frames options m items note) gone
-begins-none frames m options items note gone made begun (inl none) = inl none
-begins-none frames m options items note gone made begun (inr more) =
-    inr (subst (IsFrontOf (DefinesSeries frames options m items note)) (append-nil gone) (begins-some frames m options items note gone made 0 begun more))
+    → (gone ≡ []) ⊎ IsFrontOf (DefinesSeries frames options m items notes) gone
+begins-none frames m options items notes gone made begun (inl none) = inl none
+begins-none frames m options items notes gone made begun (inr more) =
+    inr (subst (IsFrontOf (DefinesSeries frames options m items notes)) (append-nil gone) (begins-some frames m options items notes gone made 0 begun more))
 
 -- what was written where it stopped
-stopped-case : (frames : Bool) (m : Media) (options : FlowOptions) (items : List Record) (note : FileNote) (gone made : List ℕ) (waiting count : ℕ)
+stopped-case : (frames : Bool) (m : Media) (options : FlowOptions) (items : List Record) (notes : List FileNote) (gone made : List ℕ) (waiting count : ℕ)
     → AreBegun frames m options.shift (numbered options.seq16 (flow items m)) gone made → Waits frames gone waiting
     → (count ≡ 0) ⊎ (waiting < length made)
-    → (gone ++ take count made ≡ []) ⊎ IsFrontOf (DefinesSeries frames options m items note) (gone ++ take count made)
-stopped-case frames m options items note gone made waiting count begun waits (inl none) =
+    → (gone ++ take count made ≡ []) ⊎ IsFrontOf (DefinesSeries frames options m items notes) (gone ++ take count made)
+stopped-case frames m options items notes gone made waiting count begun waits (inl none) =
     let same : gone ≡ gone ++ take count made = sym (ap (λ k. gone ++ take k made) none ∙ append-nil gone) in
-    subst (λ l. (l ≡ []) ⊎ IsFrontOf (DefinesSeries frames options m items note) l) same
-    (begins-none frames m options items note gone made begun (rows-gone frames gone made waiting waits))
-stopped-case frames m options items note gone made waiting count begun waits (inr some) =
-    inr (begins-some frames m options items note gone made count begun (rows-held frames gone made waiting waits some))
+    subst (λ l. (l ≡ []) ⊎ IsFrontOf (DefinesSeries frames options m items notes) l) same
+    (begins-none frames m options items notes gone made begun (rows-gone frames gone made waiting waits))
+stopped-case frames m options items notes gone made waiting count begun waits (inr some) =
+    inr (begins-some frames m options items notes gone made count begun (rows-held frames gone made waiting waits some))
 
 -- what `series` has written where it stopped is nothing, or a prefix of the answer's text
-pub stopped-begins : (frames : Bool) (m : Media) (number : ℕ) (options : FlowOptions) (items : List Record) (note : FileNote) (o : Output) (old : SeriesFlow)
+pub stopped-begins : (frames : Bool) (m : Media) (number : ℕ) (options : FlowOptions) (items : List Record) (notes : List FileNote) (o : Output) (old : SeriesFlow)
     → IsMedia m → StandsFor frames m number options [] old [] → Stopped o old items
-    → (front : List ℕ) × Appended o front × ((front ≡ []) ⊎ IsFrontOf (DefinesSeries frames options m items note) front)
-stopped-begins frames m number options items note o old is fresh s =
+    → (front : List ℕ) × Appended o front × ((front ≡ []) ⊎ IsFrontOf (DefinesSeries frames options m items notes) front)
+stopped-begins frames m number options items notes o old is fresh s =
     let stands : StandsFor frames m number options s.written s.stood s.taken = s.goes frames m number options [] [] fresh in
     let begun : AreBegun frames m options.shift (numbered options.seq16 (flow items m)) s.written (text_of s.stood) =
     subst (λ l. AreBegun frames m options.shift (numbered options.seq16 (flow l m)) s.written (text_of s.stood)) (sym s.whole)
     (series-begun frames m number options s.written s.stood s.taken s.rest is stands) in (
       s.written ++ take s.count (text_of s.stood),
       s.appended,
-      stopped-case frames m options items note s.written (text_of s.stood) s.stood.waiting s.count begun stands.waits s.some,
+      stopped-case frames m options items notes s.written (text_of s.stood) s.stood.waiting s.count begun stands.waits s.some,
     )

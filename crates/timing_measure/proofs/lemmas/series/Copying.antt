@@ -1,13 +1,15 @@
 -- Rows are written while records are taken.
 use Rattle.std.proofs.Common.{◌≡◌, ◌+◌, ◌++◌, ◌∷◌, [], ℕ, suc, List, length, take, Option, Some, None, Ok, Bor, inl, inr, refl, ap, ◌∙◌, sym, subst, arith}
-use Rattle.std.proofs.Common.{append-nil, append_assoc}
+use Rattle.std.proofs.Common.{append-nil, append_assoc, length-append}
+use Rattle.std.proofs.lemmas.List.{map-append}
 use Rattle.std.specs.Io.KnownBytes.{Appends}
 use Rattle.std.proofs.KnownBytes.{Appends-trans}
-use Rattle.timing_base.specs.Captures.{Record}
-use Rattle.std.specs.Prelude.{Err, IfErr, Result}
+use Rattle.std.specs.Prelude.{Err, IfErr, Result, map}
+use Rattle.timing_base.specs.Captures.{Record, raised}
 use Rattle.timing_base.specs.declared.capture.FileNote.{FileNote}
 use Rattle.timing_base.specs.declared.capture.PcapFault.{PcapFault}
-use Rattle.pcap_reader.specs.Readers.{Counts, Gives, Steps, WillGive, frame_count}
+use Rattle.pcap_reader.specs.Readers.{Counts, Gives, GivesNote, Steps, WillGive, frame_count}
+use Rattle.pcap_reader.specs.Taken.{HasTaken}
 use Rattle.pcap_reader.specs.declared.reader.PcapReader.{PcapReader}
 use Rattle.pcap_reader.specs.declared.reader.Step.{Step}
 use Rattle.pcap_reader.specs.declared.reader.Step.TheVariants as step
@@ -103,70 +105,99 @@ pub counted : (old new at : ℕ) (bytes : Bor (List ℕ)) (result : Result Step 
 counted old new at bytes result is h = (subst (λ r. Counts old new r) is h).2
 
 -- a reader answered a frame, and its record was taken
-copying-more : {S : Type 0} (left : S → Option (List ℕ)) (name : S → List ℕ) (faults : S → ℕ) (o : Output) (first reader new : PcapReader S)
+copying-more : {S : Type 0} (left : S → Option (List ℕ)) (name : S → List ℕ) (faults : S → ℕ) (o : Output) (before count next : ℕ)
+    (first reader new : PcapReader S)
     (old f g : SeriesFlow) (at : ℕ) (bytes : Bor (List ℕ)) (result : Result Step PcapFault)
-    → result ≡ Ok (step.Frame at bytes) → Steps left name faults reader new result
-    → TakesOn f g (record { number = frame_count new; stamp = at; bytes = bytes.now } ∷ [])
-    → IsCopying (WillGive left) o first reader old f
-    → IsCopying (WillGive left) o first new old g
-copying-more left name faults o first reader new old f g at bytes result is steps takes c = record {
-  taken = c.taken ++ record { number = frame_count new; stamp = at; bytes = bytes.now } ∷ [];
-  copies = copies-more o old f g c.taken _ c.copies takes;
-  told = λ items end gives.
-      let before = c.told items end gives in
-      let here = subst (λ r. Gives left new r before.0 end) is (steps.gives before.0 end before.2) in (
-        here.0,
-        before.1 ∙ ap (λ l. c.taken ++ l) here.1 ∙ sym (append_assoc c.taken (record { number = frame_count new; stamp = at; bytes = bytes.now } ∷ []) here.0),
-        here.2,
-      );
-}
+    → result ≡ Ok (step.Frame at bytes) → Steps left name faults reader new result → next ≡ count + 1
+    → TakesOn f g (record { number = before + frame_count new; stamp = at; bytes = bytes.now } ∷ [])
+    → IsCopying (WillGive left) o before count first reader old f
+    → IsCopying (WillGive left) o before next first new old g
+copying-more left name faults o before count next first reader new old f g at bytes result is steps one takes c =
+    let item : Record = record { number = frame_count new; stamp = at; bytes = bytes.now } in
+    record {
+      taken = c.taken ++ item ∷ [];
+      count_is = omega (arith, length-append c.taken (item ∷ []), c.count_is, one);
+      copies = subst (Copies o old g) (sym (map-append (raised before) c.taken (item ∷ [])))
+          (copies-more o old f g (map (raised before) c.taken) (raised before item ∷ []) c.copies takes);
+      told = λ items end gives.
+          let so_far = c.told items end gives in
+          let here = subst (λ r. Gives left new r so_far.0 end) is (steps.gives so_far.0 end so_far.2) in (
+            here.0,
+            so_far.1 ∙ ap (λ l. c.taken ++ l) here.1 ∙ sym (append_assoc c.taken (item ∷ []) here.0),
+            here.2,
+          );
+    }
 
 -- so of the record of the next number
-pub copying-taken : {S : Type 0} (left : S → Option (List ℕ)) (name : S → List ℕ) (faults : S → ℕ) (o : Output) (first reader new : PcapReader S)
-    (old f g : SeriesFlow) (number at : ℕ) (bytes : Bor (List ℕ)) (result : Result Step PcapFault)
-    → result ≡ Ok (step.Frame at bytes) → Steps left name faults reader new result → number ≡ frame_count reader
-    → TakesOn f g (record { number = number + 1; stamp = at; bytes = bytes.now } ∷ [])
-    → IsCopying (WillGive left) o first reader old f
-    → IsCopying (WillGive left) o first new old g
-copying-taken left name faults o first reader new old f g number at bytes result is steps count takes c =
-    let next : number + 1 ≡ frame_count new =
-    omega (arith, counted (frame_count reader) (frame_count new) at bytes result is steps.counts, count) in
-    copying-more left name faults o first reader new old f g at bytes result is steps
-    (subst (λ k. TakesOn f g (record { number = k; stamp = at; bytes = bytes.now } ∷ [])) next takes) c
+pub copying-taken : {S : Type 0} (left : S → Option (List ℕ)) (name : S → List ℕ) (faults : S → ℕ) (o : Output) (before count : ℕ)
+    (first reader new : PcapReader S)
+    (old f g : SeriesFlow) (at : ℕ) (bytes : Bor (List ℕ)) (result : Result Step PcapFault)
+    → result ≡ Ok (step.Frame at bytes) → Steps left name faults reader new result → count ≡ frame_count reader
+    → TakesOn f g (record { number = before + (count + 1); stamp = at; bytes = bytes.now } ∷ [])
+    → IsCopying (WillGive left) o before count first reader old f
+    → IsCopying (WillGive left) o before (count + 1) first new old g
+copying-taken left name faults o before count first reader new old f g at bytes result is steps count_is takes c =
+    let next : count + 1 ≡ frame_count new =
+    omega (arith, counted (frame_count reader) (frame_count new) at bytes result is steps.counts, count_is) in
+    copying-more left name faults o before count (count + 1) first reader new old f g at bytes result is steps refl
+    (subst (λ k. TakesOn f g (record { number = before + k; stamp = at; bytes = bytes.now } ∷ [])) next takes) c
 
 -- rows were written meanwhile
-pub copying-poured : {R : Type 0} (gives : R → List Record → FileNote → Type 0) (o : Output) (new : Option (List ℕ)) (now : ℕ) (first reader : R)
+pub copying-poured : {R : Type 0} (gives : R → List Record → FileNote → Type 0) (o : Output) (new : Option (List ℕ)) (now before count : ℕ)
+    (first reader : R)
     (old f g : SeriesFlow) (poured : List ℕ)
-    → IsCopying gives o first reader old f → Appends o.new new poured → PoursOn f g poured
-    → IsCopying gives (until o new now) first reader old g
-copying-poured gives o new now first reader old f g poured c more pours = record {
+    → IsCopying gives o before count first reader old f → Appends o.new new poured → PoursOn f g poured
+    → IsCopying gives (until o new now) before count first reader old g
+copying-poured gives o new now before count first reader old f g poured c more pours = record {
   taken = c.taken;
-  copies = copies-poured o new now old f g c.taken poured c.copies more pours;
+  count_is = c.count_is;
+  copies = copies-poured o new now old f g (map (raised before) c.taken) poured c.copies more pours;
   told = c.told;
 }
 
--- it stopped, for want of memory, or since a write failed
-pub copying-stopped : {R : Type 0} (gives : R → List Record → FileNote → Type 0) (o : Output) (first reader : R) (old f : SeriesFlow)
-    → IsCopying gives o first reader old f
-    → (items : List Record) (end : FileNote) → gives first items end → Stopped o old items
-copying-stopped gives o first reader old f c items end told =
-    let before = c.told items end told in stopped-here o old f c.taken before.0 items before.1 c.copies
+-- the packet records of a reader, in two parts, with their numbers in a run
+pub raised-parts : (before : ℕ) (items taken rest : List Record) → items ≡ taken ++ rest
+    → map (raised before) items ≡ map (raised before) taken ++ map (raised before) rest
+raised-parts before items taken rest whole = ap (map (raised before)) whole ∙ map-append (raised before) taken rest
 
-pub copying-broken : {R : Type 0} (gives : R → List Record → FileNote → Type 0) (o : Output) (new : Option (List ℕ)) (now : ℕ) (first reader : R)
+-- it stopped, for want of memory, or since a write failed
+pub copying-stopped : {R : Type 0} (gives : R → List Record → FileNote → Type 0) (o : Output) (before count : ℕ) (first reader : R) (old f : SeriesFlow)
+    → IsCopying gives o before count first reader old f
+    → (items : List Record) (end : FileNote) → gives first items end → Stopped o old (map (raised before) items)
+copying-stopped gives o before count first reader old f c items end told =
+    let so_far = c.told items end told in
+    stopped-here o old f (map (raised before) c.taken) (map (raised before) so_far.0) (map (raised before) items)
+    (raised-parts before items c.taken so_far.0 so_far.1) c.copies
+
+pub copying-broken : {R : Type 0} (gives : R → List Record → FileNote → Type 0) (o : Output) (new : Option (List ℕ)) (now before count : ℕ)
+    (first reader : R)
     (old f : SeriesFlow)
-    → IsCopying gives o first reader old f → HoldsText f → AppendsFront o.new new (text_of f)
-    → (items : List Record) (end : FileNote) → gives first items end → Stopped (until o new now) old items
-copying-broken gives o new now first reader old f c some front items end told =
-    let before = c.told items end told in stopped-broken o new now old f c.taken before.0 items before.1 c.copies some front
+    → IsCopying gives o before count first reader old f → HoldsText f → AppendsFront o.new new (text_of f)
+    → (items : List Record) (end : FileNote) → gives first items end → Stopped (until o new now) old (map (raised before) items)
+copying-broken gives o new now before count first reader old f c some front items end told =
+    let so_far = c.told items end told in
+    stopped-broken o new now old f (map (raised before) c.taken) (map (raised before) so_far.0) (map (raised before) items)
+    (raised-parts before items c.taken so_far.0 so_far.1) c.copies some front
 
 -- before the first record
-pub copying-none : {R : Type 0} (gives : R → List Record → FileNote → Type 0) (o : Output) (first : R) (old : SeriesFlow) → o.new ≡ o.old
-    → IsCopying gives o first first old old
-copying-none gives o first old same = record {
+pub copying-none : {R : Type 0} (gives : R → List Record → FileNote → Type 0) (o : Output) (before : ℕ) (first : R) (old : SeriesFlow) → o.new ≡ o.old
+    → IsCopying gives o before 0 first first old old
+copying-none gives o before first old same = record {
   taken = [];
+  count_is = refl;
   copies = copies-none o old same;
   told = λ items end told. (items, refl, told);
 }
+
+-- the reader has no record more
+pub copying-whole : {R : Type 0} (gives : R → List Record → FileNote → Type 0) (o : Output) (before count : ℕ) (first reader : R) (old f : SeriesFlow)
+    (note : FileNote)
+    → IsCopying gives o before count first reader old f
+    → ((rest : List Record) (end : FileNote) → gives reader rest end → GivesNote note rest end)
+    → (items : List Record) (end : FileNote) → gives first items end → HasTaken (Copies o) before old f note count items end
+copying-whole gives o before count first reader old f note c ends items end told =
+    let so_far = c.told items end told in
+    record { taken = c.taken; rest = so_far.0; whole = so_far.1; ends = ends so_far.0 end so_far.2; count_is = c.count_is; fed = c.copies }
 
 -- what holds whatever the failure is
 pub any-err : {T E : Type 0} (r : Result T E) (P : Type 0) → P → IfErr r (λ _. P)

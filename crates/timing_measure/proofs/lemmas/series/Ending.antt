@@ -22,8 +22,8 @@ use Rattle.flow_measure.specs.rows.Rows.{header_text}
 use Rattle.flow_measure.specs.rows.Told.{PastRows, Tells}
 use Rattle.flow_measure.specs.rows.making.Meters.{StandsFor as RowsStandsFor}
 use Rattle.flow_measure.specs.declared.rows.rows.Rows.{Rows}
-use Rattle.timing_reach.specs.Asked.{not_judged}
 use Rattle.timing_steps.specs.Answers.{Answer}
+use Rattle.timing_steps.specs.Flows.{not_judged}
 use Rattle.timing_measure.specs.series.Ends.{EndsSeries, IsRestOf}
 use Rattle.timing_measure.specs.series.Rows.{AreRowsAsNumbered, AreRowsOfFlow, AreRowsUpTo}
 use Rattle.timing_measure.specs.series.Series.{series_of}
@@ -54,12 +54,12 @@ no-bytes [] e = refl
 no-bytes (x ∷ xs) e = absurd (omega (arith, e))
 
 -- the header still waits, and there is no row
-rest-none : (frames : Bool) (m : Media) (options : FlowOptions) (note : FileNote) (items : List Record) (gone text : List ℕ) (waiting : ℕ) (rest : Answer)
+rest-none : (frames : Bool) (m : Media) (options : FlowOptions) (notes : List FileNote) (items : List Record) (gone text : List ℕ) (waiting : ℕ) (rest : Answer)
     → Waits frames gone waiting → 0 < waiting → length text ≤ waiting → HasPut frames m options.shift (numbered options.seq16 (flow items m)) gone text
     → rest ≡ not_judged m (verdict_of m (judged (flow items m) m.pt options))
-    → IsRestOf frames m options note items gone rest
-rest-none frames m options note items gone text waiting rest (inr w) some few h is = absurd (omega (arith, some, w.0))
-rest-none frames m options note items gone text waiting rest (inl w) some few h is =
+    → IsRestOf frames m options notes items gone rest
+rest-none frames m options notes items gone text waiting rest (inr w) some few h is = absurd (omega (arith, some, w.0))
+rest-none frames m options notes items gone text waiting rest (inl w) some few h is =
     let v = verdict_of m (judged (flow items m) m.pt options) in
     let long : length text ≡ length (header_text frames) + length h.put =
     ap length (ap (λ l. l ++ text) (sym w.0) ∙ h.text_is) ∙ length-append (header_text frames) h.put in
@@ -71,34 +71,34 @@ rest-none frames m options note items gone text waiting rest (inl w) some few h 
     }
 
 -- there are rows
-by-rows : (frames : Bool) (m : Media) (note : FileNote) (v : Verdict) (put gone : List ℕ) (rest : Answer) → 0 < length put
-    → gone ++ rest.text ≡ header_text frames ++ put → rest.status ≡ series_status note v
-    → record { text = gone ++ rest.text; status = rest.status } ≡ series_of frames m note v put
-by-rows frames m note v [] gone rest some text status = absurd (omega (arith, some))
-by-rows frames m note v (byte ∷ put) gone rest some text status = λ i. record { text = text i; status = status i }
+by-rows : (frames : Bool) (m : Media) (notes : List FileNote) (v : Verdict) (put gone : List ℕ) (rest : Answer) → 0 < length put
+    → gone ++ rest.text ≡ header_text frames ++ put → rest.status ≡ series_status notes v
+    → record { text = gone ++ rest.text; status = rest.status } ≡ series_of frames m notes v put
+by-rows frames m notes v [] gone rest some text status = absurd (omega (arith, some))
+by-rows frames m notes v (byte ∷ put) gone rest some text status = λ i. record { text = text i; status = status i }
 
 pub some-put : (header put gone text : List ℕ) → gone ++ text ≡ header ++ put → length header < length gone + length text → 0 < length put
 some-put header put gone text e more =
     omega (arith, more, sym (length-append gone text) ∙ ap length e ∙ length-append header put)
 
-rest-rows : (frames : Bool) (m : Media) (options : FlowOptions) (note : FileNote) (items : List Record) (gone : List ℕ) (waiting : ℕ) (rest : Answer)
+rest-rows : (frames : Bool) (m : Media) (options : FlowOptions) (notes : List FileNote) (items : List Record) (gone : List ℕ) (waiting : ℕ) (rest : Answer)
     → Waits frames gone waiting → (0 < waiting → waiting < length rest.text)
     → HasPut frames m options.shift (numbered options.seq16 (flow items m)) gone rest.text
     → 0 < length (header_text frames)
-    → rest.status ≡ series_status note (verdict_of m (judged (flow items m) m.pt options))
-    → IsRestOf frames m options note items gone rest
-rest-rows frames m options note items gone waiting rest (inl w) more h head status =
+    → rest.status ≡ series_status notes (verdict_of m (judged (flow items m) m.pt options))
+    → IsRestOf frames m options notes items gone rest
+rest-rows frames m options notes items gone waiting rest (inl w) more h head status =
     let long : waiting < length rest.text = more (omega (arith, head, w.1)) in
     record {
       rows = h.put;
       are = h.are;
-      whole = by-rows frames m note _ h.put gone rest
+      whole = by-rows frames m notes _ h.put gone rest
           (some-put (header_text frames) h.put gone rest.text h.text_is (omega (arith, long, w.1))) h.text_is status;
     }
-rest-rows frames m options note items gone waiting rest (inr w) more h head status = record {
+rest-rows frames m options notes items gone waiting rest (inr w) more h head status = record {
   rows = h.put;
   are = h.are;
-  whole = by-rows frames m note _ h.put gone rest
+  whole = by-rows frames m notes _ h.put gone rest
       (some-put (header_text frames) h.put gone rest.text h.text_is (omega (arith, w.1))) h.text_is status;
 }
 
@@ -128,20 +128,20 @@ rows-put x told frames m number options gone items f h =
     (f.tells (past_of frames gone) m (key_of 0 number) options (flow items m) h.fed)
 
 -- there is no row: the verdict is the answer
-pub ends-none : (note : FileNote) (x : SeriesFlow) (told : Row × Rows) (rest : Answer) → Finishes x told → 0 < x.waiting
+pub ends-none : (notes : List FileNote) (x : SeriesFlow) (told : Row × Rows) (rest : Answer) → Finishes x told → 0 < x.waiting
     → length told.1.text.items ≤ x.waiting → rest ≡ not_judged x.flow.media told.0.verdict
-    → EndsSeries note x rest
-ends-none note x told rest f some few is frames m number options gone items h =
-    rest-none frames m options note items gone told.1.text.items x.waiting rest h.waits some few (rows-put x told frames m number options gone items f h)
+    → EndsSeries notes x rest
+ends-none notes x told rest f some few is frames m number options gone items h =
+    rest-none frames m options notes items gone told.1.text.items x.waiting rest h.waits some few (rows-put x told frames m number options gone items f h)
     (is ∙ ap (λ (n : Media). not_judged n told.0.verdict) h.media_is ∙ ap (not_judged m) (verdict-is x told frames m number options gone items f h))
 
 -- the rows that weren't written yet are the rest
-pub ends-rows : (note : FileNote) (x : SeriesFlow) (told : Row × Rows) (rest : Answer) → Finishes x told
-    → (0 < x.waiting → x.waiting < length told.1.text.items) → rest.text ≡ told.1.text.items → rest.status ≡ series_status note told.0.verdict
-    → EndsSeries note x rest
-ends-rows note x told rest f some text ends frames m number options gone items h =
-    rest-rows frames m options note items gone x.waiting rest h.waits
+pub ends-rows : (notes : List FileNote) (x : SeriesFlow) (told : Row × Rows) (rest : Answer) → Finishes x told
+    → (0 < x.waiting → x.waiting < length told.1.text.items) → rest.text ≡ told.1.text.items → rest.status ≡ series_status notes told.0.verdict
+    → EndsSeries notes x rest
+ends-rows notes x told rest f some text ends frames m number options gone items h =
+    rest-rows frames m options notes items gone x.waiting rest h.waits
     (λ waits. subst (λ l. x.waiting < length l) (sym text) (some waits))
     (subst (HasPut frames m options.shift (numbered options.seq16 (flow items m)) gone) (sym text)
     (rows-put x told frames m number options gone items f h)) (header-some frames)
-    (ends ∙ ap (series_status note) (verdict-is x told frames m number options gone items f h))
+    (ends ∙ ap (series_status notes) (verdict-is x told frames m number options gone items f h))

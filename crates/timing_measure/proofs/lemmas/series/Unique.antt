@@ -1,4 +1,4 @@
--- The packet records of a capture have one answer of `series`.
+-- The packet records of captures have one answer of `series`.
 use Rattle.std.proofs.Common.{◌≡◌, ◌≤◌, ◌-◌, ◌+◌, ◌*◌, ◌/◌, ◌%◌, ◌++◌, ◌∷◌, ℕ, ℤ, zero, suc, pos, Bool, true, false, List, [], length, Option, Some}
 use Rattle.std.proofs.Common.{None, refl, ap, ap₂}
 use Rattle.std.proofs.Common.{◌∙◌, sym, subst, arith, length-append}
@@ -8,6 +8,7 @@ use Rattle.std.proofs.lemmas.Bool.{eqb-true}
 use Rattle.std.proofs.lemmas.Int.{ints}
 use Rattle.std.proofs.lemmas.List.{length-map}
 use Rattle.std.proofs.lemmas.Nat.{div-add-mod'}
+use Rattle.timing_base.specs.Captures.{joined}
 use Rattle.timing_base.specs.Shifts.{Shift}
 use Rattle.timing_base.specs.Flows.{FirstFault, first_fault}
 use Rattle.timing_base.specs.Judged.{judged, stamp_of}
@@ -29,7 +30,6 @@ use Rattle.flow_measure.specs.rows.Rows.{Adds, AddsGroup, AreRows, AreRowsOf, Is
 use Rattle.fail_interval.specs.Parts.{judged_parts, open_before, parts_before}
 use Rattle.timing_steps.specs.Answers.{Answer}
 use Rattle.timing_steps.specs.Flows.{OnMedia}
-use Rattle.timing_steps.specs.Queries.{only_file, only_note}
 use Rattle.timing_steps.proofs.Onces.{DefinesOnce}
 use Rattle.udp_rtp.specs.Flow.{flow}
 use Rattle.timing_measure.specs.series.Rows.{AreRowsUpTo}
@@ -180,13 +180,13 @@ pub once-series : (job : SeriesJob) → DefinesOnce (series_query job)
 once-series job media files notes a b h k = of-media (slice_get media job.flow.media) h k
   where
     Answers : Media → Answer → Type 0
-    Answers m answer = DefinesSeries job.frames job.flow.options m (only_file files) (only_note notes) answer
+    Answers m answer = DefinesSeries job.frames job.flow.options m (joined files) notes answer
 
     of-media : (found : Option Media) → OnMedia found (λ m. Answers m a) → OnMedia found (λ m. Answers m b) → a ≡ b
     of-media None h k = absurd h
     of-media (Some m) h k =
         let options = job.flow.options in
-        let packets = flow (only_file files) m in
+        let packets = flow (joined files) m in
         let counted = numbered options.seq16 packets in
         let rows : h.rows ≡ k.rows = up-to-once job.frames m options.shift counted (first_fault counted m.pt) h.rows k.rows h.are k.are in
-        h.answer_is ∙ ap (series_of job.frames m (only_note notes) (verdict_of m (judged packets m.pt options))) rows ∙ sym k.answer_is
+        h.answer_is ∙ ap (series_of job.frames m notes (verdict_of m (judged packets m.pt options))) rows ∙ sym k.answer_is

@@ -1,4 +1,5 @@
 use Rattle.std.proofs.Common.{true}
+use Rattle.timing_base.specs.Captures.{joined}
 use Rattle.flow_measure.specs.RunStands.{StandsFor}
 use Rattle.timing_measure.specs.Measured.{IsMeasuredFlow}
 use Rattle.timing_measure.specs.flows.Ends.{EndsMeasured, TellsNumbers}
@@ -6,12 +7,12 @@ use Rattle.timing_measure.proofs.Taken.{flows-end}
 use Rattle.timing_measure.proofs.measure.read_flows.Goals as goal
 
 pub returns-clause-told : goal.returns-clause-told
-returns-clause-told g c = λ text whole.
-    let taken = c.in_ok-taken.ensures.told text whole in
+returns-clause-told g c = λ texts whole.
+    let taken = c.in_ok-taken.ensures.told texts whole in
     record {
-      items = taken.items;
+      files = taken.files;
       records = taken.records;
-      are = flows-end true StandsFor TellsNumbers tt EndsMeasured IsMeasuredFlow c.args.job.now.options c.args.media.now taken.items
+      are = flows-end true StandsFor TellsNumbers tt EndsMeasured IsMeasuredFlow c.args.job.now.options c.args.first c.args.media.now (joined taken.files)
           c.in_ok-taken.taken.flows.items c.in_ok-flows.flows.items (λ f e ends m number packets h. ends m number c.args.job.now.options packets h)
           taken.are c.in_ok-flows.ensures;
     }
@@ -21,7 +22,7 @@ returns-clause-some g c =
     let taken = c.in_ok-taken.ensures.some in
     record {
       items = taken.items;
-      are = flows-end true StandsFor TellsNumbers tt EndsMeasured IsMeasuredFlow c.args.job.now.options c.args.media.now taken.items
+      are = flows-end true StandsFor TellsNumbers tt EndsMeasured IsMeasuredFlow c.args.job.now.options c.args.first c.args.media.now taken.items
           c.in_ok-taken.taken.flows.items c.in_ok-flows.flows.items (λ f e ends m number packets h. ends m number c.args.job.now.options packets h)
           taken.are c.in_ok-flows.ensures;
     }

@@ -1,4 +1,4 @@
-use Rattle.timing_reach.proofs.Takings.{if-ok}
+use Rattle.timing_steps.proofs.Takings.{if-ok}
 use Rattle.timing_measure.proofs.both.BothTaker.take.Goals as goal
 
 pub returns-clause-room : goal.returns-clause-room

@@ -1,7 +1,8 @@
-use Rattle.std.proofs.Common.{◌≡◌, ◌∙◌, ◌+◌, ◌^◌, Ok, ap, arith, refl, sym}
+use Rattle.std.proofs.Common.{◌≡◌, ◌∙◌, ◌+◌, ◌^◌, Ok, ap, arith, refl, subst, sym}
 use Rattle.pcap_reader.specs.Readers.{WillGive, answer_note}
 use Rattle.pcap_reader.specs.declared.reader.Step.TheVariants.{Frame}
 use Rattle.timing_steps.specs.Ran.{output_of}
+use Rattle.timing_measure.specs.series.Stands.{HasRoom}
 use Rattle.timing_measure.proofs.lemmas.series.Pouring.{room-less}
 use Rattle.timing_measure.proofs.lemmas.series.Copying.{any-err, copying-broken, copying-none, copying-poured, copying-stopped, copying-taken, counted}
 use Rattle.timing_measure.proofs.lemmas.series.Capturing.{front-more}
@@ -9,12 +10,12 @@ use Rattle.timing_measure.proofs.series.stream.copy_rows.Goals as goal
 
 pub loop-at-init : goal.loop-at-init
 loop-at-init g c = record {
-  copying = copying-none (WillGive g.S.Source.left) (output_of g.K.Sink c.args.out.now c.args.out.now) c.args.reader.now c.args.flow.now refl;
+  copying = copying-none (WillGive g.S.Source.left) (output_of g.K.Sink c.args.out.now c.args.out.now) c.args.before c.args.reader.now c.args.flow.now refl;
   fresh = c.requires.fresh;
   number_is = sym c.requires.first;
   most = refl;
   within = omega (arith, c.requires.first);
-  room = λ count few. room-less count (2 ^ 36 + 1) c.args.flow.now (omega (arith, few)) c.requires.room;
+  room = λ count has. room-less count _ c.args.flow.now (omega arith) has;
   later_out = omega arith;
   name = refl;
   later = omega arith;
@@ -25,13 +26,13 @@ take-requires-clause-room g c =
     let inv = c.loop-at.invariant in
     let s = c.next.follows.holds-at-none in
     let n = counted _ _ c.in-Ok-Frame.at c.in-Ok-Frame.bytes c.next.result (c.in-Ok-Frame.is ∙ ap Ok c.in-Ok-Frame.field-0-is) s.counts in
-    inv.room 1 (omega (arith, n, s.few, s.same_most, inv.most, c.requires.most))
+    inv.room 1 (room-less _ (2 ^ 36 + 1) c.args.flow.now (omega (arith, n, s.few, s.same_most, inv.most, c.requires.most)) c.requires.room)
 
 pub returns-in_err-take-in-Ok-Frame-clause-stopped : goal.returns-in_err-take-in-Ok-Frame-clause-stopped
 returns-in_err-take-in-Ok-Frame-clause-stopped g c =
     any-err c.from_residual.result _
-    (copying-stopped (WillGive g.S.Source.left) (output_of g.K.Sink c.args.out.now c.loop-at.out) c.args.reader.now c.loop-at.reader c.args.flow.now
-    c.loop-at.flow c.loop-at.invariant.copying)
+    (copying-stopped (WillGive g.S.Source.left) (output_of g.K.Sink c.args.out.now c.loop-at.out) c.args.before c.loop-at.records c.args.reader.now
+    c.loop-at.reader c.args.flow.now c.loop-at.flow c.loop-at.invariant.copying)
 
 pub loop-at-preserved : goal.loop-at-preserved
 loop-at-preserved g c =
@@ -45,16 +46,18 @@ loop-at-preserved g c =
     let o = output_of g.K.Sink c.args.out.now c.loop-at.out in
     let poured = c.in_ok-pour.ensures.poured in
     record {
-      copying = copying-poured (WillGive g.S.Source.left) o (g.K.Sink.written c.pour.new.out) (g.K.Sink.faults c.pour.new.out) c.args.reader.now new
-          c.args.flow.now c.take.new.self _ poured.0
-          (copying-taken g.S.Source.left g.S.Source.name g.S.Source.faults o c.args.reader.now c.loop-at.reader new c.args.flow.now c.loop-at.flow
-          c.take.new.self c.loop-at.number at bytes c.next.result is s inv.number_is c.in_ok-take-in-Ok-Frame.ensures.takes inv.copying)
+      copying = copying-poured (WillGive g.S.Source.left) o (g.K.Sink.written c.pour.new.out) (g.K.Sink.faults c.pour.new.out) c.args.before _
+          c.args.reader.now new c.args.flow.now c.take.new.self _ poured.0
+          (copying-taken g.S.Source.left g.S.Source.name g.S.Source.faults o c.args.before c.loop-at.records c.args.reader.now c.loop-at.reader new
+          c.args.flow.now c.loop-at.flow c.take.new.self at bytes c.next.result is s inv.number_is c.in_ok-take-in-Ok-Frame.ensures.takes inv.copying)
           poured.1 poured.2;
       fresh = s.tells ∙ ap answer_note is;
       number_is = omega (arith, n, inv.number_is);
       most = s.same_most ∙ inv.most;
       within = s.few;
-      room = λ count few. c.pour.ensures.room count (c.in_ok-take-in-Ok-Frame.ensures.room count (inv.room (count + 1) (omega (arith, n, few))));
+      room = λ count has.
+          c.pour.ensures.room count
+          (c.in_ok-take-in-Ok-Frame.ensures.room count (inv.room (count + 1) (subst (λ k. HasRoom k c.args.flow.now) (omega (arith, n)) has)));
       later_out = omega (arith, inv.later_out, c.pour.ensures.later);
       name = s.same_name ∙ inv.name;
       later = omega (arith, inv.later, s.later);
@@ -67,11 +70,11 @@ returns-in_err-pour-clause-stopped g c =
     let o = output_of g.K.Sink c.args.out.now c.loop-at.out in
     let follows = c.next.follows in
     any-err c.from_residual-in_err-pour.result _
-    (copying-broken (WillGive g.S.Source.left) o (g.K.Sink.written c.pour.new.out) (g.K.Sink.faults c.pour.new.out) c.args.reader.now
+    (copying-broken (WillGive g.S.Source.left) o (g.K.Sink.written c.pour.new.out) (g.K.Sink.faults c.pour.new.out) c.args.before _ c.args.reader.now
     follows.lender-at-none c.args.flow.now c.take.new.self
-    (copying-taken g.S.Source.left g.S.Source.name g.S.Source.faults o c.args.reader.now c.loop-at.reader follows.lender-at-none c.args.flow.now
-    c.loop-at.flow c.take.new.self c.loop-at.number frame.at frame.bytes c.next.result (frame.is ∙ ap Ok frame.field-0-is) follows.holds-at-none
-    inv.number_is c.in_ok-take-in-Ok-Frame.ensures.takes inv.copying)
+    (copying-taken g.S.Source.left g.S.Source.name g.S.Source.faults o c.args.before c.loop-at.records c.args.reader.now c.loop-at.reader
+    follows.lender-at-none c.args.flow.now c.loop-at.flow c.take.new.self frame.at frame.bytes c.next.result (frame.is ∙ ap Ok frame.field-0-is)
+    follows.holds-at-none inv.number_is c.in_ok-take-in-Ok-Frame.ensures.takes inv.copying)
     c.in_err-pour.ensures.failed.2 c.in_err-pour.ensures.failed.3)
 
 pub returns-in_err-take-in-Ok-Frame-clause-front : goal.returns-in_err-take-in-Ok-Frame-clause-front
@@ -84,3 +87,15 @@ returns-in_err-pour-clause-front g c =
     any-err c.from_residual-in_err-pour.result _
     (front-more (g.K.Sink.written c.args.out.now) (g.K.Sink.written c.loop-at.out) (g.K.Sink.written c.pour.new.out) copies.written _ copies.appended
     c.in_err-pour.ensures.failed.3)
+
+pub returns-in-Ok-End-clause-room : goal.returns-in-Ok-End-clause-room
+returns-in-Ok-End-clause-room g c = λ count has.
+    let inv = c.loop-at.invariant in inv.room count (subst (λ k. HasRoom (k + count) c.args.flow.now) inv.number_is has)
+
+pub returns-in-Ok-Cut-clause-room : goal.returns-in-Ok-Cut-clause-room
+returns-in-Ok-Cut-clause-room g c = λ count has.
+    let inv = c.loop-at.invariant in inv.room count (subst (λ k. HasRoom (k + count) c.args.flow.now) inv.number_is has)
+
+pub returns-in-Err-clause-room : goal.returns-in-Err-clause-room
+returns-in-Err-clause-room g c = λ count has.
+    let inv = c.loop-at.invariant in inv.room count (subst (λ k. HasRoom (k + count) c.args.flow.now) inv.number_is has)

@@ -13,12 +13,12 @@ invariant-loop-at g l =
         new = g.K.Sink.written l.out;
         before = g.K.Sink.faults l.fn.out;
         now = g.K.Sink.faults l.out;
-      }) l.fn.reader l.reader l.fn.flow l.flow;
+      }) l.fn.before l.records l.fn.reader l.reader l.fn.flow l.flow;
       fresh : end_note l.reader ≡ None;
-      number_is : l.number ≡ frame_count l.reader;
+      number_is : l.records ≡ frame_count l.reader;
       most : most_of l.reader ≡ most_of l.fn.reader;
       within : 16 * frame_count l.reader ≤ most_of l.reader;
-      room : (count : ℕ) → frame_count l.reader + count ≤ 2 ^ 36 + 1 → HasRoom count l.flow;
+      room : (count : ℕ) → HasRoom (frame_count l.reader + count) l.fn.flow → HasRoom count l.flow;
       later_out : g.K.Sink.faults l.fn.out ≤ g.K.Sink.faults l.out;
       name : g.S.Source.name (under l.reader) ≡ g.S.Source.name (under l.fn.reader);
       later : g.S.Source.faults (under l.fn.reader) ≤ g.S.Source.faults (under l.reader);

@@ -12,7 +12,7 @@ returns-then-len-waiting c =
     record { result = c.in_ok-row.ensures.row; tells = c.in_ok-row.ensures.tells refl } in
     let few : length rows.text.items ≤ c.args.self.waiting = search rules in
     if-ok c.not_judged.result
-    (λ rest is. ends-none c.args.note c.args.self (c.in_ok-row.row, rows) rest finishes c.if-waiting-gt0.true few is) c.not_judged.ensures
+    (λ rest is. ends-none c.args.notes.now c.args.self (c.in_ok-row.row, rows) rest finishes c.if-waiting-gt0.true few is) c.not_judged.ensures
 
 pub returns : goal.returns
 returns c =
@@ -24,5 +24,5 @@ returns c =
       | else-waiting-gt0-via-then-waiting-gt0+else-len-waiting w ↦ λ waits. search rules
       | else-waiting-gt0-via-else-waiting-gt0 w ↦ λ waits. absurd (omega (arith, w.if-waiting-gt0.false, waits))
     ] in
-    ends-rows c.args.note c.args.self (c.in_ok-row.row, rows) (record { text = rows.text.items; status = c.status_of.result }) finishes some refl
+    ends-rows c.args.notes.now c.args.self (c.in_ok-row.row, rows) (record { text = rows.text.items; status = c.status_of.result }) finishes some refl
     c.status_of.ensures

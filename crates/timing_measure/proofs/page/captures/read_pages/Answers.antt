@@ -1,19 +1,20 @@
 use Rattle.std.proofs.Common.{[], true}
+use Rattle.timing_base.specs.Captures.{joined}
 use Rattle.timing_measure.specs.page.Ends.{EndsPage, PairStandsFor, TellsPair}
 use Rattle.timing_measure.specs.page.Shown.{IsFlowPage}
 use Rattle.timing_measure.proofs.Taken.{flows-end}
-use Rattle.timing_measure.proofs.page.capture.read_pages.Goals as goal
+use Rattle.timing_measure.proofs.page.captures.read_pages.Goals as goal
 
 pub returns-clause-told : goal.returns-clause-told
-returns-clause-told g c = λ text whole.
-    let taken = c.in_ok-taken.ensures.told text whole in
+returns-clause-told g c = λ texts whole.
+    let taken = c.in_ok-taken.ensures.told texts whole in
     record {
-      items = taken.items;
+      files = taken.files;
       records = taken.records;
-      are = flows-end true PairStandsFor TellsPair (tt, tt) EndsPage IsFlowPage c.args.job.now.options c.args.media.now taken.items
+      are = flows-end true PairStandsFor TellsPair (tt, tt) EndsPage IsFlowPage c.args.job.now.options c.args.first c.args.media.now (joined taken.files)
           c.in_ok-taken.taken.flows.items c.in_ok-flows.flows.items (λ f e ends m number packets h. ends m number c.args.job.now.options packets h)
           taken.are c.in_ok-flows.ensures;
-      found_is = c.in_ok-found.ensures taken.items (taken.beside [] c.new-scan.ensures.stands);
+      found_is = c.in_ok-found.ensures (joined taken.files) (taken.beside [] c.new-scan.ensures.stands);
     }
 
 pub returns-clause-some : goal.returns-clause-some
@@ -21,7 +22,7 @@ returns-clause-some g c =
     let taken = c.in_ok-taken.ensures.some in
     record {
       items = taken.items;
-      are = flows-end true PairStandsFor TellsPair (tt, tt) EndsPage IsFlowPage c.args.job.now.options c.args.media.now taken.items
+      are = flows-end true PairStandsFor TellsPair (tt, tt) EndsPage IsFlowPage c.args.job.now.options c.args.first c.args.media.now taken.items
           c.in_ok-taken.taken.flows.items c.in_ok-flows.flows.items (λ f e ends m number packets h. ends m number c.args.job.now.options packets h)
           taken.are c.in_ok-flows.ensures;
     }
