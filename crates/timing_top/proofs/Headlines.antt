@@ -67,7 +67,7 @@ same-follows job workers i outcome (inr (inr read)) = inr (inr (read.0, λ text 
     on (Ok media) h = early media (no_choice job.media media) h
 
 -- each name that is told has a text
-told-length : (texts : List ℕ → Option (List ℕ)) (names told : List (List ℕ)) → AreTold texts names told → length told ≡ length names
+pub told-length : (texts : List ℕ → Option (List ℕ)) (names told : List (List ℕ)) → AreTold texts names told → length told ≡ length names
 told-length texts [] [] h = refl
 told-length texts [] (t ∷ ts) h = absurd h
 told-length texts (n ∷ ns) [] h = absurd h
