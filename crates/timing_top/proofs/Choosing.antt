@@ -94,6 +94,7 @@ rows-few only media rows choice few h =
     (λ row within. omega (arith, first-few only choice, within, few)) rows h
 
 -- the flows of results under their numbers
-pub keys-chosen : (first : ℕ) (rows : List Row) → map (λ (row : Row). row.key) (map (row_from first) rows) ≡ map (key_from first) (map (λ (row : Row). row.key) rows)
+pub keys-chosen : (first : ℕ) (rows : List Row)
+    → map (λ (row : Row). row.key) (map (row_from first) rows) ≡ map (key_from first) (map (λ (row : Row). row.key) rows)
 keys-chosen first [] = refl
 keys-chosen first (row ∷ rows) = ap (λ l. key_from first row.key ∷ l) (keys-chosen first rows)
