@@ -1,4 +1,4 @@
-use Rattle.std.proofs.Common.{◌≡◌, ◌≤◌, ap, arith, length, rules}
+use Rattle.std.proofs.Common.{◌≤◌, ap, arith, length, rules}
 use Rattle.timing_measure.proofs.Chosen.{chosen-few}
 use Rattle.timing_measure.proofs.flows.judged.judged_media.Goals as goal
 
