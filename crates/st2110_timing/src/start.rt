@@ -13,7 +13,7 @@ use std::alloc::AllocError as OutOfMemory;
 use std::env;
 use std::io::ErrorKind;
 use std::process::ExitCode;
-use std::rt::Env;
+use std::rt::{Env, Files};
 use std::sync::Wait;
 use std::thread::Threads;
 use timing_outside::{Gate, Shelf, Sink, put_all};
@@ -56,7 +56,7 @@ fn print_line<K: Sink>(err: &mut K, status: Status)
 /// Runs the arguments of the process by [`run`], and then explains the status on standard error. Returns the code of
 /// the status. If there is no memory for the arguments, the status is [`Status::OutOfMemory`].
 pub(crate) fn start<
-    R: Env + AllocGlobal + Threads + Wait + Sync,
+    R: Env + Files + AllocGlobal + Threads + Wait + Sync,
     H: Shelf + Causes,
     K: Sink,
     G: Gate,
@@ -74,6 +74,6 @@ where
         return ExitCode::from(Status::OutOfMemory.code());
     };
     let status = run(rt, rt.alloc(), &arguments.words, shelf, out, err, gate);
-    explain_status(rt.alloc(), &arguments, status, shelf, err);
+    explain_status(rt, &arguments, status, shelf, err);
     ExitCode::from(status.code())
 }

@@ -4,6 +4,7 @@ ghost use Rattle.std.specs.Prelude.{◌≡◌, ◌≤◌, IfOk, length, string_b
 ghost use Rattle.std.specs.List.{list_all};
 ghost use Rattle.usage_hints.specs.Lines.{ends_line, is_line_byte};
 
+use crate::description::explained;
 use crate::escape::shown;
 use crate::sdp::expected;
 use crate::usage::{not_text_lines, usage_hint};
@@ -29,6 +30,8 @@ pub struct Ending<'a> {
     pub input: Option<&'a str>,
     /// The reason why that input couldn't be opened or read.
     pub cause: Option<&'a str>,
+    /// The contents of that input, if it is an invalid session description and could be read once more.
+    pub contents: Option<&'a [u8]>,
 }
 
 /// Returns the session description of a request.
@@ -137,14 +140,33 @@ fn read_line(alloc: Global, name: &str, cause: &str) -> Result<String, OutOfMemo
     format!(in alloc; "{shown}: {cause}{advice}\n")
 }
 
+/// Returns what is wrong with a session description: the invalid line itself if its contents are known,
+/// and what is expected there.
+fn description_text(
+    alloc: Global,
+    contents: Option<&[u8]>,
+    fault: SdpFault,
+) -> Result<String, OutOfMemory> {
+    match contents {
+        Some(contents) => explained(alloc, contents, fault),
+        None => String::from_str(alloc, expected(fault.what)),
+    }
+}
+
 /// Returns the line of an invalid session description.
-fn description_line(alloc: Global, name: &str, fault: SdpFault) -> Result<String, OutOfMemory> {
-    let (shown, expected) = (shown(alloc, name)?, expected(fault.what));
+fn description_line(
+    alloc: Global,
+    name: &str,
+    contents: Option<&[u8]>,
+    fault: SdpFault,
+) -> Result<String, OutOfMemory> {
+    let shown = shown(alloc, name)?;
+    let text = description_text(alloc, contents, fault)?;
     if fault.line == 0 {
-        format!(in alloc; "{shown}: {expected}\n")
+        format!(in alloc; "{shown}: {text}\n")
     } else {
         let line = fault.line;
-        format!(in alloc; "{shown}: line {line}: {expected}\n")
+        format!(in alloc; "{shown}: line {line}: {text}\n")
     }
 }
 
@@ -157,7 +179,7 @@ fn report_line(alloc: Global, name: &str) -> Result<String, OutOfMemory> {
 /// Returns the lines about the input of this name.
 fn input_lines(alloc: Global, ending: Ending<'_>, name: &str) -> Result<String, OutOfMemory> {
     match (ending.status, ending.cause) {
-        (Status::SdpRefused(fault), _) => description_line(alloc, name, fault),
+        (Status::SdpRefused(fault), _) => { description_line(alloc, name, ending.contents, fault) }
         (Status::ReportRefused, _) => report_line(alloc, name),
         (Status::ReadFault(_), Some(cause)) => read_line(alloc, name, cause),
         (Status::ReadFault(_), None) => read_line(alloc, name, "it couldn't be read"),

@@ -6,6 +6,7 @@
 //! the parser agree.
 #![tactic(auto)]
 
+mod description;
 mod ending;
 mod escape;
 mod fault;
