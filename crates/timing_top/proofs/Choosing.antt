@@ -83,13 +83,18 @@ rows-chosen only session rows h =
     (λ row within. chosen-within only session row.key.media within) rows h)
 
 -- and their numbers have 32 bits
-pub rows-few : (only : Option ℕ) (session : List Media) (rows : List Row) → length session ≤ 64 → AreOfSession (chosen only session) rows
+first-few : (only : Option ℕ) → IsChoice only → first_chosen only < 64
+first-few None h = omega arith
+first-few (Some first) h = h
+
+pub rows-few : (only : Option ℕ) (media : List Media) (rows : List Row) → IsChoice only → length media ≤ 64 → AreOfSession media rows
     → All (λ (row : Row). first_chosen only + row.key.media < 2 ^ 32) rows
-rows-few only session rows few h =
-    All-weaker (λ (row : Row). row.key.media < length (chosen only session)) (λ (row : Row). first_chosen only + row.key.media < 2 ^ 32)
-    (λ row within. let less = chosen-within only session row.key.media within in omega (arith, less, few)) rows h
+rows-few only media rows choice few h =
+    All-weaker (λ (row : Row). row.key.media < length media) (λ (row : Row). first_chosen only + row.key.media < 2 ^ 32)
+    (λ row within. omega (arith, first-few only choice, within, few)) rows h
 
 -- the flows of results under their numbers
-pub keys-chosen : (first : ℕ) (rows : List Row) → map (λ (row : Row). row.key) (map (row_from first) rows) ≡ map (key_from first) (map (λ (row : Row). row.key) rows)
+pub keys-chosen : (first : ℕ) (rows : List Row)
+    → map (λ (row : Row). row.key) (map (row_from first) rows) ≡ map (key_from first) (map (λ (row : Row). row.key) rows)
 keys-chosen first [] = refl
 keys-chosen first (row ∷ rows) = ap (λ l. key_from first row.key ∷ l) (keys-chosen first rows)
