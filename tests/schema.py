@@ -117,6 +117,8 @@ WRONG = [
     ("an offset beyond 32 bits", MEASURED, "flows 0 runs 0 offset least", -(2**31) - 1),
     ("two frames without a step", MEASURED, "flows 0 runs 0 step", REMOVED),
     ("one frame with a step", MEASURED, "flows 0 runs 0 frames", 1),
+    ("one capture without its end", MEASURED, "end", REMOVED),
+    ("a capture and a list of captures", MEASURED, "files", [{"end": "end", "name": "a.pcap"}, {"end": "end", "name": "b.pcap"}]),
     ("40 packets without a gap", MEASURED, "flows 0 runs 0 gap", REMOVED),
     ("a target of the last packets", MEASURED, "flows 0 runs 0 last target", 764444),
     ("a type of another name", MEASURED, "flows 0 runs 0 types 2 type", "WW"),
