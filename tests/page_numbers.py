@@ -22,6 +22,8 @@ from typing import NamedTuple
 TYPES = ("N", "NL", "W")
 CLASSES = {"N": "narrow", "NL": "narrow linear", "W": "wide"}
 SECOND = 10**9
+# The greatest offset that TROFF gives, in microseconds.
+MOST_TROFF = 10**6
 ACTIVE_OF_FIELDS = (Fraction(1080, 1125), Fraction(576, 625), Fraction(487, 525))
 OFFSET_OF_FIELDS = (Fraction(22, 1125), Fraction(26, 625), Fraction(20, 525))
 # A row of `series`.
@@ -228,7 +230,8 @@ def runs_of(program: Program, capture: str, media: Media, flow: dict) -> list[Ru
 
 @dataclass
 class Type:
-    """A sender type and a run: its limits, the violation that `check` names, the packets that break each model, and the slack."""
+    """A sender type and a run: its limits, the violation that `check` names, the packets that break each model, the slack, and the offsets
+    in microseconds with which its packets would keep the buffer."""
 
     kind: str
     c_max: int
@@ -242,6 +245,8 @@ class Type:
     late: list[int]
     slack: int
     frames_broken: int
+    least: int | None
+    greatest: int | None
 
     def __post_init__(self) -> None:
         self.passes = not self.frames_broken
@@ -250,15 +255,24 @@ class Type:
             sys.exit(f"page_check: {self.kind}: `check` prints the violation {self.violation}, and by `series` it is at packet {first}")
 
 
-def margins(media: Media, run: Run, gapped: bool) -> tuple[list[int], int]:
-    """The time from each packet to its own read, in parts of a nanosecond, and the number of parts in one."""
+def reads_of(media: Media, run: Run, gapped: bool) -> tuple[list[int], int]:
+    """The instant of each packet's own read, in parts of a nanosecond, and the number of parts in one."""
     step = media.frame_ns * (media.active if gapped else 1) / (run.n * media.fields)
     periods = floor((run.packets[0].stamp - media.offset) / media.period + Fraction(1, 2))
     begin = periods * media.period + media.offset
     parts = lcm(begin.denominator, media.period.denominator, step.denominator)
     begin, period, step = int(begin * parts), int(media.period * parts), int(step * parts)
-    reads = (begin + i // run.n * period + i % run.n * step for i in range(len(run.packets)))
-    return [read - packet.stamp * parts for read, packet in zip(reads, run.packets)], parts
+    return [begin + i // run.n * period + i % run.n * step for i in range(len(run.packets))], parts
+
+
+def offsets(media: Media, run: Run, reads: list[int], parts: int, vrx_full: int) -> tuple[int | None, int | None]:
+    """The least and the greatest offset from 0 to 1,000,000 us with which no packet comes after its own read, and none before the read that
+    makes room for it."""
+    stamps = [packet.stamp * parts for packet in run.packets]
+    own, micro = int(media.offset * parts), 1000 * parts
+    least = max(0, *(-((read - own - stamp) // micro) for read, stamp in zip(reads, stamps)))
+    greatest = min(MOST_TROFF, *((stamp - (read - own)) // micro for stamp, read in zip(stamps[vrx_full:], reads)), MOST_TROFF)
+    return least if least <= MOST_TROFF else None, greatest if greatest >= 0 else None
 
 
 def above(numbers: list[int], limit: int) -> list[int]:
@@ -270,13 +284,14 @@ def type_of(media: Media, run: Run, kind: str) -> Type:
     """A type, by its reads: N has gapped ones, the others linear ones."""
     reads = "gapped" if kind == "N" else "linear"
     c_max, vrx_full = media.c_max(kind, run.n), media.vrx_full(kind, run.n)
-    margin, parts = margins(media, run, kind == "N")
+    own_reads, parts = reads_of(media, run, kind == "N")
+    margin = [read - packet.stamp * parts for read, packet in zip(own_reads, run.packets)]
     bucket, buffer = above(run.of_packets("bucket"), c_max), above(run.of_packets(reads), vrx_full)
     late = [i for i, before in enumerate(margin) if before < 0]
     broken = {i // run.n for i in bucket + buffer + late}
     violation = run.judged["types"][TYPES.index(kind)].get("proof")
     return Type(kind, c_max, vrx_full, violation, run.peak("bucket"), run.peak(reads), run.of_packets(reads), bucket, buffer, late,
-                min(margin) // parts, len(broken))
+                min(margin) // parts, len(broken), *offsets(media, run, own_reads, parts, vrx_full))
 
 
 # --- a capture --------------------------------------------------------------------------------------------------------------------------

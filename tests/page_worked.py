@@ -98,6 +98,16 @@ def late_words(t: Type) -> str:
     return f"; {counted(len(t.late), 'packet')} too late for the reads, first packet {t.late[0]}, at worst {span(-t.slack)} late"
 
 
+def offset_words(t: Type, media: Media) -> str:
+    """The offsets with which the buffer would pass, of a type whose bucket passes."""
+    if t.above_bucket:
+        return ""
+    if t.least is None or t.greatest is None or t.least > t.greatest:
+        return " With no offset would its buffer pass."
+    own = in_unit(floor(media.offset), "µs")
+    return f" With an offset of {t.least} to {t.greatest} µs its buffer would pass; the description's is {own} µs."
+
+
 def type_sentence(t: Type, media: Media, run: Run, tai: int) -> str:
     """A type in words."""
     peaks = f"{SIGNS[t.passes]} {t.kind}: bucket {t.bucket_peak} of {t.c_max}, buffer {t.buffer_peak} of {t.vrx_full}"
@@ -107,7 +117,7 @@ def type_sentence(t: Type, media: Media, run: Run, tai: int) -> str:
     packet = run.packets[last]
     breaks = above_words("bucket", t.above_bucket) + above_words("buffer", t.above_buffer) + late_words(t)
     return (f"{peaks}; broken by {t.frames_broken} of {counted(len(run.frames), media.noun)}{breaks}. Packet {last}, with which the"
-            f" verdict's fail ends, is record {packet.record}, capture timestamp {epoch(packet.stamp, tai)}.")
+            f" verdict's fail ends, is record {packet.record}, capture timestamp {epoch(packet.stamp, tai)}.{offset_words(t, media)}")
 
 
 def run_sentence(run: Run, tai: int) -> str:

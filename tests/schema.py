@@ -127,6 +127,8 @@ WRONG = [
     ("a bucket that counts what is below 0", MEASURED, "flows 0 runs 0 types 0 bucket below", 0),
     ("a pass, and a frame that breaks", MEASURED, "flows 0 runs 0 types 0 frames_broken", 1),
     ("a pass, and a packet above the limit", MEASURED, "flows 0 runs 0 types 0 bucket above", 1),
+    ("a type without offsets", MEASURED, "flows 0 runs 0 types 0 troff", REMOVED),
+    ("an offset above a second", MEASURED, "flows 0 runs 0 types 2 troff greatest", 1000001),
     ("a pass with a proof", MEASURED_BURST, "flows 0 runs 0 types 0 pass", True),
     ("a fail without a proof", MEASURED_BURST, "flows 0 runs 0 types 0 proof", REMOVED),
     ("a proof without the record of packet `to`", MEASURED_BURST, "flows 0 runs 0 types 0 proof record", REMOVED),

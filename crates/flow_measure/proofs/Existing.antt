@@ -24,10 +24,11 @@ use Rattle.flow_measure.specs.Classes.{is_in_class}
 use Rattle.flow_measure.specs.First.{IsFirst}
 use Rattle.flow_measure.specs.Gaps.{AreGapsOf, gap_after}
 use Rattle.flow_measure.specs.Groups.{firsts_of, lasts_of, latency_at, offset_at, since_at, step_after}
-use Rattle.flow_measure.specs.Kinds.{AreBinsOf, AreKindNumbers, Packets, breaks, place_below}
+use Rattle.flow_measure.specs.Kinds.{AreBinsOf, breaks, place_below}
 use Rattle.flow_measure.specs.Occupancy.{buckets_of, late_of, margin_of}
 use Rattle.flow_measure.specs.Places.{place_of}
-use Rattle.flow_measure.specs.Run.{IsBuffer, IsMeasured, anchor_in, packets_of}
+use Rattle.offset_window.proofs.Unique.{window-some}
+use Rattle.flow_measure.specs.Run.{IsBuffer, IsKind, IsMeasured, anchor_in, packets_of}
 use Rattle.flow_measure.specs.Stands.{Classifies}
 use Rattle.flow_measure.specs.Summary.{IsGreatest, IsLeast, IsSummary, sum_of}
 use Rattle.flow_measure.specs.Worked.{summary}
@@ -308,10 +309,15 @@ buffer-some m n stamps gapped is some_n some =
       is = record { are = λ i few. record { reads = (due i).0; due = (due i).1; is = refl }; summary = s.1; slack = slack.1; late = refl };
     }
 
--- how near the packets come to the limits of a type
-kind-some : (n groups count c_max full : ℕ) (named : Option ℕ) (p : Packets) → count ≤ 2 ^ 41
-    → (k : KindNumbers) × AreKindNumbers n groups count c_max full named p k
-kind-some n groups count c_max full named p few =
+-- how near the packets come to the limits of a type, and the offsets with which they would keep the buffer
+kind-some : (m : Media) (n groups : ℕ) (stamps records : List ℕ) (at : ℕ → ℤ) (kind : Kind) (named : Option ℕ) → length stamps ≤ 2 ^ 41
+    → (k : KindNumbers) × IsKind m n groups stamps records at kind named k
+kind-some m n groups stamps records at kind named few =
+    let count = length stamps in
+    let c_max = c_max_of m n kind in
+    let full = vrx_full_of m n kind in
+    let p = packets_of m n stamps records at kind in
+    let window = window-some m n stamps kind in
     let bucket = bins-some c_max p.bucket count few in
     let buffer = bins-some full p.occupancy count few in
     let overfull = first-some p.overfull count in
@@ -325,16 +331,20 @@ kind-some n groups count c_max full named p few =
       first_over = over.0;
       first_empty = empty.0;
       named = place_below p.rec p.stamp count named;
+      troff = window.0;
     } in (
       k,
       record {
-        groups_broken = refl;
-        bucket = bucket.are;
-        buffer = buffer.are;
-        first_bucket = overfull.1;
-        first_over = over.1;
-        first_empty = empty.1;
-        named_is = refl;
+        numbers = record {
+          groups_broken = refl;
+          bucket = bucket.are;
+          buffer = buffer.are;
+          first_bucket = overfull.1;
+          first_over = over.1;
+          first_empty = empty.1;
+          named_is = refl;
+        };
+        troff = window.1;
       },
     )
 
@@ -348,8 +358,7 @@ numbers-some m n groups stamps records timestamps named is some_n some_groups wh
     let bucket = summary-some (buckets_of m n stamps) count (omega (arith, some)) in
     let gapped = buffer-some m n stamps true is some_n (omega (arith, some)) in
     let linear = buffer-some m n stamps false is some_n (omega (arith, some)) in
-    let kind = λ (at : ℕ → ℤ) (k : Kind) (to : Option ℕ).
-    kind-some n groups count (c_max_of m n k) (vrx_full_of m n k) to (packets_of m n stamps records at k) few in
+    let kind = λ (at : ℕ → ℤ) (k : Kind) (to : Option ℕ). kind-some m n groups stamps records at k to few in
     let narrow = kind gapped.at N (slice_index_or named 0 None) in
     let narrow_linear = kind linear.at NL (slice_index_or named 1 None) in
     let wide = kind linear.at W (slice_index_or named 2 None) in

@@ -6,6 +6,8 @@ use Rattle.timing_base.specs.Media.{IsMedia, Media}
 use Rattle.timing_base.specs.declared.media.Kind.{Kind}
 use Rattle.timing_base.specs.declared.media.Kind.TheVariants.{N, NL, W}
 use Rattle.sender_params.specs.Limits.{c_max_of, gapped_of, vrx_full_of}
+use Rattle.offset_window.specs.Window.{IsWindow}
+use Rattle.offset_window.specs.declared.window.Window.{Window}
 use Rattle.flow_measure.specs.Fed.{MeasuresKind, MeasuresType, kind_in}
 use Rattle.flow_measure.specs.First.{IsFirst}
 use Rattle.flow_measure.specs.Kinds.{AreKindNumbers, Packets, breaks}
@@ -67,16 +69,20 @@ pub kind-is : (kind : Kind) (m : Media) (n groups : ℕ) (x : RunMeters) (stamps
     → ((n c_max full : ℕ) (named : Option ℕ) (p : Packets) → MeasuresKind n c_max full (kind_in kind x.models) p
     → IsFirst (breaks p) (kind_in kind x.models).bucket.seen named
     → AreKindNumbers n (kind_in kind x.models).broken.whole (kind_in kind x.models).bucket.seen c_max full named p k)
+    → (troff : Window) → IsWindow m n stamps kind troff → k.troff ≡ troff
     → IsKind m n groups stamps records occupancy kind named k
-kind-is kind m n groups x stamps records occupancy named k all over h first finish =
+kind-is kind m n groups x stamps records occupancy named k all over h first finish troff window same =
     let p = packets_of m n stamps records occupancy kind in
     let c_max = c_max_of m n kind in
     let full = vrx_full_of m n kind in
     let meter = kind_in kind x.models in
     let count : meter.bucket.seen ≡ length stamps = kind-seen kind x.models ∙ all in
     let told = finish n c_max full named p h.fed (subst (λ c. IsFirst (breaks p) c named) (sym count) first) in
-    subst (λ g. AreKindNumbers n g (length stamps) c_max full named p k) over
-    (subst (λ c. AreKindNumbers n meter.broken.whole c c_max full named p k) count told)
+    record {
+      numbers = subst (λ g. AreKindNumbers n g (length stamps) c_max full named p k) over
+          (subst (λ c. AreKindNumbers n meter.broken.whole c c_max full named p k) count told);
+      troff = subst (IsWindow m n stamps kind) (sym same) window;
+    }
 
 -- there are no numbers where there is no packet
 pub none-measured : (m : Media) (n groups : ℕ) (named : List (Option ℕ)) (stamps records timestamps : List ℕ) (result : Option RunNumbers)

@@ -27,4 +27,5 @@ pub mod Summarized
 pub mod Unique
 pub mod Waiting
 pub mod Widths
+pub mod Windowed
 pub mod lemmas

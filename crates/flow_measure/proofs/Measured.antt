@@ -39,7 +39,7 @@ pub bucket-by-bins : (m : Media) (n groups : ℕ) (stamps records : List ℕ) (o
     → KeepsBucket m n stamps kind ↔ (k.bucket.above ≡ 0)
 bucket-by-bins m n groups stamps records occupancy kind named k falls is =
     let passes = bucket-passes m n stamps kind falls in
-    let above = above-is (c_max_of m n kind) (length stamps) (buckets_of m n stamps) k.bucket is.bucket in
+    let above = above-is (c_max_of m n kind) (length stamps) (buckets_of m n stamps) k.bucket is.numbers.bucket in
     (λ keeps. above ∙ passes.0 keeps, λ none. passes.1 (sym above ∙ none))
 
 pub buffer-by-bins : (m : Media) (n groups : ℕ) (stamps records : List ℕ) (occupancy : ℕ → ℤ) (kind : Kind) (named : Option ℕ) (k : KindNumbers)
@@ -52,7 +52,7 @@ pub buffer-by-bins : (m : Media) (n groups : ℕ) (stamps records : List ℕ) (o
     → KeepsBuffer m n stamps kind ↔ ((k.buffer.above ≡ 0) × (b.margins.late ≡ 0))
 buffer-by-bins m n groups stamps records occupancy kind named k b media some falls held is =
     let passes = buffer-passes m n stamps kind occupancy media some falls held.are in
-    let above = above-is (vrx_full_of m n kind) (length stamps) occupancy k.buffer is.buffer in
+    let above = above-is (vrx_full_of m n kind) (length stamps) occupancy k.buffer is.numbers.buffer in
     (λ keeps. let p = passes.0 keeps in (above ∙ p.0, held.late ∙ p.1), λ none. passes.1 (sym above ∙ none.0, sym held.late ∙ none.1))
 
 -- a place that passes and one that doesn't
@@ -132,18 +132,22 @@ pub kind-same : (m : Media) (n groups : ℕ) (stamps records : List ℕ) (occupa
     → IsKind m n groups stamps records others kind named k
 kind-same m n groups stamps records occupancy others kind named k are be h =
     let same = occupancies-once m n stamps (gapped_of kind) others occupancy be are in
+    let a = h.numbers in
     record {
-      groups_broken = h.groups_broken;
-      bucket = h.bucket;
-      buffer = record {
-        limit_is = h.buffer.limit_is;
-        seen = h.buffer.seen;
-        counts = bins-agree k.buffer occupancy others (λ i few. same i (omega (arith, few, h.buffer.seen))) h.buffer.counts;
+      numbers = record {
+        groups_broken = a.groups_broken;
+        bucket = a.bucket;
+        buffer = record {
+          limit_is = a.buffer.limit_is;
+          seen = a.buffer.seen;
+          counts = bins-agree k.buffer occupancy others (λ i few. same i (omega (arith, few, a.buffer.seen))) a.buffer.counts;
+        };
+        first_bucket = a.first_bucket;
+        first_over = a.first_over;
+        first_empty = a.first_empty;
+        named_is = a.named_is;
       };
-      first_bucket = h.first_bucket;
-      first_over = h.first_over;
-      first_empty = h.first_empty;
-      named_is = h.named_is;
+      troff = h.troff;
     }
 
 -- there is one list of bins, and one of classes

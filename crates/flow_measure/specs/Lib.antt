@@ -19,6 +19,7 @@ pub mod Run
 pub mod Measured
 -- the state of the meters of a run
 pub mod Fed
+pub mod Offsets
 pub mod Margins
 pub mod Metered
 pub mod RunStands

@@ -17,6 +17,7 @@ use Rattle.flow_measure.specs.Groups.{firsts_of, lasts_of}
 use Rattle.flow_measure.specs.Kinds.{Packets}
 use Rattle.flow_measure.specs.Margins.{Times, read_in}
 use Rattle.flow_measure.specs.Occupancy.{AreOccupancies, buckets_of}
+use Rattle.flow_measure.specs.Offsets.{MeasuresWindows}
 use Rattle.flow_measure.specs.Run.{anchor_in}
 use Rattle.flow_measure.specs.declared.group_meter.Group.{Group}
 use Rattle.flow_measure.specs.declared.meters.RunMeters.{RunMeters}
@@ -53,6 +54,7 @@ pub record Begins (m : Media) (packet : RunPacket) (old new : RunMeters) : Type 
   pub linear_is : new.linear ≡ old.linear
   pub groups_are : new.groups ≡ old.groups
   pub gaps_are : new.gaps ≡ old.gaps
+  pub windows_are : new.windows ≡ old.windows
 
 -- `group` has the first packet of frame or field k
 pub record HasBegun (n k : ℕ) (stamps timestamps : List ℕ) (group : Group) : Type 0 where
@@ -74,6 +76,7 @@ pub record Measures (m : Media) (n : ℕ) (x : RunMeters) (stamps records timest
   pub groups_are : (stamp timestamp : ℕ → ℕ) → AreListed stamps stamp → AreListed timestamps timestamp
       → MeasuresGroups m x.n0 x.groups (firsts_of n stamp) (lasts_of n stamp) (firsts_of n timestamp)
   pub gaps_are : (stamp : ℕ → ℕ) → AreListed stamps stamp → MeasuresGaps x.gaps stamp
+  pub windows_are : MeasuresWindows m n x.windows stamps
 
 -- the first packets that break a limit, for N, NL and W in this order
 pub record AreFirst (m : Media) (n : ℕ) (stamps : List ℕ) (named : List (Option ℕ)) : Type 0 where

@@ -13,6 +13,7 @@ use Rattle.sender_params.specs.Keeps.{is_empty, is_over}
 use Rattle.sender_params.specs.Limits.{c_max_of, vrx_full_of}
 use Rattle.sender_params.specs.Reads.{anchor_of}
 use Rattle.sender_params.specs.Times.{offset_time}
+use Rattle.offset_window.specs.Window.{IsWindow}
 use Rattle.flow_measure.specs.Bins.{is_above}
 use Rattle.flow_measure.specs.Gaps.{AreGapsOf}
 use Rattle.flow_measure.specs.Groups.{firsts_of, lasts_of, latency_at, offset_at, since_at, step_after}
@@ -39,12 +40,13 @@ packets_of m n stamps records occupancy kind = record {
   stamp = slice_index stamps;
 }
 
--- the measurements of the packets against the limits of this type, with the place of packet `named`
-abbrev pub IsKind : Media → (n groups : ℕ) → (stamps records : List ℕ) → (occupancy : ℕ → ℤ) → Kind → Option ℕ
-    → KindNumbers → Type 0
-IsKind m n groups stamps records occupancy kind named k =
-    AreKindNumbers n groups (length stamps) (c_max_of m n kind) (vrx_full_of m n kind) named
-    (packets_of m n stamps records occupancy kind) k
+-- the measurements of the packets against the limits of this type, with the place of packet `named`, and the offsets
+-- with which the packets would keep the buffer
+pub record IsKind (m : Media) (n groups : ℕ) (stamps records : List ℕ) (occupancy : ℕ → ℤ) (kind : Kind)
+    (named : Option ℕ) (k : KindNumbers) : Type 0 where
+  pub numbers : AreKindNumbers n groups (length stamps) (c_max_of m n kind) (vrx_full_of m n kind) named
+      (packets_of m n stamps records occupancy kind) k
+  pub troff : IsWindow m n stamps kind k.troff
 
 -- the measurements for the types N, NL and W: the reads of N are gapped, those of NL and W linear
 abbrev pub AreKinds : Media → (n groups : ℕ) → (stamps records : List ℕ) → (gapped linear : ℕ → ℤ)

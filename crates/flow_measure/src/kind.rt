@@ -6,6 +6,7 @@ use crate::bins::Bins;
 use crate::broken::{BrokenGroups, either};
 use crate::first::first_with;
 use crate::numbers::{KindNumbers, Place};
+use offset_window::Window;
 use sender_params::Params;
 use timing_base::Kind;
 use vrx_buffer::Held;
@@ -91,9 +92,11 @@ impl KindMeter {
         self.broken.end_group();
     }
 
-    /// Returns the measurements of the type. Its `groups_broken` counts complete frames or fields only.
-    pub fn finish(&self) -> KindNumbers
-        ensures { (n c_max full : ℕ) (named : Option ℕ) (packets : Packets) → MeasuresKind n c_max full self.now packets
+    /// Returns the measurements of the type, with the offsets that its packets would keep the buffer with. Its
+    /// `groups_broken` counts complete frames or fields only.
+    pub fn finish(&self, troff: Window) -> KindNumbers
+        ensures troff { result.troff ≡ troff }
+        ensures numbers { (n c_max full : ℕ) (named : Option ℕ) (packets : Packets) → MeasuresKind n c_max full self.now packets
             → IsFirst (breaks packets) self.now.bucket.seen named
             → AreKindNumbers n self.now.broken.whole self.now.bucket.seen c_max full named packets result }
     {
@@ -105,6 +108,7 @@ impl KindMeter {
             first_over: self.first_over,
             first_empty: self.first_empty,
             named: self.named,
+            troff,
         }
     }
 }

@@ -328,7 +328,7 @@ pub fn some_measure()
         → (x : RunNumbers) × IsMeasured m n groups stamps records timestamps named x }
 {}
 
-/// The measurements of a run are unique: summaries, steps, target, counts, first packets and places.
+/// The measurements of a run are unique: summaries, steps, target, counts, first packets, places and offsets.
 pub fn one_measure()
     ensures bucket { (m : Media) (n groups : ℕ) (stamps records timestamps : List ℕ) (named : List (Option ℕ))
         (x other : RunNumbers) → IsMeasured m n groups stamps records timestamps named x
@@ -350,7 +350,7 @@ pub fn one_measure()
         → (k.groups_broken ≡ other.groups_broken) × (k.first_bucket ≡ other.first_bucket)
         × (k.first_over ≡ other.first_over) × (k.first_empty ≡ other.first_empty) × (k.named ≡ other.named)
         × (k.bucket.above ≡ other.bucket.above) × (k.buffer.above ≡ other.buffer.above)
-        × (k.buffer.below ≡ other.buffer.below) }
+        × (k.buffer.below ≡ other.buffer.below) × (k.troff ≡ other.troff) }
     ensures bins { (limit : ℕ) (numbers : ℕ → ℤ) (count : ℕ) (counts other : List ℕ)
         → AreBins limit numbers count counts → AreBins limit numbers count other → counts ≡ other }
     ensures classes { (numbers : ℕ → ℕ) (count : ℕ) (counts other : List ℕ)

@@ -10,12 +10,13 @@ use crate::margin::MarginMeter;
 use crate::models::ModelMeters;
 use crate::numbers::{Place, RunNumbers};
 use crate::target::target_of;
+use crate::windows::WindowMeters;
 use run_meter::{Level, RunPacket};
 use sender_params::Params;
 
 /// A meter of all measurements of one run.
 ///
-/// It keeps no history: its size, about four thousand bytes, doesn't grow with the count of packets.
+/// It keeps no history: its size, about five thousand bytes, doesn't grow with the count of packets.
 #[derive(Clone, Copy)]
 pub struct RunMeters {
     /// The position of the next packet in its frame or field.
@@ -29,6 +30,7 @@ pub struct RunMeters {
     linear: MarginMeter,
     groups: GroupMeter,
     gaps: GapMeter,
+    windows: WindowMeters,
     ghost n0_low: { negsuc 479 ≤ℤ n0 },
     ghost n0_high: { n0 ≤ℤ pos (2 ^ 42) },
     ghost models_are: { models.bucket.seen + models.waits ≡ walk.seen },
@@ -38,6 +40,7 @@ pub struct RunMeters {
     ghost linear_room: { linear.latest ≤ 2 ^ 110 + walk.seen * 2 ^ 70 },
     ghost groups_are: { groups.first.seen ≡ walk.group },
     ghost gaps_are: { gaps.seen ≡ walk.seen },
+    ghost windows_are: { windows.narrow.seen ≡ walk.seen },
 }
 
 impl RunMeters {
@@ -67,6 +70,7 @@ impl RunMeters {
             linear: MarginMeter::new(params, false),
             groups: GroupMeter::new(),
             gaps: GapMeter::new(),
+            windows: WindowMeters::new(params),
         }
     }
 
@@ -94,6 +98,7 @@ impl RunMeters {
         self.gapped.feed(packet.at);
         self.linear.feed(packet.at);
         self.gaps.feed(packet.at);
+        self.windows.feed(params, packet.at);
         if self.walk.pass() {
             let group = Group {
                 first: self.group.first,
@@ -167,14 +172,17 @@ impl RunMeters {
         let gapped = self.models.gapped.finish(gapped)?;
         let linear = self.models.linear.finish(linear)?;
         let groups = self.groups.finish()?;
+        let narrow = self.windows.narrow.finish();
+        let narrow_linear = self.windows.narrow_linear.finish();
+        let wide = self.windows.wide.finish();
         Some(RunNumbers {
             bucket,
             gapped,
             linear,
             kinds: [
-                self.models.narrow.finish(),
-                self.models.narrow_linear.finish(),
-                self.models.wide.finish(),
+                self.models.narrow.finish(narrow),
+                self.models.narrow_linear.finish(narrow_linear),
+                self.models.wide.finish(wide),
             ],
             first: groups.first,
             last: groups.last,

@@ -4,6 +4,7 @@ use crate::bins::Bins;
 use crate::classes::Classes;
 use crate::margin::Margins;
 use crate::summary::Summary;
+use offset_window::Window;
 use timing_base::{Items, Judged, Verdict};
 
 /// The occupancy of the receiver buffer by the reads of one schedule.
@@ -42,6 +43,8 @@ pub struct KindNumbers {
     pub first_empty: Option<u64>,
     /// The place of packet `to` of the violation in the verdict; `None` if the type passes.
     pub named: Option<Place>,
+    /// The offsets (TROFF) with which the packets would keep the buffer, in microseconds.
+    pub troff: Window,
 }
 
 /// The times from each packet to the next, in nanoseconds.

@@ -5,6 +5,7 @@ use Rattle.timing_base.specs.Verdicts.{Judged}
 use Rattle.timing_base.specs.declared.media.Kind.{Kind}
 use Rattle.timing_base.specs.declared.media.Kind.TheVariants.{N, NL, W}
 use Rattle.timing_report.specs.Outcomes.{buffer_peak, verdict_on}
+use Rattle.flow_measure.specs.Told.{micros_of}
 use Rattle.flow_measure.specs.declared.margin.Margins.{Margins}
 use Rattle.flow_measure.specs.declared.numbers.KindNumbers.{KindNumbers}
 use Rattle.flow_measure.specs.declared.numbers.RunNumbers.{RunNumbers}
@@ -36,6 +37,9 @@ type_shown judged numbers kind k = record {
   first_over = k.first_over;
   first_empty = k.first_empty;
   named = k.named;
+  least = micros_of k.troff.lower;
+  greatest = micros_of k.troff.upper;
+  offset = numbers.target;
 }
 
 -- the type at this place of N, NL and W, from 0

@@ -1,6 +1,6 @@
 -- The result of each sender type in words. Packets count from 0 and packet records from 1. Pass and fail have a sign
 -- and a word. This project's own format.
-use Rattle.std.specs.Prelude.{ℕ, ℤ, pos, unsigned_abs, if◌then◌else◌, List, [], ◌++◌, codes}
+use Rattle.std.specs.Prelude.{ℕ, ℤ, pos, nat_le, ◌==◌, unsigned_abs, if◌then◌else◌, List, [], ◌++◌, codes}
 use Rattle.std.specs.Prelude.{Option, Some, None}
 use Rattle.std.specs.Fmt.{decimal, signed_decimal}
 use Rattle.std.specs.Ordering.{int_eq}
@@ -10,7 +10,7 @@ use Rattle.timing_base.specs.declared.row.KindVerdict.{KindVerdict}
 use Rattle.timing_base.specs.declared.row.KindVerdict.TheVariants.{Pass, Fail}
 use Rattle.timing_report.specs.Words.{kind_name}
 use Rattle.flow_measure.specs.declared.numbers.Place.{Place}
-use Rattle.flow_page.specs.Times.{epoch_text, file_time, minus_of, span_text}
+use Rattle.flow_page.specs.Times.{epoch_text, file_time, micro_text, minus_of, span_text}
 use Rattle.flow_page.specs.declared.shown.TypeShown.{TypeShown}
 
 -- pass or fail
@@ -62,11 +62,24 @@ unfoldable pub over_text : TypeShown → List ℕ
 over_text t =
     above_text (codes "bucket") t.above_bucket t.first_bucket ++ above_text (codes "buffer") t.above_buffer t.first_over
 
+-- the text on the offsets from `least` to `greatest` microseconds, with which the buffer would pass, beside that of the
+-- SDP in nanoseconds; or that there is none
+abbrev pub offsets_text : (least greatest : Option ℕ) → (offset : ℕ) → List ℕ
+offsets_text (Some least) (Some greatest) offset =
+    if nat_le least greatest then codes ". With an offset of " ++ (decimal least ++ (codes " to "
+    ++ (decimal greatest ++ (codes " &#181;s its buffer would pass; the description's is "
+    ++ (micro_text offset ++ codes " &#181;s"))))) else codes ". With no offset would its buffer pass"
+offsets_text _ _ offset = codes ". With no offset would its buffer pass"
+
+-- that text, for a type whose bucket passes
+unfoldable pub troff_words : TypeShown → List ℕ
+troff_words t = if t.above_bucket == 0 then offsets_text t.least t.greatest t.offset else []
+
 -- the text on how a type fails
 abbrev pub breaks_text : TypeShown → (group : List ℕ) → (shift : Shift) → FailProof → List ℕ
 breaks_text t group shift proof =
     broken_text t group ++ (over_text t ++ (late_text t.late t.slack t.first_empty
-    ++ named_text proof.to shift t.named))
+    ++ (named_text proof.to shift t.named ++ troff_words t)))
 
 -- the text on the slack of a type that passes
 unfoldable pub later_text : (slack : ℤ) → List ℕ

@@ -36,9 +36,12 @@ kept = record {
   first_over = None;
   first_empty = None;
   named = None;
+  least = Some 764;
+  greatest = Some 8444;
+  offset = 764444;
 }
 
--- type N, which fails with 38 late packets
+-- type N, which fails with 38 late packets: the last of a frame is 760,000 ns later against its read than the first
 abbrev pub late : TypeShown
 late = record kept {
   verdict = Fail (record { model = Empty; from = 1; to = 1; count = 1; limit = 2 });
@@ -47,6 +50,8 @@ late = record kept {
   slack = neg_ℤ (pos 759556);
   first_empty = Some 1;
   named = Some (place 3 1600000000001764000);
+  least = Some 1524;
+  greatest = Some 8764;
 }
 
 -- a violation of this model, with packets, count and limit all different
@@ -73,6 +78,9 @@ apart = record {
   first_over = Some 17;
   first_empty = Some 18;
   named = Some (place 19 1600000000001764000);
+  least = Some 25;
+  greatest = Some 26;
+  offset = 27;
 }
 
 -- the verdict on a run of 3 frames or fields, of which N fails; all numbers differ

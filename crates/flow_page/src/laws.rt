@@ -20,7 +20,7 @@ ghost use Rattle.flow_page.specs.Peaks.{peak_text};
 ghost use Rattle.flow_page.specs.Times.{epoch_text, file_time, span_text, time_text};
 ghost use Rattle.flow_page.specs.Timings.{drift_text, least_step, line_words, most_step, period_of, steps_line};
 ghost use Rattle.flow_page.specs.Timings.{timing_columns, timing_lines, timing_summary, timing_title};
-ghost use Rattle.flow_page.specs.Words.{counted, type_words};
+ghost use Rattle.flow_page.specs.Words.{counted, offsets_text, troff_words, type_words};
 ghost use Rattle.flow_page.specs.Shown.{type_shown};
 ghost use Rattle.flow_page.specs.Worked.{apart, falling, five_from, hardly, kept, late, numbers_apart, region_from};
 ghost use Rattle.flow_page.specs.Worked.{scattered, steps, verdict_apart};
@@ -67,7 +67,21 @@ pub fn words_by_hand()
         ≡ codes "<li><span class=\"fail\">&#10007; fail</span> <b>N</b>: bucket 1 of 4, buffer 1 of 8; broken by 2 "
         ++ (codes "of 2 frames; 38 packets too late for the reads, first packet 1, at worst 759.556 &#181;s late. "
         ++ (codes "Packet 1, with which the verdict's fail ends, is record 3, capture timestamp "
-        ++ codes "1600000000.001764000.</li>\n")) }
+        ++ (codes "1600000000.001764000. With an offset of 1524 to 8764 &#181;s its buffer would pass; the "
+        ++ codes "description's is 764.444 &#181;s.</li>\n"))) }
+{}
+
+/// The offsets of a type: some, one alone, none on a side, and no offset for both sides. A type whose bucket fails has no
+/// such text.
+#[tactic(auto, unfolding(crate::proofs::Numerals::numerals))]
+pub fn offsets_by_hand()
+    ensures some { offsets_text (Some 5313) (Some 6102) 637674
+        ≡ codes ". With an offset of 5313 to 6102 &#181;s its buffer would pass; the description's is 637.674 &#181;s" }
+    ensures alone { offsets_text (Some 7) (Some 7) 1664000
+        ≡ codes ". With an offset of 7 to 7 &#181;s its buffer would pass; the description's is 1664 &#181;s" }
+    ensures apart { offsets_text (Some 8) (Some 7) 1000 ≡ codes ". With no offset would its buffer pass" }
+    ensures absent { offsets_text None (Some 7) 1000 ≡ codes ". With no offset would its buffer pass" }
+    ensures bucket { troff_words apart ≡ [] }
 {}
 
 /// A noun with the counts 1, 38, 0 and -1.

@@ -3,7 +3,9 @@
 ghost use Rattle.std.specs.Prelude.{◌≡◌, IfOk};
 ghost use Rattle.flow_page.specs.Shown.{kind_at, margins_of, type_shown, types_from, types_shown};
 
-use flow_measure::{Extremes, KindNumbers, Margins, MeasuredFlow, MeasuredRun, Place, RunNumbers};
+use flow_measure::{
+    Extremes, KindNumbers, Margins, MeasuredFlow, MeasuredRun, Place, RunNumbers, micros_of,
+};
 use std::alloc::{AllocError as OutOfMemory, Global};
 use timing_base::{FailProof, Items, Judged, Kind, KindVerdict};
 use timing_report::{buffer_peak, verdict_on};
@@ -114,6 +116,12 @@ pub(crate) struct TypeShown {
     pub(crate) first_empty: Option<u64>,
     /// The place in the capture of the last packet of the violation in the verdict.
     pub(crate) named: Option<Place>,
+    /// The least offset with which no packet would be late, in microseconds.
+    pub(crate) least: Option<u32>,
+    /// The greatest offset with which the buffer would never exceed its limit, in microseconds.
+    pub(crate) greatest: Option<u32>,
+    /// The offset of the SDP, TR_OFFSET or TROFF, in nanoseconds, rounded down.
+    pub(crate) offset: u64,
 }
 
 /// Returns the margins of the packets by the reads of a type.
@@ -150,6 +158,9 @@ fn type_shown(judged: &Judged, numbers: &RunNumbers, kind: Kind, k: &KindNumbers
         first_over: k.first_over,
         first_empty: k.first_empty,
         named: k.named,
+        least: micros_of(k.troff.lower),
+        greatest: micros_of(k.troff.upper),
+        offset: numbers.target,
     }
 }
 

@@ -5,7 +5,7 @@ ghost use Rattle.std.specs.List.{flat_map};
 ghost use Rattle.flow_page.specs.Words.{noun_end, type_words};
 
 use crate::shown::TypeShown;
-use crate::times::{Epoch, Minus, SpanText, file_time};
+use crate::times::{Epoch, Micro, Minus, SpanText, file_time};
 use flow_measure::Place;
 use std::alloc::AllocError as OutOfMemory;
 use std::fmt;
@@ -292,6 +292,64 @@ impl fmt::Display for OverText {
     }
 }
 
+/// The text on the offsets with which the buffer would pass, beside that of the SDP, or that there is none.
+#[derive(Clone, Copy)]
+struct Offsets {
+    /// Microseconds.
+    least: Option<u32>,
+    /// Microseconds.
+    greatest: Option<u32>,
+    /// The offset of the SDP in nanoseconds.
+    offset: u64,
+}
+
+impl fmt::Display for Offsets {
+    ghost use Rattle.std.specs.Prelude.{Some};
+    ghost use Rattle.flow_page.specs.Words.{offsets_text};
+
+    ghost output = { λ o. Some (offsets_text o.least o.greatest o.offset) };
+
+    fn fmt<W: fmt::Write>(&self, f: &mut fmt::Formatter<W>) -> fmt::Result {
+        let offset = Micro {
+            ns: u128::from(self.offset),
+        };
+        match (self.least, self.greatest) {
+            (Some(least), Some(greatest)) if least <= greatest => write!(
+                f,
+                ". With an offset of {least} to {greatest} &#181;s its buffer would pass; the description's is {offset} &#181;s"
+            ),
+            _ => f.write_str(". With no offset would its buffer pass"),
+        }
+    }
+}
+
+/// The text on the offsets of a type whose bucket passes and whose buffer doesn't; empty if its bucket doesn't.
+#[derive(Clone, Copy)]
+struct TroffWords {
+    shown: TypeShown,
+}
+
+impl fmt::Display for TroffWords {
+    ghost use Rattle.std.specs.Prelude.{Some};
+    ghost use Rattle.flow_page.specs.Words.{troff_words};
+
+    ghost output = { λ t. Some (troff_words t.shown) };
+
+    #[tactic(auto, unfolding(crate::specs::Words::troff_words))]
+    fn fmt<W: fmt::Write>(&self, f: &mut fmt::Formatter<W>) -> fmt::Result {
+        let offsets = Offsets {
+            least: self.shown.least,
+            greatest: self.shown.greatest,
+            offset: self.shown.offset,
+        };
+        if self.shown.above_bucket == 0 {
+            write!(f, "{offsets}")
+        } else {
+            Ok(())
+        }
+    }
+}
+
 /// The text on how a type fails.
 #[derive(Clone, Copy)]
 struct Breaks {
@@ -324,7 +382,8 @@ impl fmt::Display for Breaks {
             shift: self.shift,
             place: t.named,
         };
-        write!(f, "{broken}{over}{late}{named}")
+        let troff = TroffWords { shown: t };
+        write!(f, "{broken}{over}{late}{named}{troff}")
     }
 }
 

@@ -31,9 +31,9 @@ bins_within limit width counts = record { limit = limit; width = width; counts =
 abbrev pub ones_to : (limit : ℕ) → ToldBins
 ones_to limit = bins_within limit 1 (0 ∷ 40 ∷ zeros (limit - 1))
 
--- a type with no packet that breaks a limit
-abbrev pub kept : (bucket buffer : ToldBins) → ToldKind
-kept bucket buffer = record {
+-- a type with no packet that breaks a limit, and with these offsets
+abbrev pub kept : (bucket buffer : ToldBins) → (least greatest : ℕ) → ToldKind
+kept bucket buffer least greatest = record {
   groups_broken = 0;
   bucket = bucket;
   buffer = buffer;
@@ -41,6 +41,7 @@ kept bucket buffer = record {
   first_over = None;
   first_empty = None;
   named = None;
+  troff = record { least = Some least; greatest = Some greatest };
 }
 
 -- the summary of `often` equal numbers
@@ -64,8 +65,8 @@ plain_numbers = record {
   bucket = same 1 40;
   gapped = one_held;
   linear = one_held;
-  kinds = kept (ones_to 4) (ones_to 8) ∷ kept (ones_to 4) (ones_to 8)
-      ∷ kept (ones_to 16) (bins_within 720 12 (40 ∷ zeros 60)) ∷ [];
+  kinds = kept (ones_to 4) (ones_to 8) 764 8444 ∷ kept (ones_to 4) (ones_to 8) 764 8004
+      ∷ kept (ones_to 16) (bins_within 720 12 (40 ∷ zeros 60)) 764 1000000 ∷ [];
   first = same 764000 2;
   last = same 19004000 2;
   target = 764444;
@@ -100,9 +101,10 @@ refused_flow = flow_of 40 (Unjudged (Refused 40 (FrameSize 20 19))) []
 abbrev pub absent_flow : ToldFlow
 absent_flow = record { media = 0; packets = 0; ssrc = None; verdict = Unjudged Absent; runs = [] }
 
--- type N with a burst that breaks the limit of the bucket at packet 24
+-- type N with a burst that breaks the limit of the bucket at packet 24. That packet comes 20,764,000 ns after the first
+-- frame begins, with the first of its frame, and the read 8 packets before it is 15,360,000 ns after the offset.
 abbrev pub burst_kind : ToldKind
-burst_kind = record (kept (bins_within 4 1 []) (bins_within 8 1 (0 ∷ 36 ∷ 1 ∷ 1 ∷ 1 ∷ 1 ∷ zeros 3))) {
+burst_kind = record (kept (bins_within 4 1 []) (bins_within 8 1 (0 ∷ 36 ∷ 1 ∷ 1 ∷ 1 ∷ 1 ∷ zeros 3)) 764 5404) {
   groups_broken = 1;
   bucket = record { limit = 4; width = 1; counts = 0 ∷ 36 ∷ 1 ∷ 1 ∷ 1 ∷ []; above = 1; below = 0 };
   first_bucket = Some 24;
@@ -113,9 +115,10 @@ burst_kind = record (kept (bins_within 4 1 []) (bins_within 8 1 (0 ∷ 36 ∷ 1 
 abbrev pub burst_fail : KindVerdict
 burst_fail = fail Bucket 20 24 5 4
 
--- type N with packets 1,000,000 ns apart: all packets of each frame except the first arrive after their gapped reads
+-- type N with packets 1,000,000 ns apart: all packets of each frame except the first arrive after their gapped reads. The
+-- last comes 760,000 ns later against its read than the first, and the ninth 8,764,000 ns after its frame begins.
 abbrev pub linear_kind : ToldKind
-linear_kind = record (kept (ones_to 4) (bins_within 8 1 (38 ∷ 2 ∷ zeros 7))) {
+linear_kind = record (kept (ones_to 4) (bins_within 8 1 (38 ∷ 2 ∷ zeros 7)) 1524 8764) {
   groups_broken = 2;
   first_empty = Some 1;
   named = Some (record { rec = 3; stamp = 1600000000001764000 });

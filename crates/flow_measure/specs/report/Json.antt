@@ -1,8 +1,8 @@
 -- The measurements of the flows of a capture, or of several that were taken as one, as JSON (RFC 8259): one value
 -- without spaces, and a line end. The members of each object stand in the byte order of their keys. Numbers are whole,
 -- of any size, and written in decimal. Media, runs and packet records count from 1, packets from 0. Capture timestamps,
--- `first`, `last`, `target`, `slack` and `gap` are nanoseconds. `step`, `offset` and `latency` are ticks of 90 kHz. The
--- other numbers are packets, frames or fields, or counts of them. This project's profile: the whole format.
+-- `first`, `last`, `target`, `slack` and `gap` are nanoseconds. `step`, `offset` and `latency` are ticks of 90 kHz.
+-- The ends of `troff` are microseconds. The other numbers are packets, frames or fields, or counts of them. This project's profile: the whole format.
 use Rattle.std.specs.Prelude.{ℕ, ◌+◌, ◌<◌, Bool, true, false, List, [], ◌∷◌, ◌++◌, length, Option, Some, None, codes}
 use Rattle.std.specs.Prelude.{All, zero, suc, nat_lt}
 use Rattle.std.specs.Fmt.{decimal, signed_decimal}
@@ -27,7 +27,8 @@ use Rattle.timing_report.specs.json_report.Json.{Member, count, object_of, unjud
 use Rattle.flow_measure.specs.declared.numbers.Buffer.{Buffer}
 use Rattle.flow_measure.specs.declared.numbers.MeasuredFlow.{MeasuredFlow}
 use Rattle.flow_measure.specs.declared.summary.Summary.{Summary}
-use Rattle.flow_measure.specs.report.Told.{ToldBins, ToldFlow, ToldGaps, ToldKind, ToldNumbers, ToldPlace, ToldRun}
+use Rattle.flow_measure.specs.report.Told.{ToldBins, ToldFlow, ToldGaps, ToldKind, ToldNumbers, ToldOffsets, ToldPlace}
+use Rattle.flow_measure.specs.report.Told.{ToldRun}
 
 -- a JSON string, in quotes and with escapes
 abbrev pub quoted_text : List ℕ → List ℕ
@@ -123,12 +124,28 @@ breaks_text k =
     member_if (codes "first_bucket") k.first_bucket ++ (member_if (codes "first_empty") k.first_empty
     ++ (member_if (codes "first_over") k.first_over ++ (codes "\"frames_broken\":" ++ decimal k.groups_broken)))
 
+-- the ends of a window; one that is absent has no member
+abbrev pub ends_text : (least greatest : Option ℕ) → List ℕ
+ends_text None None = codes "{}"
+ends_text None (Some greatest) = codes "{\"greatest\":" ++ (decimal greatest ++ codes "}")
+ends_text (Some least) None = codes "{\"least\":" ++ (decimal least ++ codes "}")
+ends_text (Some least) (Some greatest) =
+    codes "{\"greatest\":" ++ (decimal greatest ++ (codes ",\"least\":" ++ (decimal least ++ codes "}")))
+
+-- the offsets with which the buffer would be kept
+abbrev pub troff_text : ToldOffsets → List ℕ
+troff_text t = ends_text t.least t.greatest
+
+-- whether a type passes, its violation if it fails, and the offsets with which its buffer would be kept
+abbrev pub result_text : KindVerdict → ToldKind → List ℕ
+result_text outcome k = outcome_text outcome k.named ++ (codes ",\"troff\":" ++ troff_text k.troff)
+
 -- a type; its bucket is never below 0
 unfoldable pub kind_text : Kind → KindVerdict → ToldKind → List ℕ
 kind_text kind outcome k =
     codes "{\"bucket\":" ++ (bins_text k.bucket None ++ (codes ",\"buffer\":"
     ++ (bins_text k.buffer (Some k.buffer.below) ++ (codes "," ++ (breaks_text k ++ (codes ","
-    ++ (outcome_text outcome k.named ++ (codes ",\"type\":\"" ++ (kind_name kind ++ codes "\"}")))))))))
+    ++ (result_text outcome k ++ (codes ",\"type\":\"" ++ (kind_name kind ++ codes "\"}")))))))))
 
 -- the type at this place of N, NL and W, from 0
 abbrev pub kind_at : ℕ → Kind

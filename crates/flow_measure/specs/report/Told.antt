@@ -3,7 +3,8 @@
 use Rattle.std.specs.Prelude.{ℕ, List, map, Option, option_map}
 use Rattle.timing_base.specs.Verdicts.{Judged}
 use Rattle.timing_base.specs.declared.row.Verdict.{Verdict}
-use Rattle.flow_measure.specs.Told.{bin_counts, class_counts}
+use Rattle.offset_window.specs.declared.window.Window.{Window}
+use Rattle.flow_measure.specs.Told.{bin_counts, class_counts, micros_of}
 use Rattle.flow_measure.specs.declared.bins.Bins.{Bins}
 use Rattle.flow_measure.specs.declared.numbers.Buffer.{Buffer}
 use Rattle.flow_measure.specs.declared.numbers.Gaps.{Gaps}
@@ -27,6 +28,11 @@ pub record ToldPlace : Type 0 where
   pub rec : ℕ
   pub stamp : ℕ
 
+-- the least and the greatest offset, in microseconds
+pub record ToldOffsets : Type 0 where
+  pub least : Option ℕ
+  pub greatest : Option ℕ
+
 -- the measurements of a run against the limits of a type
 pub record ToldKind : Type 0 where
   pub groups_broken : ℕ
@@ -36,6 +42,7 @@ pub record ToldKind : Type 0 where
   pub first_over : Option ℕ
   pub first_empty : Option ℕ
   pub named : Option ToldPlace
+  pub troff : ToldOffsets
 
 -- the times from each packet to the next
 pub record ToldGaps : Type 0 where
@@ -81,6 +88,10 @@ bins_told b = record { limit = b.limit; width = b.width; counts = bin_counts b; 
 abbrev pub place_told : Place → ToldPlace
 place_told p = record { rec = p.«record»; stamp = p.stamp }
 
+-- a window as a report has it
+abbrev pub offsets_told : Window → ToldOffsets
+offsets_told w = record { least = micros_of w.lower; greatest = micros_of w.upper }
+
 -- the measurements against a type as a report has them
 abbrev pub kind_told : KindNumbers → ToldKind
 kind_told k = record {
@@ -91,6 +102,7 @@ kind_told k = record {
   first_over = k.first_over;
   first_empty = k.first_empty;
   named = option_map place_told k.named;
+  troff = offsets_told k.troff;
 }
 
 -- the times between packets as a report has them

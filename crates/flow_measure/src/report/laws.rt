@@ -7,7 +7,7 @@ ghost use Rattle.timing_base.specs.declared.media.Kind.TheVariants as kind;
 ghost use Rattle.timing_report.specs.Worked.{narrow, two_runs};
 ghost use Rattle.flow_measure.specs.Worked.{summary};
 ghost use Rattle.flow_measure.specs.report.Examples.{absent_flow, burst_fail, burst_kind, flow_of, linear_fail, linear_kind, plain_flow, plain_group, plain_packet, plain_session, refused_flow};
-ghost use Rattle.flow_measure.specs.report.Json.{flow_text, kind_text, level_text, measure_json, run_text};
+ghost use Rattle.flow_measure.specs.report.Json.{flow_text, kind_text, level_text, measure_json, run_text, troff_text};
 ghost use Rattle.flow_measure.specs.report.Rows.{group_row_text, packet_row_text};
 ghost use Rattle.flow_measure.specs.report.Told.{ToldRun};
 
@@ -35,15 +35,15 @@ pub fn plain_json_by_hand()
         ++ (codes "\"tail\":0,\"types\":["
         ++ (codes "{\"bucket\":{\"above\":0,\"counts\":[0,40,0,0,0],\"limit\":4,\"width\":1},"
         ++ (codes "\"buffer\":{\"above\":0,\"below\":0,\"counts\":[0,40,0,0,0,0,0,0,0],\"limit\":8,"
-        ++ (codes "\"width\":1},\"frames_broken\":0,\"pass\":true,\"type\":\"N\"},"
+        ++ (codes "\"width\":1},\"frames_broken\":0,\"pass\":true,\"troff\":{\"greatest\":8444,\"least\":764},\"type\":\"N\"},"
         ++ (codes "{\"bucket\":{\"above\":0,\"counts\":[0,40,0,0,0],\"limit\":4,\"width\":1},"
         ++ (codes "\"buffer\":{\"above\":0,\"below\":0,\"counts\":[0,40,0,0,0,0,0,0,0],\"limit\":8,"
-        ++ (codes "\"width\":1},\"frames_broken\":0,\"pass\":true,\"type\":\"NL\"},"
+        ++ (codes "\"width\":1},\"frames_broken\":0,\"pass\":true,\"troff\":{\"greatest\":8004,\"least\":764},\"type\":\"NL\"},"
         ++ (codes "{\"bucket\":{\"above\":0,\"counts\":[0,40,0,0,0,0,0,0,0,0,0,0,0,0,0,0,0],"
         ++ (codes "\"limit\":16,\"width\":1},"
         ++ (codes "\"buffer\":{\"above\":0,\"below\":0,\"counts\":[40,0,0,0,0,0,0,0,0,0,0,0,0,0,0,0,0,0,"
         ++ (codes "0,0,0,0,0,0,0,0,0,0,0,0,0,0,0,0,0,0,0,0,0,0,0,0,0,0,0,0,0,0,0,0,0,0,0,0,0,0,0,0,0,0,0],"
-        ++ (codes "\"limit\":720,\"width\":12},\"frames_broken\":0,\"pass\":true,\"type\":\"W\"}]}],"
+        ++ (codes "\"limit\":720,\"width\":12},\"frames_broken\":0,\"pass\":true,\"troff\":{\"greatest\":1000000,\"least\":764},\"type\":\"W\"}]}],"
         ++ (codes "\"ssrc\":\"00000001\",\"target\":\"239.0.0.1:50000\",\"verdict\":\"judged\"}],"
         ++ codes "\"name\":\"a.pcap\"}\n"))))))))))))))))))))))))))))) }
 {}
@@ -65,7 +65,7 @@ pub fn burst_by_hand()
         ++ (codes "\"buffer\":{\"above\":0,\"below\":0,\"counts\":[0,36,1,1,1,1,0,0,0],\"limit\":8,"
         ++ (codes "\"width\":1},\"first_bucket\":24,\"frames_broken\":1,\"pass\":false,"
         ++ (codes "\"proof\":{\"count\":5,\"from\":20,\"limit\":4,\"model\":\"Bucket\",\"record\":26,"
-        ++ codes "\"stamp\":1600000000020764000,\"to\":24},\"type\":\"N\"}"))) }
+        ++ codes "\"stamp\":1600000000020764000,\"to\":24},\"troff\":{\"greatest\":5404,\"least\":764},\"type\":\"N\"}"))) }
 {}
 
 /// Type N of a flow with linear pacing. All packets of each frame except the first arrive after their reads.
@@ -76,7 +76,17 @@ pub fn linear_by_hand()
         ++ (codes "\"buffer\":{\"above\":0,\"below\":0,\"counts\":[38,2,0,0,0,0,0,0,0],\"limit\":8,"
         ++ (codes "\"width\":1},\"first_empty\":1,\"frames_broken\":2,\"pass\":false,"
         ++ (codes "\"proof\":{\"count\":1,\"from\":1,\"limit\":2,\"model\":\"Empty\",\"record\":3,"
-        ++ codes "\"stamp\":1600000000001764000,\"to\":1},\"type\":\"N\"}"))) }
+        ++ codes "\"stamp\":1600000000001764000,\"to\":1},\"troff\":{\"greatest\":8764,\"least\":1524},\"type\":\"N\"}"))) }
+{}
+
+/// The offsets of a type: both, one that is absent, and none.
+#[tactic(auto, unfolding(crate::proofs::lemmas::report::Numerals::measure_texts))]
+pub fn offsets_by_hand()
+    ensures both { troff_text (record { least = Some 764; greatest = Some 8444 })
+        ≡ codes "{\"greatest\":8444,\"least\":764}" }
+    ensures least { troff_text (record { least = Some 764; greatest = None }) ≡ codes "{\"least\":764}" }
+    ensures greatest { troff_text (record { least = None; greatest = Some 0 }) ≡ codes "{\"greatest\":0}" }
+    ensures none { troff_text (record { least = None; greatest = None }) ≡ codes "{}" }
 {}
 
 /// A flow that isn't judged has the members of its verdict, and no `runs`.

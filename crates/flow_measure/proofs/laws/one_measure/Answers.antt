@@ -1,5 +1,6 @@
 use Rattle.std.proofs.Common.{◌-◌, length, slice_index, ◌∙◌, sym}
 use Rattle.sender_params.specs.Limits.{c_max_of, vrx_full_of}
+use Rattle.offset_window.proofs.Unique.{window-once}
 use Rattle.flow_measure.specs.Groups.{firsts_of, lasts_of, latency_at, offset_at, since_at, step_after}
 use Rattle.flow_measure.specs.Occupancy.{buckets_of}
 use Rattle.flow_measure.specs.Run.{anchor_in, packets_of}
@@ -36,16 +37,19 @@ returns-clause-classes c = classes-once
 pub returns-clause-kind : goal.returns-clause-kind
 returns-clause-kind c = λ m n groups stamps records occupancy others kind named k other are be h there.
     let i = kind-same m n groups stamps records others occupancy kind named other be are there in
+    let a = h.numbers in
+    let b = i.numbers in
     let p = packets_of m n stamps records occupancy kind in
     let count = length stamps in
     let c_max = c_max_of m n kind in
     let full = vrx_full_of m n kind in (
-      h.groups_broken ∙ sym i.groups_broken,
-      first-once p.overfull count k.first_bucket other.first_bucket h.first_bucket i.first_bucket,
-      first-once p.over count k.first_over other.first_over h.first_over i.first_over,
-      first-once p.empty count k.first_empty other.first_empty h.first_empty i.first_empty,
-      h.named_is ∙ sym i.named_is,
-      above-is c_max count p.bucket k.bucket h.bucket ∙ sym (above-is c_max count p.bucket other.bucket i.bucket),
-      above-is full count p.occupancy k.buffer h.buffer ∙ sym (above-is full count p.occupancy other.buffer i.buffer),
-      below-is full count p.occupancy k.buffer h.buffer ∙ sym (below-is full count p.occupancy other.buffer i.buffer),
+      a.groups_broken ∙ sym b.groups_broken,
+      first-once p.overfull count k.first_bucket other.first_bucket a.first_bucket b.first_bucket,
+      first-once p.over count k.first_over other.first_over a.first_over b.first_over,
+      first-once p.empty count k.first_empty other.first_empty a.first_empty b.first_empty,
+      a.named_is ∙ sym b.named_is,
+      above-is c_max count p.bucket k.bucket a.bucket ∙ sym (above-is c_max count p.bucket other.bucket b.bucket),
+      above-is full count p.occupancy k.buffer a.buffer ∙ sym (above-is full count p.occupancy other.buffer b.buffer),
+      below-is full count p.occupancy k.buffer a.buffer ∙ sym (below-is full count p.occupancy other.buffer b.buffer),
+      window-once m n stamps kind k.troff other.troff h.troff there.troff,
     )

@@ -7,6 +7,7 @@ use Rattle.sender_params.specs.Limits.{c_max_of, vrx_full_of}
 use Rattle.flow_measure.specs.Fed.{MeasuresGroups}
 use Rattle.flow_measure.specs.Groups.{firsts_of, lasts_of}
 use Rattle.flow_measure.specs.Metered.{HasBegun}
+use Rattle.flow_measure.specs.Offsets.{MeasuresWindows}
 use Rattle.flow_measure.specs.declared.group_walk.GroupWalk.{GroupWalk}
 use Rattle.flow_measure.proofs.Packets.{listed-last}
 use Rattle.flow_measure.proofs.Stepping.{anchor-now, begun-now, fed, group-first, groups-now, place-of, times-over, times-within}
@@ -47,6 +48,7 @@ returns-else-pass-clause-stands c = λ stamps records timestamps h rising level.
           subst (λ g. MeasuresGroups m mid.n0 g (firsts_of n stamp) (lasts_of n stamp) (firsts_of n timestamp)) (sym b.groups_are)
           (groups-now m n s mid packet stamps records timestamps stamp timestamp b h are ticks);
       gaps_are = f.gaps_are;
+      windows_are = c.feed-5.ensures.stands stamps (subst (λ w. MeasuresWindows m n w stamps) (sym b.windows_are) h.windows_are);
     }
 
 pub returns-then-pass-clause-stands : goal.returns-then-pass-clause-stands
@@ -102,6 +104,7 @@ returns-then-pass-clause-stands c = λ stamps records timestamps h rising level.
           (ap (lasts_of n stamp) groups ∙ listed-last stamps packet.at (k * n + (n - 1)) stamp (omega (arith, whole, outside)) are)
           (ap (firsts_of n timestamp) groups ∙ ticks (k * n) (omega (arith, timestamps_long, h.timestamps_are, first)) ∙ sym begun.ticks);
       gaps_are = f.gaps_are;
+      windows_are = c.feed-5.ensures.stands stamps (subst (λ w. MeasuresWindows m n w stamps) (sym b.windows_are) h.windows_are);
     }
 
 pub invariant_of-self-clause-gapped_room : goal.invariant_of-self-clause-gapped_room
@@ -124,3 +127,16 @@ invariant_of-self-else-pass-clause-models_whole c =
 
 pub invariant_of-self-else-pass-clause-groups_are : goal.invariant_of-self-else-pass-clause-groups_are
 invariant_of-self-else-pass-clause-groups_are c = c.begin.new.self.groups_are ∙ sym (c.pass.ensures.within c.if-pass.false).2
+
+pub invariant_of-self-else-pass-clause-settled : goal.invariant_of-self-else-pass-clause-settled
+invariant_of-self-else-pass-clause-settled c = λ none. absurd (omega (arith, none, (c.pass.ensures.within c.if-pass.false).1))
+
+pub invariant_of-self-clause-models_whole : goal.invariant_of-self-clause-models_whole
+invariant_of-self-clause-models_whole c =
+    let over = c.pass.ensures.over c.if-pass.true in
+    omega (arith, c.end_group.ensures.whole, c.feed.ensures.whole, c.begin.new.self.models_whole, over.2)
+
+pub invariant_of-self-clause-groups_are : goal.invariant_of-self-clause-groups_are
+invariant_of-self-clause-groups_are c =
+    let over = c.pass.ensures.over c.if-pass.true in
+    omega (arith, c.feed-then-pass.ensures.seen, c.begin.new.self.groups_are, over.2)

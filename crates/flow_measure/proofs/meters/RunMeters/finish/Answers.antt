@@ -82,6 +82,7 @@ returns c = λ groups named stamps records timestamps h size first.
     let numbers = subst (λ g. AreGroupNumbers m (anchor_in m stamps) g (firsts_of n stamp) (lasts_of n stamp) (firsts_of n timestamp) c.in_ok-groups.groups)
     (s.groups_are ∙ w.groups_are)
     (c.in_ok-groups.ensures m (anchor_in m stamps) (firsts_of n stamp) (lasts_of n stamp) (firsts_of n timestamp) fed) in
+    let windows = h.windows_are.fed some p refl refl in
     let whole_groups = s.models_whole ∙ w.groups_are in
     record {
       whole = size;
@@ -102,11 +103,12 @@ returns c = λ groups named stamps records timestamps h size first.
       };
       kinds = (
         kind-is N m n groups s stamps records w.gapped_at (slice_index_or named 0 None) c.finish-5.result w.all whole_groups w.narrow first.narrow
-            c.finish-5.ensures,
+            c.finish-5.ensures.numbers c.finish-narrow.result (c.finish-narrow.ensures p N stamps (windows N)) c.finish-5.ensures.troff,
         kind-is NL m n groups s stamps records w.linear_at (slice_index_or named 1 None) c.finish-6.result w.all
-            (s.models.narrow_linear_whole ∙ whole_groups) w.narrow_linear first.narrow_linear c.finish-6.ensures,
+            (s.models.narrow_linear_whole ∙ whole_groups) w.narrow_linear first.narrow_linear c.finish-6.ensures.numbers
+            c.finish-narrow_linear.result (c.finish-narrow_linear.ensures p NL stamps (windows NL)) c.finish-6.ensures.troff,
         kind-is W m n groups s stamps records w.linear_at (slice_index_or named 2 None) c.finish-7.result w.all (s.models.wide_whole ∙ whole_groups)
-            w.wide first.wide c.finish-7.ensures,
+            w.wide first.wide c.finish-7.ensures.numbers c.finish-wide.result (c.finish-wide.ensures p W stamps (windows W)) c.finish-7.ensures.troff,
       );
       first = numbers.first_is;
       last = numbers.last_is;

@@ -19,4 +19,5 @@ returns-clause-stands c =
       linear_is = times-none m n false c.new-4.result c.new-4.ensures.stands;
       groups_are = λ stamp timestamp a b. c.new-5.ensures.stands m _ (firsts_of n stamp) (lasts_of n stamp) (firsts_of n timestamp);
       gaps_are = λ stamp a. c.new-6.ensures.stands stamp;
+      windows_are = c.new-7.ensures.stands;
     }
