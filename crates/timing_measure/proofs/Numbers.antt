@@ -32,7 +32,6 @@ use Rattle.flow_measure.specs.declared.numbers.RunNumbers.{RunNumbers}
 use Rattle.flow_measure.proofs.Alone.{bins-tell, classes-tell}
 use Rattle.flow_measure.proofs.Measured.{buffer-once, first-once, kind-same, option-once}
 use Rattle.flow_measure.proofs.Unique.{summary-once}
-use Rattle.offset_window.proofs.Unique.{window-once}
 use Rattle.run_meter.specs.Runs.{JudgedPart}
 use Rattle.fail_interval.specs.Parts.{judged_parts}
 use Rattle.flow_measure.specs.Measured.{AreMeasured, HasNumbers, IsMeasuredRun}
