@@ -1,8 +1,9 @@
 -- The measurements of the flows of a capture, or of several that were taken as one, as JSON (RFC 8259): one value
 -- without spaces, and a line end. The members of each object stand in the byte order of their keys. Numbers are whole,
 -- of any size, and written in decimal. Media, runs and packet records count from 1, packets from 0. Capture timestamps,
--- `first`, `last`, `target`, `slack` and `gap` are nanoseconds. `step`, `offset` and `latency` are ticks of 90 kHz.
--- The ends of `troff` are microseconds. The other numbers are packets, frames or fields, or counts of them. This project's profile: the whole format.
+-- `first`, `last`, `target`, `slack` and `gap` are nanoseconds. `step`, `offset` and `latency` are ticks of 90 kHz. The
+-- ends of `troff` are microseconds. The other numbers are packets, frames or fields, or counts of them. This project's
+-- profile: the whole format.
 use Rattle.std.specs.Prelude.{ℕ, ◌+◌, ◌<◌, Bool, true, false, List, [], ◌∷◌, ◌++◌, length, Option, Some, None, codes}
 use Rattle.std.specs.Prelude.{All, zero, suc, nat_lt}
 use Rattle.std.specs.Fmt.{decimal, signed_decimal}
