@@ -1,12 +1,11 @@
 -- The media that are judged, as media of the session: all, or the chosen one under its number.
-use Rattle.std.proofs.Common.{◌≡◌, ◌≤◌, ◌<◌, ◌+◌, ◌^◌, ℕ, zero, suc, List, [], ◌∷◌, length, drop, take, Option, Some, None, refl, arith, ap, ◌∙◌, sym}
+use Rattle.std.proofs.Common.{◌≡◌, ◌≤◌, ◌<◌, ◌+◌, ◌^◌, ℕ, zero, suc, List, [], ◌∷◌, length, drop, take, Option, Some, None, refl, arith, ap, ◌∙◌}
 use Rattle.std.proofs.lemmas.List.Elements.{All-drop, All-map, All-take, All-weaker}
 use Rattle.std.specs.Prelude.{All, map, slice_get}
 use Rattle.timing_base.specs.Choices.{chosen, first_chosen, key_from, row_from}
 use Rattle.timing_base.specs.Jobs.{IsChoice}
 use Rattle.timing_base.specs.Media.{Media}
 use Rattle.timing_base.specs.Targets.{HaveOwnTargets}
-use Rattle.timing_base.specs.declared.key.FlowKey.{FlowKey}
 use Rattle.timing_base.specs.declared.row.Row.{Row}
 use Rattle.timing_report.specs.Outcomes.{AreOfSession}
 use Rattle.timing_steps.specs.Flows.{no_choice, no_media, no_such_media}

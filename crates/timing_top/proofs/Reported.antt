@@ -10,7 +10,7 @@ use Rattle.timing_report.specs.declared.json_report.reading.ReportProof.{ReportP
 use Rattle.timing_report.specs.declared.status.Input.{Input}
 use Rattle.timing_report.specs.declared.status.Input.TheVariants as input
 use Rattle.timing_report.specs.declared.status.Status.TheVariants as status
-use Rattle.timing_steps.specs.Answers.{Answer, AreThere, AreTold, Gives, HasRisen, Inputs, ReadsSession, silent}
+use Rattle.timing_steps.specs.Answers.{Answer, AreThere, AreTold, HasRisen, Inputs, ReadsSession, silent}
 use Rattle.timing_steps.specs.declared.failure.Failure.{Failure}
 use Rattle.timing_steps.specs.Flows.{no_choice}
 use Rattle.timing_steps.specs.Queries.{OnEarly}

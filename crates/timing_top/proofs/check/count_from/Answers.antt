@@ -1,4 +1,4 @@
-use Rattle.std.proofs.Common.{◌≡◌, ◌<◌, length, rules, get_or, set, ap, ◌∙◌, add-one}
+use Rattle.std.proofs.Common.{◌<◌, length, rules, get_or, set, ap, ◌∙◌, add-one}
 use Rattle.timing_base.specs.Choices.{row_from}
 use Rattle.timing_top.proofs.Numbering.{mapped-at, mapped-next, mapped_to}
 use Rattle.timing_top.proofs.check.count_from.Goals as goal
