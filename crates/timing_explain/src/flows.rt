@@ -74,8 +74,8 @@ fn known_flow(end: FlowEnd<(MeasuredRuns, LongestFound)>) -> KnownFlow
         ..
     } = end;
     let (measured, longest) = out;
-    let shown = shown_of(longest, measured.runs.as_slice());
-    let shown = shown_alone(&verdict, shown);
+    let found = shown_of(longest, measured.runs.as_slice());
+    let shown = shown_alone(&verdict, found);
     KnownFlow {
         media,
         verdict,
