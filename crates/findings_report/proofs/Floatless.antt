@@ -72,7 +72,7 @@ numbers-floatless (finding.Absent passed_over streams) =
     neither (has_float (object_of (passed_over_members passed_over))) false
     (object-floatless (passed_over_members passed_over) (passed_over-floatless passed_over)) refl
 numbers-floatless (finding.Refused rec cause) = refusal-floatless cause
-numbers-floatless (finding.Unmarked packets markers) = refl
+numbers-floatless (finding.Unmarked packets markers) = number-floatless (codes "markers") markers
 numbers-floatless (finding.Wrap gaps) = refl
 numbers-floatless (finding.Loss gaps missing) = refl
 numbers-floatless (finding.Order gaps) = refl

@@ -42,11 +42,11 @@ flow-other session m c flow =
     (in-neither (option_to_list (absent session m flow.verdict c.passed_over c.streams)) _ name (other_name _ _ name refl)
     (in-neither (option_to_list (refused flow.verdict)) _ name (refused-other flow.verdict) (other_name _ _ name refl)))
 
-gaps-other : (gaps : List Gap) → has (gap_findings gaps) (codes "pass") ≡ false
-gaps-other gaps =
+gaps-other : (seq16 : Bool) (gaps : List Gap) → has (gap_findings seq16 gaps) (codes "pass") ≡ false
+gaps-other seq16 gaps =
     let name : List ℕ = codes "pass" in
-    in-neither (option_to_list (wrap gaps)) _ name (other_name _ _ name refl)
-    (in-neither (option_to_list (loss gaps)) _ name (other_name _ _ name refl) (other_name _ _ name refl))
+    in-neither (option_to_list (wrap seq16 gaps)) _ name (other_name _ _ name refl)
+    (in-neither (option_to_list (loss seq16 gaps)) _ name (other_name _ _ name refl) (other_name _ _ name refl))
 
 -- a list has `pass` exactly if K passes
 pub flow-pass : (session : List Media) (m : Media) (c : KnownCaptures) (flow : KnownFlow) (s : ShownRun) → flow.shown ≡ Some s
@@ -54,5 +54,5 @@ pub flow-pass : (session : List Media) (m : Media) (c : KnownCaptures) (flow : K
 flow-pass session m c flow s e =
     let name : List ℕ = codes "pass" in
     in-back (flow_findings session m c flow) _ name (flow-other session m c flow)
-    ∙ (in-back (gap_findings (gaps_of flow.verdict)) _ name (gaps-other (gaps_of flow.verdict))
+    ∙ (in-back (gap_findings c.seq16 (gaps_of flow.verdict)) _ name (gaps-other c.seq16 (gaps_of flow.verdict))
     ∙ (ap (λ o. has (run_findings m c o) name) e ∙ numbers-pass m c (numbers_of m s)))
