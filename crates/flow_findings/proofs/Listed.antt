@@ -10,8 +10,10 @@ use Rattle.timing_base.specs.declared.row.KindVerdict.TheVariants as kind_verdic
 use Rattle.timing_report.specs.Outcomes.{is_pass}
 use Rattle.flow_measure.specs.declared.columns.slope.Slope.{Slope}
 use Rattle.flow_measure.specs.declared.numbers.Place.{Place}
-use Rattle.flow_findings.specs.Findings.{breaks_buffer, breaks_rarely, broken_buffer, burst, burst_at, clock_findings, described_rate, drift, drift_tenths, drifts}
-use Rattle.flow_findings.specs.Findings.{found_if, group_at, has_offset, is_tai_twice, is_unlocked, is_utc, limit_findings, microseconds, misfits, numbers_findings}
+use Rattle.flow_findings.specs.Findings.{breaks_buffer, breaks_rarely, broken_buffer, burst, burst_at}
+use Rattle.flow_findings.specs.Findings.{clock_findings, described_rate, drift, drift_tenths, drifts}
+use Rattle.flow_findings.specs.Findings.{found_if, group_at, has_offset, is_tai_twice, is_unlocked}
+use Rattle.flow_findings.specs.Findings.{is_utc, limit_findings, microseconds, misfits, numbers_findings}
 use Rattle.flow_findings.specs.Findings.{other_findings, pacing, pass, phase, rare, rare_by, rate, signed_tenths, tai_twice, unlocked, utc}
 use Rattle.flow_findings.specs.Lists.{AreOfVerdict, has, is_named}
 use Rattle.flow_findings.specs.declared.finding.Finding.{Finding}

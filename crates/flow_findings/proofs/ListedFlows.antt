@@ -8,7 +8,8 @@ use Rattle.timing_base.specs.declared.row.Verdict.{Verdict}
 use Rattle.timing_base.specs.declared.row.Verdict.TheVariants as verdict
 use Rattle.timing_report.specs.Outcomes.{passes}
 use Rattle.capture_scan.specs.declared.stream.Stream.{Stream}
-use Rattle.flow_findings.specs.Findings.{absent, elsewhere, flow_findings, gap_findings, is_absent, loss, may_be_of, media_findings, order, refused, run_findings, unmarked, wrap}
+use Rattle.flow_findings.specs.Findings.{absent, elsewhere, flow_findings, gap_findings, is_absent, loss}
+use Rattle.flow_findings.specs.Findings.{may_be_of, media_findings, order, refused, run_findings, unmarked, wrap}
 use Rattle.flow_findings.specs.Gaps.{gaps_of}
 use Rattle.flow_findings.specs.Lists.{has}
 use Rattle.flow_findings.specs.Numbers.{kind_of, numbers_of}

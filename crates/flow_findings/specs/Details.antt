@@ -42,8 +42,8 @@ AreOverfull m n groups stamps records (narrow ∷ narrow_linear ∷ wide ∷ [])
     × IsOverfull m n groups stamps records W wide
 AreOverfull m n groups stamps records _ = ⊥
 
--- the details of a run of `groups` frames or fields. The slope is that of the times from the instant at which each frame
--- or field begins to its first packet, from their curve in at most eight columns
+-- the details of a run of `groups` frames or fields. The slope is that of the times from the instant at which each
+-- frame or field begins to its first packet, from their curve in at most eight columns
 pub record AreDetails (m : Media) (n groups : ℕ) (stamps records : List ℕ) (d : RunDetails) : Type 0 where
   pub overfull_are : AreOverfull m n groups stamps records d.overfull
   pub first_is : d.first_at ≡ slice_index stamps 0

@@ -105,8 +105,8 @@ is_unmarked (verdict.Unjudged (unjudged.NoWholeFrame head)) = true
 is_unmarked (verdict.Runs runs) = have_no_frame runs
 is_unmarked _ = false
 
--- the count of markers of the stream to the media's target, if it is among the streams that are listed. A flow that isn't
--- refused is one stream: its packets are read as RTP, and have one SSRC
+-- the count of markers of the stream to the media's target, if it is among the streams that are listed. A flow that
+-- isn't refused is one stream: its packets are read as RTP, and have one SSRC
 abbrev pub markers_to : Media → List Stream → Option ℕ
 markers_to m streams = option_map (λ s. s.markers) (find (λ s. is_same_target s.target (target_of m)) streams)
 

@@ -1,7 +1,7 @@
 -- The gaps in the packet numbers of a flow, and of what kind they are. A packet number is the extended sequence number
--- times 65,536, plus the RTP sequence number (RFC 4175, section 4.2), so it counts modulo 2^32. With `seq16` the packets
--- are numbered by their 16-bit sequence numbers alone (`--seq16`): each number is the one before and as much as the
--- sequence number went on, modulo 2^16. This project's profile: which gap is a wrap, and which a loss.
+-- times 65,536, plus the RTP sequence number (RFC 4175, section 4.2), so it counts modulo 2^32. With `seq16` the
+-- packets are numbered by their 16-bit sequence numbers alone (`--seq16`): each number is the one before and as much as
+-- the sequence number went on, modulo 2^16. This project's profile: which gap is a wrap, and which a loss.
 use Rattle.std.specs.Prelude.{ℕ, ◌+◌, ◌-◌, ◌%◌, ◌^◌, ◌==◌, ◌&&◌, not, nat_lt, Bool, if◌then◌else◌, List, [], ◌∷◌}
 use Rattle.std.specs.Prelude.{Option, Some, None}
 use Rattle.std.specs.List.{count_by, filter, flat_map, sum_by}

@@ -1,7 +1,7 @@
 -- The output and status of `explain`, by the contents of its inputs: what is wrong with the flow of each media of a
--- session, or of one that is chosen (`--media`), and what to do, as lines of text or as JSON (RFC 8259). They are of one
--- capture, or of several that are taken as one (`--joined`). The SDP is read first, then the captures. Media count from
--- 0, and packet records from 1. This project's profile.
+-- session, or of one that is chosen (`--media`), and what to do, as lines of text or as JSON (RFC 8259). They are of
+-- one capture, or of several that are taken as one (`--joined`). The SDP is read first, then the captures. Media count
+-- from 0, and packet records from 1. This project's profile.
 use Rattle.std.specs.Prelude.{◌≡◌, if◌then◌else◌, true, Bool, ℕ, List, map}
 use Rattle.timing_base.specs.Shifts.{FlowOptions}
 use Rattle.timing_base.specs.Captures.{Record, joined}

@@ -1,6 +1,6 @@
--- What is known of the flow of a media, by its packets: its verdict, and the longest of its judged runs, which is shown.
--- Media and packets count from 0. Capture timestamps are nanoseconds of TAI, after the shift (`--tai`, `--delay`). This
--- project's profile.
+-- What is known of the flow of a media, by its packets: its verdict, and the longest of its judged runs, which is
+-- shown. Media and packets count from 0. Capture timestamps are nanoseconds of TAI, after the shift (`--tai`,
+-- `--delay`). This project's profile.
 use Rattle.std.specs.Prelude.{◌≡◌, ℕ, List, [], length, Option, Some, None}
 use Rattle.timing_base.specs.Shifts.{FlowOptions, Shift}
 use Rattle.timing_base.specs.Judged.{judged}

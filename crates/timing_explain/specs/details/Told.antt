@@ -1,5 +1,5 @@
--- The details of the longest of the judged runs of a flow that are complete. Runs count from 1. The choice of the run is
--- this project's own.
+-- The details of the longest of the judged runs of a flow that are complete. Runs count from 1. The choice of the run
+-- is this project's own.
 use Rattle.std.specs.Prelude.{◌≡◌, List, [], length, Option, Some, None}
 use Rattle.timing_base.specs.Shifts.{Shift}
 use Rattle.timing_base.specs.Media.{Media}
