@@ -1,6 +1,6 @@
 -- The state of the details of a run after the packets that were taken, with their capture timestamps in nanoseconds of
 -- TAI, and their packet records. n is the number of packets per frame or field.
-use Rattle.std.specs.Prelude.{◌≡◌, ◌<◌, ◌-◌, ◌/◌, ◌==◌, ℕ, ℤ, List, length, slice_index}
+use Rattle.std.specs.Prelude.{◌≡◌, ◌<◌, ◌-◌, ◌==◌, ℕ, ℤ, List, length, slice_index}
 use Rattle.timing_base.specs.Media.{Media}
 use Rattle.flow_measure.specs.Groups.{firsts_of}
 use Rattle.flow_measure.specs.Metered.{AreBuckets, AreListed}
@@ -18,8 +18,10 @@ pub record Details (m : Media) (n : ℕ) (x : PacketDetails) (stamps records : L
       → AreListed stamps stamp → CountAll m n x.overfull bucket rec stamp (length stamps)
   pub first_is : 0 < length stamps → x.groups.first_at ≡ slice_index stamps 0
   pub anchor_is : 0 < length stamps → x.groups.n0 ≡ anchor_in m stamps
-  pub group_is : 0 < length stamps
-      → x.groups.group_at ≡ firsts_of n (slice_index stamps) ((length stamps - 1) / n)
+  -- the last frame or field that began: the one of the next packet, or if that is the first of its own, the one before
+  pub begun : 0 < x.walk.place → x.groups.group_at ≡ firsts_of n (slice_index stamps) x.walk.group
+  pub ended : 0 < length stamps → x.walk.place ≡ 0
+      → x.groups.group_at ≡ firsts_of n (slice_index stamps) (x.walk.group - 1)
   pub times_are : (stamp : ℕ → ℕ) → AreListed stamps stamp → TimesGroups m n x.groups stamp
 
 -- the state before and after `begin` for the next packet at `at`, which may be the first of a frame or field
