@@ -7,6 +7,8 @@ use Rattle.std.specs.List.{flat_map}
 use Rattle.timing_base.specs.Keys.{key_of, media_of}
 use Rattle.timing_base.specs.Media.{Media}
 use Rattle.timing_base.specs.Targets.{target_of, target_text}
+use Rattle.timing_base.specs.declared.capture.FileNote.{FileNote}
+use Rattle.timing_base.specs.declared.capture.FileNote.TheVariants.{End}
 use Rattle.timing_base.specs.declared.media.Kind.{Kind}
 use Rattle.timing_base.specs.declared.media.Kind.TheVariants.{W}
 use Rattle.timing_base.specs.declared.packet.PacketFault.{PacketFault}
@@ -14,6 +16,7 @@ use Rattle.timing_base.specs.declared.packet.PacketFault.TheVariants.{Short, Ver
 use Rattle.timing_base.specs.declared.packet.PacketFault.TheVariants.{StampBack, NoMarker, SameStamp, FrameSize}
 use Rattle.timing_base.specs.declared.packet.PacketFault.TheVariants.{FrameTooLarge}
 use Rattle.timing_base.specs.declared.target.Target.{Target}
+use Rattle.timing_report.specs.Text.{ended, file_text}
 use Rattle.timing_report.specs.Words.{class_name, declared_name, group_name, kind_name, packet_fault_text}
 use Rattle.flow_measure.specs.declared.numbers.Place.{Place}
 use Rattle.capture_scan.specs.declared.found.PassedOver.{PassedOver}
@@ -218,12 +221,14 @@ phase_text s b = buffer_text s b ++ (offsets_text b ++ target_told b.target)
 
 -- pacing: the offsets with which no packet is late
 abbrev pub least_text : Option ℕ → List ℕ
-least_text None = codes "packets are late even with 1 s"
-least_text (Some micros) = codes "none is late from " ++ (decimal micros ++ (codes " " ++ (micro_sign ++ codes " on")))
+least_text None = codes "even with 1 s packets are late"
+least_text (Some micros) =
+    if micros == 0 then codes "none is late with any"
+    else codes "none is late from " ++ (decimal micros ++ (codes " " ++ (micro_sign ++ codes " on")))
 
 -- pacing: the offsets with which no packet is too early
 abbrev pub greatest_text : Option ℕ → List ℕ
-greatest_text None = codes "packets are too early even with 0 s"
+greatest_text None = codes "even with 0 s packets are too early"
 greatest_text (Some micros) = codes "none is too early up to " ++ (decimal micros ++ (codes " " ++ micro_sign))
 
 -- pacing
@@ -347,7 +352,7 @@ advice s is_first (finding.Wrap gaps) =
 advice s is_first (finding.Loss gaps missing) =
     Some (codes "look for drops: of the capture (the last lines of tcpdump), on the path, and of the socket buffer.")
 advice s is_first (finding.Order gaps) =
-    Some (codes "look for a bonded pair, a mirror of both directions, or two senders with one SSRC.")
+    Some (codes "look for a bonded pair, a mirror of both directions, two senders with one SSRC, or a restart.")
 advice s is_first (finding.Rate described steps period) =
     Some (codes "correct exactframerate in the description, or the sender's clock.")
 advice s is_first (finding.Utc offset) = Some (codes "add --tai 37.")
@@ -408,10 +413,25 @@ media_line m e =
 abbrev pub flow_lines : Media → Explained → List ℕ
 flow_lines m e = media_line m e ++ findings_lines (setting_of m e.shown) e.findings
 
+-- the line of capture `file`, counted from 0, that doesn't end after a whole packet record
+abbrev pub broken_line : (file : ℕ) → FileNote → (name : List ℕ) → List ℕ
+broken_line file End name = []
+broken_line file note name = ended (file_text file note name)
+
+-- the lines of such captures from number `file` on, by their names and how each ends
+abbrev pub broken_lines : (file : ℕ) → (names : List (List ℕ)) → List FileNote → List ℕ
+broken_lines file (name ∷ names) (note ∷ notes) = broken_line file note name ++ broken_lines (file + 1) names notes
+broken_lines file [] notes = []
+broken_lines file (name ∷ names) [] = []
+
 -- the lines of a flow of the session
 abbrev pub explained_lines : List Media → Explained → List ℕ
 explained_lines session e = flow_lines (media_of session (key_of 0 e.media)) e
 
--- the whole text
-abbrev pub explained_text : List Media → List Explained → List ℕ
-explained_text session flows = flat_map (explained_lines session) flows
+-- the lines of the flows of the session
+abbrev pub flows_lines : List Media → List Explained → List ℕ
+flows_lines session flows = flat_map (explained_lines session) flows
+
+-- the whole text, of captures with these names that end in these ways
+abbrev pub explained_text : (names : List (List ℕ)) → List FileNote → List Media → List Explained → List ℕ
+explained_text names notes session flows = broken_lines 0 names notes ++ flows_lines session flows

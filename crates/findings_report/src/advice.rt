@@ -117,7 +117,7 @@ pub(crate) fn add_advice(
         ),
         Finding::Order { .. } => add_line(
             text,
-            "look for a bonded pair, a mirror of both directions, or two senders with one SSRC.",
+            "look for a bonded pair, a mirror of both directions, two senders with one SSRC, or a restart.",
         ),
         Finding::Rate { .. } => add_line(
             text,

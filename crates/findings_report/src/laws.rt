@@ -3,7 +3,7 @@
 
 ghost use Rattle.std.specs.Prelude.{◌≡◌, ◌++◌, ◌∷◌, [], None, Some, codes, map, neg_ℤ, pos};
 ghost use Rattle.timing_base.specs.Examples.{plain_media};
-ghost use Rattle.timing_base.specs.declared.capture.FileNote.TheVariants.{End};
+ghost use Rattle.timing_base.specs.declared.capture.FileNote.TheVariants.{Cut, End};
 ghost use Rattle.timing_base.specs.declared.media.Kind.TheVariants.{N, W};
 ghost use Rattle.timing_base.specs.declared.packet.PacketFault.TheVariants.{NoMarker};
 ghost use Rattle.sender_params.specs.Worked.{hd_25_interlaced};
@@ -32,7 +32,7 @@ pub fn times_by_hand()
 /// The whole text of a burst of five packets, and of RTP timestamps that aren't the media clock's.
 #[tactic(auto, unfolding(crate::proofs::Numerals::explained_texts))]
 pub fn burst_text_by_hand()
-    ensures { explained_text (plain_media ∷ [])
+    ensures { explained_text (codes "a.pcap" ∷ []) (End ∷ []) (plain_media ∷ [])
         (found_of (Some W) (burst_found ∷ finding.Unlocked (pos 1663502088) ∷ []) ∷ [])
         ≡ codes "1 239.0.0.1:50000 declared N class wide: burst\n"
         ++ (codes "  burst: the bucket holds up to 5 packets, N allows 4: 1 packet in 1 of 2 frames, first record 26 at "
@@ -47,7 +47,7 @@ pub fn burst_text_by_hand()
 /// The whole text of capture timestamps in UTC, by which all packets are late.
 #[tactic(auto, unfolding(crate::proofs::Numerals::explained_texts))]
 pub fn utc_text_by_hand()
-    ensures { explained_text (plain_media ∷ [])
+    ensures { explained_text (codes "a.pcap" ∷ []) (End ∷ []) (plain_media ∷ [])
         (found_of None (finding.Utc (pos 3330000) ∷ finding.Phase all_late ∷ []) ∷ [])
         ≡ codes "1 239.0.0.1:50000 declared N class none: utc\n"
         ++ (codes "  utc: RTP timestamps are 37 s ahead of the capture's timestamps, so these count in UTC.\n"
@@ -59,14 +59,15 @@ pub fn utc_text_by_hand()
         ++ codes "--delay for a known delay of the capture.\n"))))))))) }
 {}
 
-/// The whole text of a media that is absent.
+/// The whole text of a media that is absent in three captures, of which the second one ends within a packet record.
 #[tactic(auto, unfolding(crate::proofs::Numerals::explained_texts))]
 pub fn absent_text_by_hand()
-    ensures { explained_text (plain_media ∷ []) (unjudged_of (finding.Absent some_passed_over 1 ∷ []) ∷ [])
-        ≡ codes "1 239.0.0.1:50000 declared N: absent\n"
+    ensures { explained_text (codes "a.pcap" ∷ codes "b.pcap" ∷ codes "c.pcap" ∷ []) (End ∷ Cut 3232 ∷ End ∷ [])
+        (plain_media ∷ []) (unjudged_of (finding.Absent some_passed_over 1 ∷ []) ∷ [])
+        ≡ codes "file 2 cut at 3232 b.pcap\n" ++ (codes "1 239.0.0.1:50000 declared N: absent\n"
         ++ (codes "  absent: no packet comes to this target. The capture has 1 stream. Passed over: 5 (IPv6). "
         ++ (codes "Passed over: 2 (neither IPv4 nor IPv6).\n"
-        ++ (codes "  do: capture the right port or VLAN, and join the group. IPv6 and double VLAN tags aren't read.\n"))) }
+        ++ (codes "  do: capture the right port or VLAN, and join the group. IPv6 and double VLAN tags aren't read.\n")))) }
 {}
 
 /// The sentences of the other findings on a flow as a whole and on its gaps.
@@ -112,8 +113,18 @@ pub fn run_sentences_by_hand()
         ≡ codes "3 of 40 packets come after their read, by up to 5.3 " ++ (micro_sign ++ (codes ". "
         ++ (codes "2 of 40 packets come so early that the buffer holds more than N allows. "
         ++ (codes "No offset (TROFF) serves all packets: none is late from 9 " ++ (micro_sign
-        ++ (codes " on, and packets are too early even with 0 s; the description's is 764.444 "
+        ++ (codes " on, and even with 0 s packets are too early; the description's is 764.444 "
         ++ (micro_sign ++ codes "."))))))) }
+    ensures any { map (λ b. sentence (setting_of plain_media (Some (in_short None))) (finding.Pacing b))
+        (record { late = 0; above = 1; slack = pos 0; offsets = offsets (Some 0) None; target = 0 }
+        ∷ record { late = 1; above = 0; slack = neg_ℤ (pos 1000); offsets = offsets None (Some 9); target = 0 } ∷ [])
+        ≡ (codes "1 of 40 packets come so early that the buffer holds more than N allows. "
+        ++ (codes "No offset (TROFF) serves all packets: none is late with any, and even with 0 s packets are too early; "
+        ++ (codes "the description's is 0 " ++ (micro_sign ++ codes "."))))
+        ∷ (codes "1 of 40 packets come after their read, by up to 1 " ++ (micro_sign ++ (codes ". "
+        ++ (codes "No offset (TROFF) serves all packets: even with 1 s packets are late, and none is too early up to 9 "
+        ++ (micro_sign ++ (codes "; the description's is 0 " ++ (micro_sign ++ codes ".")))))))
+        ∷ [] }
     ensures drift { map (λ t. sentence (setting_of plain_media (Some (in_short None))) (finding.Drift t))
         (pos 123 ∷ neg_ℤ (pos 10) ∷ []) ≡ codes "frames come later and later, by 12.3 ppm."
         ∷ codes "frames come earlier and earlier, by 1.0 ppm." ∷ [] }

@@ -150,7 +150,8 @@ impl fmt::Display for LeastText {
     fn fmt<W: fmt::Write>(&self, f: &mut fmt::Formatter<W>) -> fmt::Result {
         let sign = micro_sign();
         match self.micros {
-            None => f.write_str("packets are late even with 1 s"),
+            None => f.write_str("even with 1 s packets are late"),
+            Some(0) => f.write_str("none is late with any"),
             Some(micros) => write!(f, "none is late from {micros} {sign} on"),
         }
     }
@@ -171,7 +172,7 @@ impl fmt::Display for GreatestText {
     fn fmt<W: fmt::Write>(&self, f: &mut fmt::Formatter<W>) -> fmt::Result {
         let sign = micro_sign();
         match self.micros {
-            None => f.write_str("packets are too early even with 0 s"),
+            None => f.write_str("even with 0 s packets are too early"),
             Some(micros) => write!(f, "none is too early up to {micros} {sign}"),
         }
     }

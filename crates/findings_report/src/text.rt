@@ -1,8 +1,8 @@
 //! Writes the findings as lines of text.
 
-ghost use Rattle.std.specs.Prelude.{◌≡◌, ◌++◌, ◌<◌, All, IfOk, length, string_bytes};
+ghost use Rattle.std.specs.Prelude.{◌≡◌, ◌++◌, ◌+◌, ◌<◌, ◌^◌, All, IfOk, length, string_bytes};
 ghost use Rattle.std.specs.List.{flat_map};
-ghost use Rattle.findings_report.specs.Text.{class_part, explained_lines, explained_text, finding_lines, findings_lines, flow_lines, headline, later_lines, media_line, sentence_line};
+ghost use Rattle.findings_report.specs.Text.{class_part, broken_line, broken_lines, explained_lines, explained_text, finding_lines, findings_lines, flow_lines, flows_lines, headline, later_lines, media_line, sentence_line};
 ghost use Rattle.findings_report.specs.Flows.{AreOfSession};
 
 use crate::advice::add_advice;
@@ -11,8 +11,8 @@ use crate::setting::{Setting, setting_of};
 use flow_findings::{Explained, ExplainedRun, Finding};
 use std::alloc::{AllocError as OutOfMemory, Global};
 use std::fmt;
-use timing_base::{FlowKey, Media, Session};
-use timing_report::{class_name, declared_name, media_of};
+use timing_base::{FileName, FileNote, FlowKey, Media, Session};
+use timing_report::{NoteText, class_name, declared_name, media_of};
 
 /// Adds the line of a finding.
 fn add_sentence_line(
@@ -160,15 +160,72 @@ fn add_explained(
     add_flow(text, alloc, media_of(session, key), flow)
 }
 
-/// Returns the findings on flows as lines of text: for each flow a line, and for each of its findings a line, and one
-/// with what to do. Returns `Err` if memory runs out.
-pub fn text_of(alloc: Global, session: &Session, flows: &[Explained]) -> Result<String, OutOfMemory>
+/// Adds the line of a capture that doesn't end after a whole packet record; `file` counts from 0.
+fn add_broken(text: &mut String, file: u64, note: FileNote, name: &str) -> Result<(), OutOfMemory>
+    requires { file + 1 < 2 ^ 64 }
+    ensures { IfOk result (λ _. string_bytes text.new
+        ≡ string_bytes text.old ++ broken_line file note name.now) }
+{
+    match note {
+        FileNote::End => Ok(()),
+        FileNote::Cut { .. } | FileNote::Refused(_) => {
+            let note = NoteText { note };
+            writeln!(text, "file {} {note} {name}", file + 1)
+        }
+    }
+}
+
+/// Adds the lines of captures that don't end after a whole packet record.
+fn add_all_broken(
+    text: &mut String,
+    captures: &[FileName],
+    notes: &[FileNote],
+) -> Result<(), OutOfMemory>
+    ensures { IfOk result (λ _. string_bytes text.new
+        ≡ string_bytes text.old ++ broken_lines 0 captures.now notes.now) }
+{
+    for (file, name) in captures.iter().enumerate() {
+        let Some(note) = notes.get(file) else {
+            return Ok(());
+        };
+        add_broken(text, file as u64, *note, name.as_str())?;
+    }
+    Ok(())
+}
+
+/// Adds the lines of the flows of the session.
+fn add_flows(
+    text: &mut String,
+    alloc: Global,
+    session: &Session,
+    flows: &[Explained],
+) -> Result<(), OutOfMemory>
     requires { AreOfSession session.now flows.now }
-    ensures { IfOk result (λ s. string_bytes s ≡ explained_text session.now flows.now) }
+    ensures { IfOk result (λ _. string_bytes text.new
+        ≡ string_bytes text.old ++ flows_lines session.now flows.now) }
+{
+    for flow in flows {
+        add_explained(text, alloc, session, flow)?;
+    }
+    Ok(())
+}
+
+/// Returns the findings on flows as lines of text: for each flow a line, and for each of its findings a line, and one
+/// with what to do. `captures` are the names of the captures, and `notes` has how each ends; above those of the flows
+/// stands a line for each capture that doesn't end after a whole packet record. Returns `Err` if memory runs out.
+pub fn text_of(
+    alloc: Global,
+    captures: &[FileName],
+    notes: &[FileNote],
+    session: &Session,
+    flows: &[Explained],
+) -> Result<String, OutOfMemory>
+    requires { AreOfSession session.now flows.now }
+    ensures { IfOk result (λ s. string_bytes s
+        ≡ explained_text captures.now notes.now session.now flows.now) }
 {
     let mut text = String::new(alloc);
-    for flow in flows {
-        add_explained(&mut text, alloc, session, flow)?;
-    }
+    add_all_broken(&mut text, captures, notes)?;
+    add_flows(&mut text, alloc, session, flows)?;
     Ok(text)
 }

@@ -99,10 +99,10 @@ has_no_frame (run_verdict.Judged judged) = false
 abbrev pub have_no_frame : List Run → Bool
 have_no_frame runs = list_all (λ run. has_no_frame run.verdict) runs
 
--- no run of the flow has a whole frame or field
+-- the flow has no gap and no whole frame or field. What is wrong with a flow with gaps are first its gaps, also if no
+-- run has a whole frame or field
 abbrev pub is_unmarked : Verdict → Bool
 is_unmarked (verdict.Unjudged (unjudged.NoWholeFrame head)) = true
-is_unmarked (verdict.Runs runs) = have_no_frame runs
 is_unmarked _ = false
 
 -- the count of markers of the stream to the media's target, if it is among the streams that are listed. A flow that
@@ -110,7 +110,7 @@ is_unmarked _ = false
 abbrev pub markers_to : Media → List Stream → Option ℕ
 markers_to m streams = option_map (λ s. s.markers) (find (λ s. is_same_target s.target (target_of m)) streams)
 
--- unmarked: packets came, and no run has a whole frame or field
+-- unmarked: packets came without a gap, and there is no whole frame or field
 abbrev pub unmarked : Media → Verdict → (packets : ℕ) → List Stream → Option Finding
 unmarked m v packets streams = found_if (is_unmarked v) (finding.Unmarked packets (markers_to m streams))
 

@@ -168,14 +168,13 @@ fn has_no_frame(unjudged: Unjudged) -> bool
     matches!(unjudged, Unjudged::NoWholeFrame { .. })
 }
 
-/// Returns whether packets came, and no run has a whole frame or field.
+/// Returns whether packets came without a gap, and there is no whole frame or field.
 fn is_unmarked(verdict: &Verdict) -> bool
     ensures { result ≡ is_unmarked verdict.now }
 {
     match verdict {
         Verdict::Unjudged(unjudged) => has_no_frame(*unjudged),
-        Verdict::Judged(_) => false,
-        Verdict::Runs(runs) => have_no_frame(runs.list.as_slice()),
+        Verdict::Judged(_) | Verdict::Runs(_) => false,
     }
 }
 

@@ -100,15 +100,17 @@ pub fn refused_by_hand()
     ensures judged { refused (verdict.Judged narrow) ≡ None }
 {}
 
-/// A flow without a whole frame, in one run or in two; and one of which a run is judged. The stream to its target has 9
-/// markers; a stream that isn't listed has none that are known.
+/// A flow without a whole frame, whose stream has 9 markers, or isn't listed; two runs without a whole frame, of which the
+/// gap between them is told instead; and two of which one is judged.
 pub fn unmarked_by_hand()
     ensures one { unmarked plain_media (verdict.Unjudged (unjudged.NoWholeFrame 10)) 10 streams_by_hand
         ≡ Some (finding.Unmarked 10 (Some 9)) }
+    ensures unlisted { unmarked plain_media (verdict.Unjudged (unjudged.NoWholeFrame 10)) 12 []
+        ≡ Some (finding.Unmarked 12 None) }
     ensures two { unmarked plain_media (verdict.Runs (
         record { rec = 1; number = 2; expected = None; verdict = run_verdict.NoWholeFrame 3 }
         ∷ record { rec = 9; number = 8; expected = Some 5; verdict = run_verdict.NoWholeFrame 9 } ∷ [])) 12 []
-        ≡ Some (finding.Unmarked 12 None) }
+        ≡ None }
     ensures judged { unmarked plain_media (two_runs narrow 22) 50 streams_by_hand ≡ None }
 {}
 

@@ -47,7 +47,8 @@ known_captures seq16 items = with_contents (contents items) (are_whole items) se
 -- the findings as lines of text, or as JSON if the job asks for it
 abbrev pub printed : ExplainJob → List Media → List FileNote → List Explained → List ℕ
 printed job media notes flows =
-    if job.json then explained_json job.flows.captures notes media flows else explained_text media flows
+    if job.json then explained_json job.flows.captures notes media flows
+    else explained_text job.flows.captures notes media flows
 
 -- the answer over this session, for captures that end in these ways, and these flows
 abbrev pub explained_answer : ExplainJob → List Media → List FileNote → KnownCaptures → List KnownFlow → Answer

@@ -44,10 +44,11 @@ fn printed(
     requires { AreOfSession session.now flows.now }
     ensures { IfOk result (λ s. string_bytes s ≡ printed job.now session.now notes.now flows.now) }
 {
+    let captures = job.flows.captures.as_slice();
     if job.json {
-        json_of(alloc, job.flows.captures.as_slice(), notes, session, flows)
+        json_of(alloc, captures, notes, session, flows)
     } else {
-        text_of(alloc, session, flows)
+        text_of(alloc, captures, notes, session, flows)
     }
 }
 
