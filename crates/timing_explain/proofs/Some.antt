@@ -1,8 +1,8 @@
 -- The packet records of captures have an answer of `explain`.
 use Rattle.std.proofs.Common.{◌≡◌, ◌<◌, ◌-◌, ◌+◌, ◌^◌, ◌∷◌, ℕ, zero, suc, Bool, false, List, [], length, slice_index, Option, Some, None, refl}
-use Rattle.std.proofs.Common.{ap, arith, subst, ◌∙◌}
+use Rattle.std.proofs.Common.{inl, inr, ap, arith, subst, ◌∙◌}
 use Rattle.std.specs.Prelude.{All}
-use Rattle.std.proofs.lemmas.Bool.{cases_Bool}
+use Rattle.std.proofs.lemmas.Bool.{cases_Bool, cases_eq}
 use Rattle.timing_base.specs.Captures.{IsStamp, Record, joined}
 use Rattle.timing_base.specs.Choices.{chosen, first_chosen}
 use Rattle.timing_base.specs.Jobs.{ExplainJob, IsCaptureJob}
@@ -50,9 +50,9 @@ first-more test count None h = elim (cases_Bool (test count)) as (λ _. (p : Opt
   | inl passes ↦ (Some count, (omega arith, passes, h))
   | inr fails ↦ (
     None,
-    λ i few. elim (split i count few) as (λ _. test i ≡ false) [
-      | inl before ↦ h i before
-      | inr here ↦ ap test here ∙ fails
+    λ i few. elim (cases_eq i count) as (λ _. test i ≡ false) [
+      | inl here ↦ ap test here ∙ fails
+      | inr other ↦ h i (omega (arith, few, other))
     ],
   )
 ]
