@@ -96,15 +96,15 @@ some-answer (Some (request.Shape job)) i texts there told bytes =
 some-answer (Some (request.Skew job)) i texts there told bytes = some-queried (skew_query job) i texts there told (λ read are. some-skew job (map classic read))
 some-answer (Some (request.Measure job)) i texts there told bytes =
     some-queried (measure_query job) i texts there told
-    (λ read are. some-measure job (map classic read) bytes.0 (have-stamps (measure_query job) i texts read told are bytes.1))
+    (λ read are. some-measure job (map classic read) bytes.0 (have-stamps (measure_query job) i texts read bytes.0.inputs.captures_are.few told are bytes.1))
 some-answer (Some (request.Series job)) i texts there told bytes =
     some-queried (series_query job) i texts there told (λ read are. some-series job (map classic read))
 some-answer (Some (request.Page job)) i texts there told bytes =
     some-queried (page_query job) i texts there told
-    (λ read are. some-page job (map classic read) bytes.0 (have-stamps (page_query job) i texts read told are bytes.1))
+    (λ read are. some-page job (map classic read) bytes.0 (have-stamps (page_query job) i texts read bytes.0.inputs.captures_are.few told are bytes.1))
 some-answer (Some (request.Explain job)) i texts there told bytes =
     some-queried (explain_query job) i texts there told
-    (λ read are. some-explain job (map classic read) bytes.0 (have-stamps (explain_query job) i texts read told are bytes.1))
+    (λ read are. some-explain job (map classic read) bytes.0 (have-stamps (explain_query job) i texts read bytes.0.inputs.captures_are.few told are bytes.1))
 
 -- there are not two
 pub only-answer : (asked : Option Request) (i : Inputs) (texts : List (List ℕ)) (a b : Answer) → AreTold i.texts (names_of asked) texts
