@@ -10,9 +10,10 @@ use crate::answer::explained_answer;
 use crate::captures::read_captures;
 use std::alloc::{AllocError as OutOfMemory, Global};
 use timing_base::{ExplainJob, FileName, Session};
+use timing_measure::flows::judged_media;
 use timing_outside::{Shelf, Sink};
 use timing_report::Input;
-use timing_steps::{Answer, Command, Failure, chosen_media, early_of_choice, first_chosen};
+use timing_steps::{Answer, Command, Failure, early_of_choice, first_chosen};
 
 /// Reads the captures of a job, and returns the answer over all media of a session, or over the chosen one.
 fn answer_explain<H: Shelf>(
@@ -28,9 +29,9 @@ fn answer_explain<H: Shelf>(
         × CaptureRose (H.faults shelf.old) (H.faults shelf.new) job.now.flows.captures number)) }
     ensures stays { StaysAs H.text H.lacks H.faults shelf.old shelf.new }
 {
-    let only = job.flows.media;
-    let media = chosen_media(session, only);
-    let captures = read_captures(alloc, &job.flows, shelf, media, first_chosen(only))?;
+    let flows = &job.flows;
+    let media = judged_media(flows, session);
+    let captures = read_captures(alloc, flows, shelf, media, first_chosen(flows.media))?;
     Ok(explained_answer(alloc, job, session, &captures)?)
 }
 

@@ -1,35 +1,38 @@
-use Rattle.std.proofs.Common.{◌≡◌, Ok, arith, length, rules, subst}
+use Rattle.std.proofs.Common.{◌≡◌, ◌∙◌, List, Ok, ap, rules, subst}
 use Rattle.timing_base.specs.Choices.{chosen, first_chosen}
+use Rattle.timing_base.specs.Jobs.{ExplainJob}
+use Rattle.timing_base.specs.Media.{Media}
 use Rattle.timing_steps.specs.Answers.{seen_of}
 use Rattle.timing_steps.proofs.Capturing.{reads-all}
-use Rattle.timing_measure.proofs.Chosen.{chosen-few, first-few}
 use Rattle.timing_measure.proofs.Reading.{unread-follows}
 use Rattle.timing_explain.specs.Captures.{IsExplainIn, IsExplainOf}
 use Rattle.timing_explain.specs.Explained.{explain_query}
 use Rattle.timing_explain.proofs.Answering.{has-explained, of-media}
 use Rattle.timing_explain.proofs.explain.answer_explain.Goals as goal
 
-pub read_captures-requires-clause-few : goal.read_captures-requires-clause-few
-read_captures-requires-clause-few g c = search rules
-
-pub read_captures-requires-clause-low : goal.read_captures-requires-clause-low
-read_captures-requires-clause-low g c = search rules
-
 pub explained_answer-requires : goal.explained_answer-requires
 explained_answer-requires g c =
     let job = c.args.job.now in
-    of-media job.flows.options job.flows.media c.args.session.now c.in_ok-captures.captures
-    (subst (λ l. IsExplainOf job.flows.options (first_chosen job.flows.media) l c.in_ok-captures.captures) (search rules)
-    (subst (λ n. IsExplainOf job.flows.options n c.chosen_media.result.now c.in_ok-captures.captures) (search rules) c.in_ok-captures.ensures.some))
+    let only = job.flows.media in
+    let same : c.job.inside.flows.media ≡ only = ap (λ (j : ExplainJob). j.flows.media) c.job.view_is in
+    let media : c.judged_media-media.result.now ≡ chosen only c.args.session.now = c.judged_media-media.ensures.are in
+    let first : c.first_chosen.result ≡ first_chosen only = c.first_chosen.ensures ∙ ap first_chosen same in
+    of-media job.flows.options only c.args.session.now c.in_ok-captures.captures
+    (subst (λ (l : List Media). IsExplainOf job.flows.options (first_chosen only) l c.in_ok-captures.captures) media
+    (subst (λ n. IsExplainOf job.flows.options n c.judged_media-media.result.now c.in_ok-captures.captures) first c.in_ok-captures.ensures.some))
 
 pub returns-clause-follows : goal.returns-clause-follows
 returns-clause-follows g c =
     let job = c.args.job.now in
+    let only = job.flows.media in
+    let same : c.job.inside.flows.media ≡ only = ap (λ (j : ExplainJob). j.flows.media) c.job.view_is in
+    let media : c.judged_media-media.result.now ≡ chosen only c.args.session.now = c.judged_media-media.ensures.are in
+    let first : c.first_chosen.result ≡ first_chosen only = c.first_chosen.ensures ∙ ap first_chosen same in
     reads-all (explain_query job) c.args.session.now (seen_of g.H.Shelf c.args.shelf.now c.read_captures.new.shelf)
     (Ok c.in_ok-explained_answer.field-0) c.in_ok-captures.ensures.there
     (λ texts whole. has-explained job c.args.session.now texts c.in_ok-captures.captures c.in_ok-explained_answer.field-0
-    (subst (λ l. IsExplainIn job.flows.options (first_chosen job.flows.media) l texts c.in_ok-captures.captures) (search rules)
-    (subst (λ n. IsExplainIn job.flows.options n c.chosen_media.result.now texts c.in_ok-captures.captures) (search rules)
+    (subst (λ (l : List Media). IsExplainIn job.flows.options (first_chosen only) l texts c.in_ok-captures.captures) media
+    (subst (λ n. IsExplainIn job.flows.options n c.judged_media-media.result.now texts c.in_ok-captures.captures) first
     (c.in_ok-captures.ensures.told texts whole)))
     c.in_ok-explained_answer.ensures.answers) tt
 
