@@ -1,6 +1,6 @@
 -- Each finding stands at most once in a list, since the findings stand in the order of the table.
 use Rattle.std.proofs.Common.{◌≡◌, ◌≤◌, ◌<◌, ◌++◌, ◌∷◌, ℕ, suc, Bool, true, false, List, [], length, Option, Some, None, refl, ap, ◌∙◌, sym, subst, arith}
-use Rattle.std.proofs.Common.{append-nil, append_assoc}
+use Rattle.std.proofs.Common.{inl, inr, append-nil, append_assoc}
 use Rattle.std.specs.Prelude.{⊤, codes, find, if◌then◌else◌}
 use Rattle.std.specs.List.{filter}
 use Rattle.std.specs.Option.{option_map, option_to_list}
@@ -31,7 +31,7 @@ use Rattle.flow_findings.specs.declared.inputs.ShownRun.{ShownRun}
 use Rattle.flow_findings.specs.declared.numbers.ShownNumbers.{ShownNumbers}
 
 -- the place of a finding in the order of the table
-rank : Finding → ℕ
+abbrev rank : Finding → ℕ
 rank (finding.Elsewhere target packets) = 0
 rank (finding.Absent passed_over streams) = 1
 rank (finding.Refused rec cause) = 2
@@ -52,7 +52,7 @@ rank (finding.Microseconds drain) = 16
 rank (finding.Unlocked offset) = 17
 
 -- the same, from its name
-named_rank : List ℕ → ℕ
+abbrev named_rank : List ℕ → ℕ
 named_rank name =
     if bytes_eq name (codes "elsewhere") then 0
     else if bytes_eq name (codes "absent") then 1
@@ -94,7 +94,7 @@ named_rank-is (finding.Microseconds drain) = refl
 named_rank-is (finding.Unlocked offset) = refl
 
 -- the places rise, from this one on
-Rising : (low : ℕ) → List Finding → Type 0
+abbrev Rising : (low : ℕ) → List Finding → Type 0
 Rising low [] = ⊤
 Rising low (f ∷ fs) = (low ≤ rank f) × Rising (suc (rank f)) fs
 
@@ -138,6 +138,7 @@ Part : (low high : ℕ) → List Finding → Type 0
 Part low high fs = (rest : List Finding) → Rising high rest → Rising low (fs ++ rest)
 
 part-append : (a b c : ℕ) (xs ys : List Finding) → Part a b xs → Part b c ys → Part a c (xs ++ ys)
+unfolding Part
 part-append a b c xs ys p q = λ rest h. subst (Rising a) (sym (append_assoc xs ys rest)) (p (ys ++ rest) (q rest h))
 
 -- the finding, if there is one, has this place
@@ -146,21 +147,25 @@ HasRank r None = ⊤
 HasRank r (Some f) = rank f ≡ r
 
 part-option : (r : ℕ) (o : Option Finding) → HasRank r o → Part r (suc r) (option_to_list o)
+unfolding Part HasRank
 part-option r None h = λ rest later. rising-less r (suc r) rest (omega arith) later
 part-option r (Some f) h = λ rest later. (omega (arith, h), rising-less (suc (rank f)) (suc r) rest (omega (arith, h)) later)
 
 rank-found : (b : Bool) (f : Finding) → HasRank (rank f) (found_if b f)
+unfolding HasRank
 rank-found true f = refl
 rank-found false f = tt
 
 -- so has each finding
 rank-elsewhere : (b : Bool) (o : Option Stream)
     → HasRank 0 (if b then option_map (λ (s : Stream). finding.Elsewhere s.target s.packets) o else None)
+unfolding HasRank
 rank-elsewhere true None = tt
 rank-elsewhere true (Some s) = refl
 rank-elsewhere false o = tt
 
 rank-refused : (v : Verdict) → HasRank 2 (refused v)
+unfolding HasRank
 rank-refused (verdict.Unjudged unjudged.Absent) = tt
 rank-refused (verdict.Unjudged (unjudged.NoWholeFrame head)) = tt
 rank-refused (verdict.Unjudged (unjudged.Refused rec fault)) = refl
@@ -169,14 +174,17 @@ rank-refused (verdict.Judged judged) = tt
 rank-refused (verdict.Runs runs) = tt
 
 rank-burst : (x : ShownNumbers) (o : Option Place) → HasRank 10 (option_map (burst_at x) o)
+unfolding HasRank
 rank-burst x None = tt
 rank-burst x (Some first) = refl
 
 rank-drift : (m : Media) (s : Option Slope) → HasRank 13 (drift m s)
+unfolding HasRank
 rank-drift m None = tt
 rank-drift m (Some s) = rank-found _ (finding.Drift _)
 
 rank-rare : (x : ShownNumbers) (v : KindVerdict) → HasRank 14 (rare_by x v)
+unfolding HasRank
 rank-rare x kind_verdict.Pass = tt
 rank-rare x (kind_verdict.Fail proof) = rank-found _ (finding.Rare _ _ _)
 
@@ -214,12 +222,14 @@ numbers-part m c x =
     part-append 7 10 18 _ _ (clock-part m x) (part-append 10 16 18 _ _ (limit-part m x) (other-part m c x))
 
 run-part : (m : Media) (c : KnownCaptures) (shown : Option ShownRun) → Part 7 18 (run_findings m c shown)
+unfolding Part
 run-part m c None = λ rest later. rising-less 7 18 rest (omega arith) later
 run-part m c (Some s) = numbers-part m c (numbers_of m s)
 
 -- each finding stands at most once
 pub findings-once : (session : List Media) (m : Media) (c : KnownCaptures) (flow : KnownFlow) (name : List ℕ)
     → often (media_findings session m c flow) name ≤ 1
+unfolding Part
 findings-once session m c flow name =
     let all : Part 0 18 (media_findings session m c flow) =
     part-append 0 4 18 _ _ (flow-part session m c flow)

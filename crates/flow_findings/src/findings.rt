@@ -1,6 +1,7 @@
 //! Which findings hold of a flow.
 
-ghost use Rattle.std.specs.Prelude.{◌≡◌, ◌≤◌, ◌<◌, ◌≤ℤ◌, ◌^◌, ◌++◌, IfOk, find, nat_lt, neg_ℤ, pos};
+ghost use Rattle.std.specs.Prelude.{◌≡◌, ◌≤◌, ◌<◌, ◌≤ℤ◌, ◌^◌, ◌++◌, ◌&&◌, IfOk, find, nat_lt, neg_ℤ, not, pos};
+ghost use Rattle.std.specs.List.{list_any};
 ghost use Rattle.std.specs.Option.{option_to_list};
 ghost use Rattle.flow_findings.specs.Gaps.{gaps_of as gaps_in};
 ghost use Rattle.flow_findings.specs.declared.finding.Finding.TheVariants as finding;
@@ -115,6 +116,22 @@ fn elsewhere(
     }
 }
 
+/// Returns whether one of these streams may be that of the media.
+fn any_may_be(session: &Session, media: &Media, streams: &[Stream]) -> bool
+    ensures { result ≡ list_any (may_be_of session.now media.now) streams.now }
+{
+    streams
+        .iter()
+        .any(|stream| may_be_of(session, media, stream))
+}
+
+/// Returns whether no packet came to the target of the media, and no stream may be its own.
+fn is_lost(session: &Session, media: &Media, verdict: &Verdict, streams: &[Stream]) -> bool
+    ensures { result ≡ (is_absent verdict.now && not (list_any (may_be_of session.now media.now) streams.now)) }
+{
+    is_absent(verdict) && !any_may_be(session, media, streams)
+}
+
 /// Returns the finding `absent`, if it holds.
 fn absent(
     session: &Session,
@@ -125,10 +142,7 @@ fn absent(
 ) -> Option<Finding>
     ensures { result ≡ absent session.now media.now verdict.now passed_over streams.now }
 {
-    let other = streams
-        .iter()
-        .any(|stream| may_be_of(session, media, stream));
-    (is_absent(verdict) && !other).then_some(Finding::Absent {
+    is_lost(session, media, verdict, streams).then_some(Finding::Absent {
         passed_over,
         streams: streams.len() as u64,
     })
