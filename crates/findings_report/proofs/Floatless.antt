@@ -1,7 +1,9 @@
 -- No value of the findings has a float.
 use Rattle.std.proofs.Common.{◌≡◌, ◌==◌, ◌++◌, ℕ, ℤ, pos, negsuc, Bool, true, false, List, [], ◌∷◌, refl}
 use Rattle.std.specs.Prelude.{codes, map, Option, Some, None, if◌then◌else◌}
+use Rattle.serde_json.specs.Data.{string}
 use Rattle.serde_json.specs.Written.{has_float}
+use Rattle.timing_base.specs.Keys.{key_of, media_of}
 use Rattle.timing_base.specs.Media.{Media}
 use Rattle.timing_base.specs.declared.capture.FileNote.{FileNote}
 use Rattle.timing_report.specs.json_report.Json.{count, files_data, list_of, object_of}
@@ -17,6 +19,7 @@ use Rattle.flow_findings.specs.declared.finding.Offsets.{Offsets}
 use Rattle.flow_findings.specs.declared.finding.Refusal.{Refusal}
 use Rattle.flow_findings.specs.declared.finding.Refusal.TheVariants.{Fault, Gap}
 use Rattle.flow_findings.specs.declared.finding.Steps.{Steps}
+use Rattle.flow_findings.specs.Words.{finding_name}
 use Rattle.findings_report.specs.Json.{all_data, all_members, buffer_members, capture_members, class_members, count_members, explained_data}
 use Rattle.findings_report.specs.Json.{finding_data, flow_data, flow_members, number_members, numbers_members, offsets_data, passed_over_members}
 use Rattle.findings_report.specs.Json.{refusal_members, runs_members, signed, steps_members}
@@ -90,7 +93,7 @@ numbers-floatless (finding.Microseconds drain) = refl
 numbers-floatless (finding.Unlocked offset) = last-signed offset
 
 finding-floatless : (f : Finding) → has_float (finding_data f) ≡ false
-finding-floatless f = object-floatless _ (numbers-floatless f)
+finding-floatless f = object-floatless ((codes "finding", string (finding_name f)) ∷ numbers_members f) (numbers-floatless f)
 
 class-floatless : (run : Option ExplainedRun) → any_float (class_members run) ≡ false
 class-floatless None = refl
@@ -125,4 +128,4 @@ all-floatless names notes session flows =
     object-floatless (all_members names notes session flows)
     (any_float-append (capture_members names notes) _ (captures-floatless names notes)
     (neither (has_float (list_of (map (explained_data session) flows))) false
-    (list-floatless (explained_data session) (λ e. flow-floatless _ e) flows) refl))
+    (list-floatless (explained_data session) (λ (e : Explained). flow-floatless (media_of session (key_of 0 e.media)) e) flows) refl))

@@ -75,11 +75,23 @@ abbrev pub place_members : Place → List Member
 place_members p = (codes "record", count p.«record») ∷ (codes "stamp", count p.stamp) ∷ []
 
 -- burst
+abbrev pub burst_counts : (greatest limit packets groups : ℕ) → List Member
+burst_counts greatest limit packets groups =
+    (codes "greatest", count greatest) ∷ (codes "groups", count groups) ∷ (codes "limit", count limit)
+    ∷ (codes "packets", count packets) ∷ []
+
+abbrev pub burst_times : Place → (span period : ℕ) → List Member
+burst_times first span period =
+    (codes "period", count period) ∷ (codes "span", count span) ∷ place_members first
+
 abbrev pub burst_members : (greatest limit packets groups : ℕ) → Place → (span period : ℕ) → List Member
 burst_members greatest limit packets groups first span period =
-    (codes "greatest", count greatest) ∷ (codes "groups", count groups) ∷ (codes "limit", count limit)
-    ∷ (codes "packets", count packets) ∷ (codes "period", count period) ∷ (codes "span", count span)
-    ∷ place_members first
+    burst_counts greatest limit packets groups ++ burst_times first span period
+
+-- absent
+abbrev pub absent_members : PassedOver → (streams : ℕ) → List Member
+absent_members passed_over streams =
+    (codes "passed_over", object_of (passed_over_members passed_over)) ∷ (codes "streams", count streams) ∷ []
 
 -- the offsets that would serve
 abbrev pub offsets_data : Offsets → Data
@@ -102,8 +114,7 @@ pass_members bucket bucket_limit buffer buffer_limit slack =
 abbrev pub numbers_members : Finding → List Member
 numbers_members (finding.Elsewhere target packets) =
     (codes "packets", count packets) ∷ (codes "target", string (target_text target)) ∷ []
-numbers_members (finding.Absent passed_over streams) =
-    (codes "passed_over", object_of (passed_over_members passed_over)) ∷ (codes "streams", count streams) ∷ []
+numbers_members (finding.Absent passed_over streams) = absent_members passed_over streams
 numbers_members (finding.Refused rec cause) = (codes "record", count rec) ∷ refusal_members cause
 numbers_members (finding.Unmarked packets markers) =
     (codes "packets", count packets) ∷ number_members (codes "markers") markers

@@ -43,6 +43,10 @@ counted n noun = decimal n ++ (codes " " ++ (noun ++ (if n == 1 then [] else cod
 abbrev pub packets_text : ℕ → List ℕ
 packets_text n = counted n (codes "packet")
 
+-- gaps, with their count
+abbrev pub gaps_text : ℕ → List ℕ
+gaps_text n = counted n (codes "gap")
+
 -- frames or fields, with their count
 abbrev pub groups_text : Setting → ℕ → List ℕ
 groups_text s n = counted n (group_name s.interlaced)
@@ -81,11 +85,14 @@ passed_over_text n =
     ++ (class_text n.fragment (codes "a fragment of a UDP datagram")
     ++ class_text n.broken (codes "IPv4 in a bad form, or cut short"))))))
 
+-- absent: no packet came, and the count of streams
+abbrev pub streams_text : (streams : ℕ) → List ℕ
+streams_text streams =
+    codes "no packet comes to this target. The capture has " ++ (counted streams (codes "stream") ++ codes ".")
+
 -- absent
 abbrev pub absent_text : PassedOver → (streams : ℕ) → List ℕ
-absent_text passed_over streams =
-    codes "no packet comes to this target. The capture has " ++ (counted streams (codes "stream")
-    ++ (codes "." ++ passed_over_text passed_over))
+absent_text passed_over streams = streams_text streams ++ passed_over_text passed_over
 
 -- why a flow is refused
 abbrev pub refusal_text : Refusal → List ℕ
@@ -115,17 +122,17 @@ unmarked_text s packets markers =
 -- wrap
 abbrev pub wrap_text : (gaps : ℕ) → List ℕ
 wrap_text gaps =
-    codes "the sequence number wraps and the extended sequence number stays 0, at " ++ (counted gaps (codes "gap")
+    codes "the sequence number wraps and the extended sequence number stays 0, at " ++ (gaps_text gaps
     ++ codes ".")
 
 -- loss
 abbrev pub loss_text : (gaps missing : ℕ) → List ℕ
 loss_text gaps missing =
-    codes "missing packets: " ++ (decimal missing ++ (codes ", in " ++ (counted gaps (codes "gap") ++ codes ".")))
+    codes "missing packets: " ++ (decimal missing ++ (codes ", in " ++ (gaps_text gaps ++ codes ".")))
 
 -- order
 abbrev pub order_text : (gaps : ℕ) → List ℕ
-order_text gaps = codes "packet numbers go back, at " ++ (counted gaps (codes "gap") ++ codes ".")
+order_text gaps = codes "packet numbers go back, at " ++ (gaps_text gaps ++ codes ".")
 
 -- ---- of the run that is shown
 
@@ -193,12 +200,17 @@ abbrev pub space_if : Bool → List ℕ
 space_if true = codes " "
 space_if false = []
 
+-- the packets that come after their reads, if there are such packets
+abbrev pub late_part : Setting → BrokenBuffer → List ℕ
+late_part s b = if nat_lt 0 b.late then late_text s b else []
+
+-- the packets that come too early for the buffer, if there are such packets
+abbrev pub early_part : Setting → BrokenBuffer → List ℕ
+early_part s b = if nat_lt 0 b.above then early_text s b else []
+
 -- the packets that break the buffer
 abbrev pub buffer_text : Setting → BrokenBuffer → List ℕ
-buffer_text s b =
-    (if nat_lt 0 b.late then late_text s b else [])
-    ++ (space_if (nat_lt 0 b.late && nat_lt 0 b.above)
-    ++ (if nat_lt 0 b.above then early_text s b else []))
+buffer_text s b = late_part s b ++ (space_if (nat_lt 0 b.late && nat_lt 0 b.above) ++ early_part s b)
 
 -- an offset in microseconds, and 0 if there is none
 abbrev pub offset_number : Option ℕ → List ℕ
@@ -231,11 +243,15 @@ abbrev pub greatest_text : Option ℕ → List ℕ
 greatest_text None = codes "even with 0 s packets are too early"
 greatest_text (Some micros) = codes "none is too early up to " ++ (decimal micros ++ (codes " " ++ micro_sign))
 
+-- pacing: the offsets that serve for one end of the buffer
+abbrev pub ends_text : BrokenBuffer → List ℕ
+ends_text b =
+    codes " No offset (TROFF) serves all packets: " ++ (least_text b.offsets.least ++ (codes ", and "
+    ++ (greatest_text b.offsets.greatest ++ codes ";")))
+
 -- pacing
 abbrev pub pacing_text : Setting → BrokenBuffer → List ℕ
-pacing_text s b =
-    buffer_text s b ++ (codes " No offset (TROFF) serves all packets: " ++ (least_text b.offsets.least
-    ++ (codes ", and " ++ (greatest_text b.offsets.greatest ++ (codes ";" ++ target_told b.target)))))
+pacing_text s b = buffer_text s b ++ (ends_text b ++ target_told b.target)
 
 -- later or earlier
 abbrev pub direction : ℤ → List ℕ

@@ -7,7 +7,7 @@ ghost use Rattle.timing_base.specs.Targets.{target_text};
 ghost use Rattle.timing_report.specs.json_report.Json.{file_data, file_members, files_data, list_of, object_of};
 ghost use Rattle.timing_report.specs.json_report.Members.{Puts, members};
 ghost use Rattle.findings_report.specs.Flows.{AreOfSession};
-ghost use Rattle.findings_report.specs.Json.{all_data, buffer_members, burst_members, capture_members, class_members, count_members, explained_data, explained_json, finding_data, flow_data, media_members, number_members, numbers_members, offsets_data, pass_members, passed_over_members, place_members, rate_members, refusal_members, runs_data, runs_members, signed, steps_members};
+ghost use Rattle.findings_report.specs.Json.{absent_members, all_data, buffer_members, burst_counts, burst_times, capture_members, class_members, count_members, explained_data, explained_json, finding_data, flow_data, media_members, number_members, numbers_members, offsets_data, pass_members, passed_over_members, place_members, rate_members, refusal_members, runs_data, runs_members, signed, steps_members};
 ghost use Rattle.flow_findings.specs.Words.{finding_name};
 
 use crate::sentences::RateText;
@@ -158,6 +158,69 @@ fn put_buffer(object: &mut Object, alloc: Global, buffer: &BrokenBuffer) -> Resu
     object.put("troff", offsets_value(alloc, buffer.offsets)?)
 }
 
+/// Adds the numbers of `absent`.
+fn put_absent(
+    object: &mut Object,
+    alloc: Global,
+    passed_over: &PassedOver,
+    streams: u64,
+) -> Result<(), OutOfMemory>
+    ensures { IfOk result (λ _. Puts (absent_members passed_over.now streams) object.old object.new) }
+{
+    let passed_over = passed_over_value(alloc, passed_over)?;
+    object.put("passed_over", passed_over)?;
+    object.put_count("streams", streams)
+}
+
+/// Adds the counts of `burst`.
+fn put_burst_counts(
+    object: &mut Object,
+    greatest: u64,
+    limit: u64,
+    packets: u64,
+    groups: u64,
+) -> Result<(), OutOfMemory>
+    ensures { IfOk result (λ _. Puts (burst_counts greatest limit packets groups) object.old object.new) }
+{
+    object.put_count("greatest", greatest)?;
+    object.put_count("groups", groups)?;
+    object.put_count("limit", limit)?;
+    object.put_count("packets", packets)
+}
+
+/// Adds the times of `burst`.
+fn put_burst_times(
+    object: &mut Object,
+    first: Place,
+    span: u64,
+    period: u64,
+) -> Result<(), OutOfMemory>
+    ensures { IfOk result (λ _. Puts (burst_times first span period) object.old object.new) }
+{
+    object.put_count("period", period)?;
+    object.put_count("span", span)?;
+    put_place(object, first)
+}
+
+/// Adds the numbers of `pass`.
+fn put_pass(
+    object: &mut Object,
+    bucket: u64,
+    bucket_limit: u64,
+    buffer: u64,
+    buffer_limit: u64,
+    slack: i64,
+) -> Result<(), OutOfMemory>
+    ensures { IfOk result (λ _. Puts (pass_members bucket bucket_limit buffer buffer_limit slack)
+        object.old object.new) }
+{
+    object.put_count("bucket", bucket)?;
+    object.put_count("bucket_limit", bucket_limit)?;
+    object.put_count("buffer", buffer)?;
+    object.put_count("buffer_limit", buffer_limit)?;
+    put_signed(object, "slack", slack)
+}
+
 /// Adds the numbers of a finding.
 fn put_numbers(object: &mut Object, alloc: Global, finding: &Finding) -> Result<(), OutOfMemory>
     ensures { IfOk result (λ _. Puts (numbers_members finding.now) object.old object.new) }
@@ -170,10 +233,7 @@ fn put_numbers(object: &mut Object, alloc: Global, finding: &Finding) -> Result<
         Finding::Absent {
             passed_over,
             streams,
-        } => {
-            object.put("passed_over", passed_over_value(alloc, passed_over)?)?;
-            object.put_count("streams", *streams)
-        }
+        } => put_absent(object, alloc, passed_over, *streams),
         Finding::Refused { rec, cause } => {
             object.put_count("record", *rec)?;
             put_refusal(object, alloc, *cause)
@@ -204,13 +264,8 @@ fn put_numbers(object: &mut Object, alloc: Global, finding: &Finding) -> Result<
             span,
             period,
         } => {
-            object.put_count("greatest", *greatest)?;
-            object.put_count("groups", *groups)?;
-            object.put_count("limit", *limit)?;
-            object.put_count("packets", *packets)?;
-            object.put_count("period", *period)?;
-            object.put_count("span", *span)?;
-            put_place(object, *first)
+            put_burst_counts(object, *greatest, *limit, *packets, *groups)?;
+            put_burst_times(object, *first, *span, *period)
         }
         Finding::Phase(buffer) => put_buffer(object, alloc, buffer),
         Finding::Pacing(buffer) => put_buffer(object, alloc, buffer),
@@ -230,13 +285,14 @@ fn put_numbers(object: &mut Object, alloc: Global, finding: &Finding) -> Result<
             buffer,
             buffer_limit,
             slack,
-        } => {
-            object.put_count("bucket", *bucket)?;
-            object.put_count("bucket_limit", *bucket_limit)?;
-            object.put_count("buffer", *buffer)?;
-            object.put_count("buffer_limit", *buffer_limit)?;
-            put_signed(object, "slack", *slack)
-        }
+        } => put_pass(
+            object,
+            *bucket,
+            *bucket_limit,
+            *buffer,
+            *buffer_limit,
+            *slack,
+        ),
         Finding::Microseconds { drain } => object.put_count("drain", *drain),
         Finding::Unlocked { offset } => put_signed(object, "offset", *offset),
     }

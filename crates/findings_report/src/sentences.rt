@@ -1,9 +1,9 @@
 //! The sentences of the findings.
 
-ghost use Rattle.std.specs.Prelude.{◌≡◌, ◌++◌, [], IfOk, Some, codes, nat_lt, string_bytes, if◌then◌else◌};
-ghost use Rattle.findings_report.specs.Text.{above_text, absent_text, bucket_text, buffer_text, burst_text, class_text, drift_text, early_text, elsewhere_text, late_text, loss_text, microseconds_text, offsets_text, order_text, pacing_text, pass_text, passed_over_text, phase_text, rare_text, rate_sentence, refused_text, sentence, span_text, target_told, unlocked_text, unmarked_text, wrap_text};
+ghost use Rattle.std.specs.Prelude.{◌≡◌, ◌++◌, ◌&&◌, [], IfOk, Some, codes, nat_lt, string_bytes, if◌then◌else◌};
+ghost use Rattle.findings_report.specs.Text.{above_text, absent_text, bucket_text, buffer_text, burst_text, class_text, drift_text, early_part, early_text, elsewhere_text, ends_text, late_part, late_text, loss_text, microseconds_text, offsets_text, order_text, pacing_text, pass_text, passed_over_text, phase_text, rare_text, rate_sentence, refused_text, sentence, space_if, span_text, streams_text, target_told, unlocked_text, unmarked_text, wrap_text};
 
-use crate::setting::{Counted, Setting, group_of, packets};
+use crate::setting::{Counted, GapsText, PacketsText, Setting, group_of};
 use crate::times::{Epoch, SignedTimeText, Tenths, TimeText, micro_sign};
 use capture_scan::PassedOver;
 use flow_findings::{BrokenBuffer, DescribedRate, Finding, Refusal, Steps};
@@ -204,7 +204,7 @@ impl fmt::Display for OffsetNumber {
 fn add_elsewhere(text: &mut String, target: Target, count: u64) -> Result<(), OutOfMemory>
     ensures { IfOk result (λ _. string_bytes text.new ≡ string_bytes text.old ++ elsewhere_text target count) }
 {
-    let packets = packets(count);
+    let packets = PacketsText { count };
     write!(
         text,
         "no packet comes to this target, but {packets} to {target}, which the description doesn't have."
@@ -239,10 +239,9 @@ fn add_passed_over(text: &mut String, classes: &PassedOver) -> Result<(), OutOfM
     add_class(text, classes.broken, "IPv4 in a bad form, or cut short")
 }
 
-/// Adds the sentence of `absent`.
-fn add_absent(text: &mut String, passed_over: &PassedOver, count: u64) -> Result<(), OutOfMemory>
-    ensures { IfOk result (λ _. string_bytes text.new
-        ≡ string_bytes text.old ++ absent_text passed_over.now count) }
+/// Adds that no packet came, and the count of streams.
+fn add_streams(text: &mut String, count: u64) -> Result<(), OutOfMemory>
+    ensures { IfOk result (λ _. string_bytes text.new ≡ string_bytes text.old ++ streams_text count) }
 {
     let streams = Counted {
         count,
@@ -251,7 +250,15 @@ fn add_absent(text: &mut String, passed_over: &PassedOver, count: u64) -> Result
     write!(
         text,
         "no packet comes to this target. The capture has {streams}."
-    )?;
+    )
+}
+
+/// Adds the sentence of `absent`.
+fn add_absent(text: &mut String, passed_over: &PassedOver, count: u64) -> Result<(), OutOfMemory>
+    ensures { IfOk result (λ _. string_bytes text.new
+        ≡ string_bytes text.old ++ absent_text passed_over.now count) }
+{
+    add_streams(text, count)?;
     add_passed_over(text, passed_over)
 }
 
@@ -276,23 +283,18 @@ fn add_unmarked(
     ensures { IfOk result (λ _. string_bytes text.new
         ≡ string_bytes text.old ++ unmarked_text setting count markers) }
 {
-    let (packets, group) = (packets(count), group_of(setting));
+    let (packets, group) = (PacketsText { count }, group_of(setting));
     let markers = MarkersText { markers };
     write!(text, "{packets}{markers}: no whole {group}.")
 }
 
 // Of its gaps.
 
-/// Returns gaps with their count.
-fn gaps_in(count: u64) -> Counted {
-    Counted { count, noun: "gap" }
-}
-
 /// Adds the sentence of `wrap`.
 fn add_wrap(text: &mut String, count: u64) -> Result<(), OutOfMemory>
     ensures { IfOk result (λ _. string_bytes text.new ≡ string_bytes text.old ++ wrap_text count) }
 {
-    let gaps = gaps_in(count);
+    let gaps = GapsText { count };
     write!(
         text,
         "the sequence number wraps and the extended sequence number stays 0, at {gaps}."
@@ -303,7 +305,7 @@ fn add_wrap(text: &mut String, count: u64) -> Result<(), OutOfMemory>
 fn add_loss(text: &mut String, count: u64, missing: u64) -> Result<(), OutOfMemory>
     ensures { IfOk result (λ _. string_bytes text.new ≡ string_bytes text.old ++ loss_text count missing) }
 {
-    let gaps = gaps_in(count);
+    let gaps = GapsText { count };
     write!(text, "missing packets: {missing}, in {gaps}.")
 }
 
@@ -311,7 +313,7 @@ fn add_loss(text: &mut String, count: u64, missing: u64) -> Result<(), OutOfMemo
 fn add_order(text: &mut String, count: u64) -> Result<(), OutOfMemory>
     ensures { IfOk result (λ _. string_bytes text.new ≡ string_bytes text.old ++ order_text count) }
 {
-    let gaps = gaps_in(count);
+    let gaps = GapsText { count };
     write!(text, "packet numbers go back, at {gaps}.")
 }
 
@@ -347,7 +349,7 @@ fn add_bucket(
     ensures { IfOk result (λ _. string_bytes text.new
         ≡ string_bytes text.old ++ bucket_text setting greatest limit) }
 {
-    let (greatest, kind) = (packets(greatest), kind_name(setting.kind));
+    let (greatest, kind) = (PacketsText { count: greatest }, kind_name(setting.kind));
     write!(
         text,
         "the bucket holds up to {greatest}, {kind} allows {limit}: "
@@ -365,7 +367,7 @@ fn add_above(
     ensures { IfOk result (λ _. string_bytes text.new
         ≡ string_bytes text.old ++ above_text setting count groups first) }
 {
-    let packets = packets(count);
+    let packets = PacketsText { count };
     let all = Counted {
         count: setting.groups,
         noun: group_of(setting),
@@ -389,20 +391,40 @@ fn add_span(text: &mut String, setting: Setting, span: u64, period: u64) -> Resu
     write!(text, " A {group} is sent within {span} of its {period}.")
 }
 
+/// The packets that come after their reads.
+#[derive(Clone, Copy)]
+struct LateText {
+    setting: Setting,
+    buffer: BrokenBuffer,
+}
+
+impl fmt::Display for LateText {
+    ghost use Rattle.std.specs.Prelude.{Some};
+    ghost use Rattle.findings_report.specs.Text.{late_text};
+
+    ghost output = { λ text. Some (late_text text.setting text.buffer) };
+
+    fn fmt<W: fmt::Write>(&self, f: &mut fmt::Formatter<W>) -> fmt::Result {
+        let packets = PacketsText {
+            count: self.setting.packets,
+        };
+        let time = TimeText {
+            ns: self.buffer.slack.unsigned_abs(),
+        };
+        write!(
+            f,
+            "{} of {packets} come after their read, by up to {time}.",
+            self.buffer.late
+        )
+    }
+}
+
 /// Adds the packets that come after their reads.
-fn add_late(text: &mut String, setting: Setting, buffer: &BrokenBuffer) -> Result<(), OutOfMemory>
-    ensures { IfOk result (λ _. string_bytes text.new
-        ≡ string_bytes text.old ++ late_text setting buffer.now) }
+fn add_late(text: &mut String, setting: Setting, buffer: BrokenBuffer) -> Result<(), OutOfMemory>
+    ensures { IfOk result (λ _. string_bytes text.new ≡ string_bytes text.old ++ late_text setting buffer) }
 {
-    let packets = packets(setting.packets);
-    let time = TimeText {
-        ns: buffer.slack.unsigned_abs(),
-    };
-    write!(
-        text,
-        "{} of {packets} come after their read, by up to {time}.",
-        buffer.late
-    )
+    let late = LateText { setting, buffer };
+    write!(text, "{late}")
 }
 
 /// Adds the packets that come too early for the buffer.
@@ -410,7 +432,10 @@ fn add_early(text: &mut String, setting: Setting, buffer: &BrokenBuffer) -> Resu
     ensures { IfOk result (λ _. string_bytes text.new
         ≡ string_bytes text.old ++ early_text setting buffer.now) }
 {
-    let (packets, kind) = (packets(setting.packets), kind_name(setting.kind));
+    let packets = PacketsText {
+        count: setting.packets,
+    };
+    let kind = kind_name(setting.kind);
     write!(
         text,
         "{} of {packets} come so early that the buffer holds more than {kind} allows.",
@@ -418,38 +443,95 @@ fn add_early(text: &mut String, setting: Setting, buffer: &BrokenBuffer) -> Resu
     )
 }
 
+/// Adds the packets that come after their reads, if there are such packets.
+fn add_late_part(
+    text: &mut String,
+    setting: Setting,
+    buffer: &BrokenBuffer,
+) -> Result<(), OutOfMemory>
+    ensures { IfOk result (λ _. string_bytes text.new
+        ≡ string_bytes text.old ++ late_part setting buffer.now) }
+{
+    if buffer.late > 0 {
+        add_late(text, setting, *buffer)
+    } else {
+        Ok(())
+    }
+}
+
+/// Adds the packets that come too early for the buffer, if there are such packets.
+fn add_early_part(
+    text: &mut String,
+    setting: Setting,
+    buffer: &BrokenBuffer,
+) -> Result<(), OutOfMemory>
+    ensures { IfOk result (λ _. string_bytes text.new
+        ≡ string_bytes text.old ++ early_part setting buffer.now) }
+{
+    if buffer.above > 0 {
+        add_early(text, setting, buffer)
+    } else {
+        Ok(())
+    }
+}
+
+/// Adds a space between two sentences.
+fn add_space_if(text: &mut String, both: bool) -> Result<(), OutOfMemory>
+    ensures { IfOk result (λ _. string_bytes text.new ≡ string_bytes text.old ++ space_if both) }
+{
+    if both { text.push_str(" ") } else { Ok(()) }
+}
+
+/// Returns whether packets come after their reads, and packets too early for the buffer.
+fn breaks_both(buffer: &BrokenBuffer) -> bool
+    ensures { result ≡ (nat_lt 0 buffer.now.late && nat_lt 0 buffer.now.above) }
+{
+    buffer.late > 0 && buffer.above > 0
+}
+
 /// Adds the packets that break the buffer.
 fn add_buffer(text: &mut String, setting: Setting, buffer: &BrokenBuffer) -> Result<(), OutOfMemory>
     ensures { IfOk result (λ _. string_bytes text.new
         ≡ string_bytes text.old ++ buffer_text setting buffer.now) }
 {
-    if buffer.late > 0 {
-        add_late(text, setting, buffer)?;
+    add_late_part(text, setting, buffer)?;
+    add_space_if(text, breaks_both(buffer))?;
+    add_early_part(text, setting, buffer)
+}
+
+/// The offsets that would serve.
+#[derive(Clone, Copy)]
+struct OffsetsText {
+    buffer: BrokenBuffer,
+}
+
+impl fmt::Display for OffsetsText {
+    ghost use Rattle.std.specs.Prelude.{Some};
+    ghost use Rattle.findings_report.specs.Text.{offsets_text};
+
+    ghost output = { λ text. Some (offsets_text text.buffer) };
+
+    fn fmt<W: fmt::Write>(&self, f: &mut fmt::Formatter<W>) -> fmt::Result {
+        let sign = micro_sign();
+        let least = OffsetNumber {
+            micros: self.buffer.offsets.least,
+        };
+        let greatest = OffsetNumber {
+            micros: self.buffer.offsets.greatest,
+        };
+        write!(
+            f,
+            " With an offset (TROFF) of {least} to {greatest} {sign} the buffer would pass;"
+        )
     }
-    if buffer.late > 0 && buffer.above > 0 {
-        text.push_str(" ")?;
-    }
-    if buffer.above > 0 {
-        add_early(text, setting, buffer)?;
-    }
-    Ok(())
 }
 
 /// Adds the offsets that would serve.
-fn add_offsets(text: &mut String, buffer: &BrokenBuffer) -> Result<(), OutOfMemory>
-    ensures { IfOk result (λ _. string_bytes text.new ≡ string_bytes text.old ++ offsets_text buffer.now) }
+fn add_offsets(text: &mut String, buffer: BrokenBuffer) -> Result<(), OutOfMemory>
+    ensures { IfOk result (λ _. string_bytes text.new ≡ string_bytes text.old ++ offsets_text buffer) }
 {
-    let sign = micro_sign();
-    let least = OffsetNumber {
-        micros: buffer.offsets.least,
-    };
-    let greatest = OffsetNumber {
-        micros: buffer.offsets.greatest,
-    };
-    write!(
-        text,
-        " With an offset (TROFF) of {least} to {greatest} {sign} the buffer would pass;"
-    )
+    let offsets = OffsetsText { buffer };
+    write!(text, "{offsets}")
 }
 
 /// Adds the offset of the description.
@@ -466,14 +548,13 @@ fn add_phase(text: &mut String, setting: Setting, buffer: &BrokenBuffer) -> Resu
         ≡ string_bytes text.old ++ phase_text setting buffer.now) }
 {
     add_buffer(text, setting, buffer)?;
-    add_offsets(text, buffer)?;
+    add_offsets(text, *buffer)?;
     add_target(text, buffer.target)
 }
 
-/// Adds the sentences of `pacing`.
-fn add_pacing(text: &mut String, setting: Setting, buffer: &BrokenBuffer) -> Result<(), OutOfMemory>
-    ensures { IfOk result (λ _. string_bytes text.new
-        ≡ string_bytes text.old ++ pacing_text setting buffer.now) }
+/// Adds that no offset serves all packets, and which ones serve for each end of the buffer.
+fn add_ends(text: &mut String, buffer: &BrokenBuffer) -> Result<(), OutOfMemory>
+    ensures { IfOk result (λ _. string_bytes text.new ≡ string_bytes text.old ++ ends_text buffer.now) }
 {
     let least = LeastText {
         micros: buffer.offsets.least,
@@ -481,27 +562,54 @@ fn add_pacing(text: &mut String, setting: Setting, buffer: &BrokenBuffer) -> Res
     let greatest = GreatestText {
         micros: buffer.offsets.greatest,
     };
-    add_buffer(text, setting, buffer)?;
     write!(
         text,
         " No offset (TROFF) serves all packets: {least}, and {greatest};"
-    )?;
+    )
+}
+
+/// Adds the sentences of `pacing`.
+fn add_pacing(text: &mut String, setting: Setting, buffer: &BrokenBuffer) -> Result<(), OutOfMemory>
+    ensures { IfOk result (λ _. string_bytes text.new
+        ≡ string_bytes text.old ++ pacing_text setting buffer.now) }
+{
+    add_buffer(text, setting, buffer)?;
+    add_ends(text, buffer)?;
     add_target(text, buffer.target)
+}
+
+/// The sentence of `drift`.
+#[derive(Clone, Copy)]
+struct DriftText {
+    setting: Setting,
+    ppm10: i64,
+}
+
+impl fmt::Display for DriftText {
+    ghost use Rattle.std.specs.Prelude.{Some};
+    ghost use Rattle.findings_report.specs.Text.{drift_text};
+
+    ghost output = { λ text. Some (drift_text text.setting text.ppm10) };
+
+    fn fmt<W: fmt::Write>(&self, f: &mut fmt::Formatter<W>) -> fmt::Result {
+        let group = group_of(self.setting);
+        let ppm = Tenths {
+            tenths: self.ppm10.unsigned_abs(),
+        };
+        if self.ppm10 < 0 {
+            write!(f, "{group}s come earlier and earlier, by {ppm} ppm.")
+        } else {
+            write!(f, "{group}s come later and later, by {ppm} ppm.")
+        }
+    }
 }
 
 /// Adds the sentence of `drift`.
 fn add_drift(text: &mut String, setting: Setting, ppm10: i64) -> Result<(), OutOfMemory>
     ensures { IfOk result (λ _. string_bytes text.new ≡ string_bytes text.old ++ drift_text setting ppm10) }
 {
-    let group = group_of(setting);
-    let ppm = Tenths {
-        tenths: ppm10.unsigned_abs(),
-    };
-    if ppm10 < 0 {
-        write!(text, "{group}s come earlier and earlier, by {ppm} ppm.")
-    } else {
-        write!(text, "{group}s come later and later, by {ppm} ppm.")
-    }
+    let drift = DriftText { setting, ppm10 };
+    write!(text, "{drift}")
 }
 
 /// Adds the sentence of `rare`.
@@ -526,25 +634,43 @@ fn add_rare(
     )
 }
 
-/// Adds the sentence of `pass`.
-fn add_pass(
-    text: &mut String,
+/// The sentence of `pass`.
+#[derive(Clone, Copy)]
+struct PassText {
     setting: Setting,
     bucket: u64,
     bucket_limit: u64,
     buffer: u64,
     buffer_limit: u64,
     slack: i64,
-) -> Result<(), OutOfMemory>
-    ensures { IfOk result (λ _. string_bytes text.new
-        ≡ string_bytes text.old ++ pass_text setting bucket bucket_limit buffer buffer_limit slack) }
+}
+
+impl fmt::Display for PassText {
+    ghost use Rattle.std.specs.Prelude.{Some};
+    ghost use Rattle.findings_report.specs.Text.{pass_text};
+
+    ghost output = { λ text. Some (pass_text text.setting text.bucket text.bucket_limit text.buffer text.buffer_limit text.slack) };
+
+    fn fmt<W: fmt::Write>(&self, f: &mut fmt::Formatter<W>) -> fmt::Result {
+        let kind = kind_name(self.setting.kind);
+        let limit = PacketsText {
+            count: self.bucket_limit,
+        };
+        let slack = SignedTimeText { ns: self.slack };
+        write!(
+            f,
+            "{kind} passes: the bucket holds up to {} of {limit}, the buffer up to {} of {}, and each packet could come {slack} later.",
+            self.bucket, self.buffer, self.buffer_limit
+        )
+    }
+}
+
+/// Adds the sentence of `pass`.
+fn add_pass(text: &mut String, pass: PassText) -> Result<(), OutOfMemory>
+    ensures { IfOk result (λ _. string_bytes text.new ≡ string_bytes text.old
+        ++ pass_text pass.setting pass.bucket pass.bucket_limit pass.buffer pass.buffer_limit pass.slack) }
 {
-    let (kind, limit) = (kind_name(setting.kind), packets(bucket_limit));
-    let slack = SignedTimeText { ns: slack };
-    write!(
-        text,
-        "{kind} passes: the bucket holds up to {bucket} of {limit}, the buffer up to {buffer} of {buffer_limit}, and each packet could come {slack} later."
-    )
+    write!(text, "{pass}")
 }
 
 /// Adds the sentence of `microseconds`.
@@ -558,14 +684,33 @@ fn add_microseconds(text: &mut String, drain: u64) -> Result<(), OutOfMemory>
     )
 }
 
+/// The sentence of `unlocked`.
+#[derive(Clone, Copy)]
+struct UnlockedText {
+    offset: i64,
+}
+
+impl fmt::Display for UnlockedText {
+    ghost use Rattle.std.specs.Prelude.{Some};
+    ghost use Rattle.findings_report.specs.Text.{unlocked_text};
+
+    ghost output = { λ text. Some (unlocked_text text.offset) };
+
+    fn fmt<W: fmt::Write>(&self, f: &mut fmt::Formatter<W>) -> fmt::Result {
+        write!(
+            f,
+            "RTP timestamps differ from the media clock by {} ticks. No limit of ST 2110-21 depends on it.",
+            self.offset
+        )
+    }
+}
+
 /// Adds the sentence of `unlocked`.
 fn add_unlocked(text: &mut String, offset: i64) -> Result<(), OutOfMemory>
     ensures { IfOk result (λ _. string_bytes text.new ≡ string_bytes text.old ++ unlocked_text offset) }
 {
-    write!(
-        text,
-        "RTP timestamps differ from the media clock by {offset} ticks. No limit of ST 2110-21 depends on it."
-    )
+    let unlocked = UnlockedText { offset };
+    write!(text, "{unlocked}")
 }
 
 /// Adds the sentence of a finding. Returns `Err` if memory runs out.
@@ -628,12 +773,14 @@ pub(crate) fn add_sentence(
             slack,
         } => add_pass(
             text,
-            setting,
-            *bucket,
-            *bucket_limit,
-            *buffer,
-            *buffer_limit,
-            *slack,
+            PassText {
+                setting,
+                bucket: *bucket,
+                bucket_limit: *bucket_limit,
+                buffer: *buffer,
+                buffer_limit: *buffer_limit,
+                slack: *slack,
+            },
         ),
         Finding::Microseconds { drain } => add_microseconds(text, *drain),
         Finding::Unlocked { offset } => add_unlocked(text, *offset),

@@ -70,10 +70,44 @@ impl fmt::Display for Counted {
     }
 }
 
-/// Returns packets with their count.
-pub(crate) fn packets(count: u64) -> Counted {
-    Counted {
-        count,
-        noun: "packet",
+/// Packets with their count.
+#[derive(Clone, Copy)]
+pub(crate) struct PacketsText {
+    pub(crate) count: u64,
+}
+
+impl fmt::Display for PacketsText {
+    ghost use Rattle.std.specs.Prelude.{Some};
+    ghost use Rattle.findings_report.specs.Text.{packets_text};
+
+    ghost output = { λ packets. Some (packets_text packets.count) };
+
+    fn fmt<W: fmt::Write>(&self, f: &mut fmt::Formatter<W>) -> fmt::Result {
+        let packets = Counted {
+            count: self.count,
+            noun: "packet",
+        };
+        write!(f, "{packets}")
+    }
+}
+
+/// Gaps with their count.
+#[derive(Clone, Copy)]
+pub(crate) struct GapsText {
+    pub(crate) count: u64,
+}
+
+impl fmt::Display for GapsText {
+    ghost use Rattle.std.specs.Prelude.{Some};
+    ghost use Rattle.findings_report.specs.Text.{gaps_text};
+
+    ghost output = { λ gaps. Some (gaps_text gaps.count) };
+
+    fn fmt<W: fmt::Write>(&self, f: &mut fmt::Formatter<W>) -> fmt::Result {
+        let gaps = Counted {
+            count: self.count,
+            noun: "gap",
+        };
+        write!(f, "{gaps}")
     }
 }
