@@ -184,10 +184,13 @@ burst_text s greatest limit packets groups first span period =
     bucket_text s greatest limit ++ (above_text s packets groups first ++ span_text s span period)
 
 -- the packets that come after their reads
+abbrev pub late_within : (late packets ns : ℕ) → List ℕ
+late_within late packets ns =
+    decimal late ++ (codes " of " ++ (packets_text packets ++ (codes " come after their read, by up to " ++ (time_text ns
+    ++ codes "."))))
+
 abbrev pub late_text : Setting → BrokenBuffer → List ℕ
-late_text s b =
-    decimal b.late ++ (codes " of " ++ (packets_text s.packets ++ (codes " come after their read, by up to "
-    ++ (time_text (unsigned_abs b.slack) ++ codes "."))))
+late_text s b = late_within b.late s.packets (unsigned_abs b.slack)
 
 -- the packets that come too early for the buffer
 abbrev pub early_text : Setting → BrokenBuffer → List ℕ
@@ -269,13 +272,26 @@ rare_text s broken groups first =
     kind_name s.kind ++ (codes " breaks in " ++ (decimal broken ++ (codes " of " ++ (groups_text s groups
     ++ (codes ", first in " ++ (group_of s ++ (codes " " ++ (decimal first ++ codes "."))))))))
 
+-- pass: the greatest count of the bucket
+abbrev pub pass_bucket : Setting → (bucket bucket_limit : ℕ) → List ℕ
+pass_bucket s bucket bucket_limit =
+    kind_name s.kind ++ (codes " passes: the bucket holds up to " ++ (decimal bucket ++ (codes " of "
+    ++ packets_text bucket_limit)))
+
+-- pass: the greatest count of the buffer
+abbrev pub pass_limits : (buffer buffer_limit : ℕ) → List ℕ
+pass_limits buffer buffer_limit =
+    codes ", the buffer up to " ++ (decimal buffer ++ (codes " of " ++ (decimal buffer_limit
+    ++ codes ", and each packet could come ")))
+
+-- pass: by how much each packet could be later
+abbrev pub later_text : (slack : ℤ) → List ℕ
+later_text slack = signed_time_text slack ++ codes " later."
+
 -- pass
 abbrev pub pass_text : Setting → (bucket bucket_limit buffer buffer_limit : ℕ) → (slack : ℤ) → List ℕ
 pass_text s bucket bucket_limit buffer buffer_limit slack =
-    kind_name s.kind ++ (codes " passes: the bucket holds up to " ++ (decimal bucket ++ (codes " of "
-    ++ (packets_text bucket_limit ++ (codes ", the buffer up to " ++ (decimal buffer ++ (codes " of "
-    ++ (decimal buffer_limit ++ (codes ", and each packet could come " ++ (signed_time_text slack
-    ++ codes " later."))))))))))
+    pass_bucket s bucket bucket_limit ++ (pass_limits buffer buffer_limit ++ later_text slack)
 
 -- microseconds
 abbrev pub microseconds_text : (drain : ℕ) → List ℕ

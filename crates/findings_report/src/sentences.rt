@@ -1,7 +1,7 @@
 //! The sentences of the findings.
 
-ghost use Rattle.std.specs.Prelude.{◌≡◌, ◌++◌, ◌&&◌, [], IfOk, Some, codes, nat_lt, string_bytes, if◌then◌else◌};
-ghost use Rattle.findings_report.specs.Text.{above_text, absent_text, bucket_text, buffer_text, burst_text, class_text, drift_text, early_part, early_text, elsewhere_text, ends_text, late_part, late_text, loss_text, microseconds_text, offsets_text, order_text, pacing_text, pass_text, passed_over_text, phase_text, rare_text, rate_sentence, refused_text, sentence, space_if, span_text, streams_text, target_told, unlocked_text, unmarked_text, wrap_text};
+ghost use Rattle.std.specs.Prelude.{◌≡◌, ◌++◌, ◌&&◌, [], IfOk, Some, codes, nat_lt, string_bytes, unsigned_abs, if◌then◌else◌};
+ghost use Rattle.findings_report.specs.Text.{above_text, absent_text, bucket_text, buffer_text, burst_text, class_text, drift_text, early_part, early_text, elsewhere_text, ends_text, late_part, late_text, later_text, loss_text, microseconds_text, offsets_text, order_text, pacing_text, pass_bucket, pass_limits, pass_text, passed_over_text, phase_text, rare_text, rate_sentence, refused_text, sentence, space_if, span_text, streams_text, target_told, unlocked_text, unmarked_text, wrap_text};
 
 use crate::setting::{Counted, GapsText, PacketsText, Setting, group_of};
 use crate::times::{Epoch, SignedTimeText, Tenths, TimeText, micro_sign};
@@ -391,39 +391,49 @@ fn add_span(text: &mut String, setting: Setting, span: u64, period: u64) -> Resu
     write!(text, " A {group} is sent within {span} of its {period}.")
 }
 
-/// The packets that come after their reads.
+/// The packets that come after their reads: how many, of how many, and by up to how many nanoseconds.
 #[derive(Clone, Copy)]
 struct LateText {
-    setting: Setting,
-    buffer: BrokenBuffer,
+    late: u64,
+    packets: u64,
+    ns: u64,
 }
 
 impl fmt::Display for LateText {
     ghost use Rattle.std.specs.Prelude.{Some};
-    ghost use Rattle.findings_report.specs.Text.{late_text};
+    ghost use Rattle.findings_report.specs.Text.{late_within};
 
-    ghost output = { λ text. Some (late_text text.setting text.buffer) };
+    ghost output = { λ text. Some (late_within text.late text.packets text.ns) };
 
     fn fmt<W: fmt::Write>(&self, f: &mut fmt::Formatter<W>) -> fmt::Result {
         let packets = PacketsText {
-            count: self.setting.packets,
+            count: self.packets,
         };
-        let time = TimeText {
-            ns: self.buffer.slack.unsigned_abs(),
-        };
+        let time = TimeText { ns: self.ns };
         write!(
             f,
             "{} of {packets} come after their read, by up to {time}.",
-            self.buffer.late
+            self.late
         )
     }
+}
+
+/// Returns the nanoseconds by which the latest packet is late.
+fn lateness(buffer: BrokenBuffer) -> u64
+    ensures { result ≡ unsigned_abs buffer.slack }
+{
+    buffer.slack.unsigned_abs()
 }
 
 /// Adds the packets that come after their reads.
 fn add_late(text: &mut String, setting: Setting, buffer: BrokenBuffer) -> Result<(), OutOfMemory>
     ensures { IfOk result (λ _. string_bytes text.new ≡ string_bytes text.old ++ late_text setting buffer) }
 {
-    let late = LateText { setting, buffer };
+    let late = LateText {
+        late: buffer.late,
+        packets: setting.packets,
+        ns: lateness(buffer),
+    };
     write!(text, "{late}")
 }
 
@@ -634,43 +644,78 @@ fn add_rare(
     )
 }
 
-/// The sentence of `pass`.
+/// Adds the greatest count of the bucket of a pass.
+fn add_pass_bucket(
+    text: &mut String,
+    setting: Setting,
+    bucket: u64,
+    bucket_limit: u64,
+) -> Result<(), OutOfMemory>
+    ensures { IfOk result (λ _. string_bytes text.new
+        ≡ string_bytes text.old ++ pass_bucket setting bucket bucket_limit) }
+{
+    let kind = kind_name(setting.kind);
+    let limit = PacketsText {
+        count: bucket_limit,
+    };
+    write!(
+        text,
+        "{kind} passes: the bucket holds up to {bucket} of {limit}"
+    )
+}
+
+/// Adds the greatest count of the buffer of a pass.
+fn add_pass_limits(text: &mut String, buffer: u64, limit: u64) -> Result<(), OutOfMemory>
+    ensures { IfOk result (λ _. string_bytes text.new ≡ string_bytes text.old ++ pass_limits buffer limit) }
+{
+    write!(
+        text,
+        ", the buffer up to {buffer} of {limit}, and each packet could come "
+    )
+}
+
+/// By how much each packet of a pass could be later.
 #[derive(Clone, Copy)]
-struct PassText {
+struct LaterText {
+    slack: i64,
+}
+
+impl fmt::Display for LaterText {
+    ghost use Rattle.std.specs.Prelude.{Some};
+    ghost use Rattle.findings_report.specs.Text.{later_text};
+
+    ghost output = { λ text. Some (later_text text.slack) };
+
+    fn fmt<W: fmt::Write>(&self, f: &mut fmt::Formatter<W>) -> fmt::Result {
+        let slack = SignedTimeText { ns: self.slack };
+        write!(f, "{slack} later.")
+    }
+}
+
+/// Adds by how much each packet of a pass could be later.
+fn add_slack(text: &mut String, slack: i64) -> Result<(), OutOfMemory>
+    ensures { IfOk result (λ _. string_bytes text.new ≡ string_bytes text.old ++ later_text slack) }
+{
+    let later = LaterText { slack };
+    write!(text, "{later}")
+}
+
+/// Adds the sentence of `pass`.
+fn add_pass(
+    text: &mut String,
     setting: Setting,
     bucket: u64,
     bucket_limit: u64,
     buffer: u64,
     buffer_limit: u64,
     slack: i64,
-}
-
-impl fmt::Display for PassText {
-    ghost use Rattle.std.specs.Prelude.{Some};
-    ghost use Rattle.findings_report.specs.Text.{pass_text};
-
-    ghost output = { λ text. Some (pass_text text.setting text.bucket text.bucket_limit text.buffer text.buffer_limit text.slack) };
-
-    fn fmt<W: fmt::Write>(&self, f: &mut fmt::Formatter<W>) -> fmt::Result {
-        let kind = kind_name(self.setting.kind);
-        let limit = PacketsText {
-            count: self.bucket_limit,
-        };
-        let slack = SignedTimeText { ns: self.slack };
-        write!(
-            f,
-            "{kind} passes: the bucket holds up to {} of {limit}, the buffer up to {} of {}, and each packet could come {slack} later.",
-            self.bucket, self.buffer, self.buffer_limit
-        )
-    }
-}
-
-/// Adds the sentence of `pass`.
-fn add_pass(text: &mut String, pass: PassText) -> Result<(), OutOfMemory>
-    ensures { IfOk result (λ _. string_bytes text.new ≡ string_bytes text.old
-        ++ pass_text pass.setting pass.bucket pass.bucket_limit pass.buffer pass.buffer_limit pass.slack) }
+) -> Result<(), OutOfMemory>
+    ensures { IfOk result (λ _. string_bytes text.new
+        ≡ string_bytes text.old ++ pass_text setting bucket bucket_limit buffer buffer_limit slack) }
 {
-    write!(text, "{pass}")
+    add_pass_bucket(text, setting, bucket, bucket_limit)?;
+    add_pass_limits(text, buffer, buffer_limit)?;
+    add_slack(text, slack)
 }
 
 /// Adds the sentence of `microseconds`.
@@ -773,14 +818,12 @@ pub(crate) fn add_sentence(
             slack,
         } => add_pass(
             text,
-            PassText {
-                setting,
-                bucket: *bucket,
-                bucket_limit: *bucket_limit,
-                buffer: *buffer,
-                buffer_limit: *buffer_limit,
-                slack: *slack,
-            },
+            setting,
+            *bucket,
+            *bucket_limit,
+            *buffer,
+            *buffer_limit,
+            *slack,
         ),
         Finding::Microseconds { drain } => add_microseconds(text, *drain),
         Finding::Unlocked { offset } => add_unlocked(text, *offset),

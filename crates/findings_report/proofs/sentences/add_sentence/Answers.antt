@@ -1,4 +1,6 @@
-use Rattle.std.proofs.Common.{◌≡◌, List, ℕ, ◌++◌, IfOk, sym, subst}
+use Rattle.std.proofs.Common.{◌≡◌, List, ℕ, ◌++◌, IfOk, FitsSigned, rules, sym, subst}
+use Rattle.std.proofs.lemmas.Int.{to_z-of_z}
+use Rattle.std.specs.Int.{w64}
 use Rattle.std.specs.Prelude.{string_bytes}
 use Rattle.timing_report.proofs.Appends.{two_ok}
 use Rattle.flow_findings.specs.declared.finding.Finding.{Finding}
@@ -25,5 +27,7 @@ returns-in-Rare c =
 
 pub returns-in-Pass : goal.returns-in-Pass
 returns-in-Pass c =
+    let fits : FitsSigned w64 c.in-Pass.slack = search rules in
+    let added = simp to_z-of_z at c.add_pass.ensures in
     subst (λ (f : Finding). IfOk c.add_pass.result (λ _. string_bytes c.add_pass.new.text ≡ string_bytes c.args.text.now ++ sentence c.args.setting f))
-    (sym c.in-Pass.is) c.add_pass.ensures
+    (sym c.in-Pass.is) added
