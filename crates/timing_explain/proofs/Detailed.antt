@@ -1,7 +1,7 @@
 -- The details of the packets of a run: with one packet more, with those that are committed, and when all packets came.
 use Rattle.std.proofs.Common.{◌≡◌, ◌<◌, ◌≤◌, ◌+◌, ◌-◌, ◌*◌, ◌/◌, ◌%◌, ◌++◌, ◌∷◌, ◌==◌, [], ℕ, zero, suc, Bool, true, false, List, length, slice_index}
 use Rattle.std.proofs.Common.{ℤ, ◌⊎◌, inl, inr, refl, ap, ◌∙◌, sym, subst, arith, length-append}
-use Rattle.std.proofs.lemmas.Bool.{cases_eq}
+use Rattle.std.proofs.lemmas.Bool.{cases_eq, ne_eqb}
 use Rattle.std.proofs.lemmas.Nat.{div-add-mod', le-div}
 use Rattle.timing_base.specs.Media.{Media}
 use Rattle.timing_base.specs.declared.media.Kind.{Kind}
@@ -10,7 +10,8 @@ use Rattle.sender_params.specs.Limits.{c_max_of}
 use Rattle.sender_params.specs.Reads.{anchor_of}
 use Rattle.flow_measure.specs.Groups.{firsts_of, since_at}
 use Rattle.flow_measure.specs.Metered.{AreListed}
-use Rattle.flow_measure.specs.Run.{anchor_in, buckets_of}
+use Rattle.flow_measure.specs.Occupancy.{buckets_of}
+use Rattle.flow_measure.specs.Run.{anchor_in}
 use Rattle.flow_measure.specs.Stands.{DrawsCurve}
 use Rattle.flow_measure.specs.declared.columns.curve.Curve.{Curve}
 use Rattle.flow_measure.proofs.Fronts.{front-is, last-is}
@@ -38,8 +39,7 @@ group-first m n x stamps records h =
 
 -- a number above 0 isn't 0
 is-some : (k : ℕ) → 0 < k → (k == 0) ≡ false
-is-some zero few = absurd (omega (arith, few))
-is-some (suc k) few = refl
+is-some k few = ne_eqb k 0 (λ none. omega (arith, few, none))
 
 -- what `begin` keeps of the times, if a packet came before
 kept : (f : GroupTimes → ℕ) (m : Media) (old mid : PacketDetails) (at : ℕ) → MayBegin m at old mid → 0 < old.walk.seen
