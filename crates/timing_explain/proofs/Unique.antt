@@ -51,7 +51,14 @@ overfull-once m n groups stamps records (a ∷ b ∷ c ∷ []) (d ∷ e ∷ f �
     ap₂ (λ x l. x ∷ l) (overfull-one m n groups stamps records N a d h.0 k.0)
     (ap₂ (λ x l. x ∷ l) (overfull-one m n groups stamps records NL b e (h.1).0 (k.1).0)
     (ap (λ x. x ∷ []) (overfull-one m n groups stamps records W c f (h.1).1 (k.1).1)))
-overfull-once m n groups stamps records xs ys h k = cc
+overfull-once m n groups stamps records [] ys h k = absurd h
+overfull-once m n groups stamps records (a ∷ []) ys h k = absurd h
+overfull-once m n groups stamps records (a ∷ b ∷ []) ys h k = absurd h
+overfull-once m n groups stamps records (a ∷ b ∷ c ∷ x ∷ xs) ys h k = absurd h
+overfull-once m n groups stamps records (a ∷ b ∷ c ∷ []) [] h k = absurd k
+overfull-once m n groups stamps records (a ∷ b ∷ c ∷ []) (d ∷ []) h k = absurd k
+overfull-once m n groups stamps records (a ∷ b ∷ c ∷ []) (d ∷ e ∷ []) h k = absurd k
+overfull-once m n groups stamps records (a ∷ b ∷ c ∷ []) (d ∷ e ∷ f ∷ y ∷ ys) h k = absurd k
 
 -- numbers have one slope
 slope-once : (most : ℕ) (numbers : ℕ → ℤ) (count : ℕ) (s t : Option Slope) → IsSlope most numbers count s → IsSlope most numbers count t → s ≡ t
