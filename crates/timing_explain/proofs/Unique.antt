@@ -49,8 +49,8 @@ overfull-once : (m : Media) (n groups : ℕ) (stamps records : List ℕ) (xs ys 
     → AreOverfull m n groups stamps records ys → xs ≡ ys
 overfull-once m n groups stamps records (a ∷ b ∷ c ∷ []) (d ∷ e ∷ f ∷ []) h k =
     ap₂ (λ x l. x ∷ l) (overfull-one m n groups stamps records N a d h.0 k.0)
-    (ap₂ (λ x l. x ∷ l) (overfull-one m n groups stamps records NL b e (h.1).0 (k.1).0)
-    (ap (λ x. x ∷ []) (overfull-one m n groups stamps records W c f (h.1).1 (k.1).1)))
+    (ap₂ (λ x l. x ∷ l) (overfull-one m n groups stamps records NL b e h.1 k.1)
+    (ap (λ x. x ∷ []) (overfull-one m n groups stamps records W c f h.2 k.2)))
 overfull-once m n groups stamps records [] ys h k = absurd h
 overfull-once m n groups stamps records (a ∷ []) ys h k = absurd h
 overfull-once m n groups stamps records (a ∷ b ∷ []) ys h k = absurd h

@@ -52,6 +52,13 @@ fn known_of(found: Found, micros: Microseconds, seq16: bool) -> KnownCaptures
     }
 }
 
+/// Returns whether the packets of the flows are numbered by their 16-bit sequence numbers alone.
+fn seq16_of(job: &CaptureJob) -> bool
+    ensures { result ≡ job.now.options.seq16 }
+{
+    job.options.seq16
+}
+
 /// Opens and reads the captures of a job as one: the flows of these media, which count from `first` on, a scan, and
 /// whether all timestamps are whole microseconds.
 pub fn read_captures<H: Shelf>(
@@ -91,6 +98,6 @@ pub fn read_captures<H: Shelf>(
     Ok(ExplainCaptures {
         notes: taken.notes,
         flows,
-        known: known_of(found, micros, job.options.seq16),
+        known: known_of(found, micros, seq16_of(job)),
     })
 }

@@ -1,6 +1,5 @@
-use Rattle.std.proofs.Common.{◌≡◌, [], ap, refl, subst, true}
+use Rattle.std.proofs.Common.{◌≡◌, [], refl, subst, true}
 use Rattle.timing_base.specs.Captures.{joined}
-use Rattle.timing_base.specs.Jobs.{CaptureJob}
 use Rattle.timing_measure.proofs.Taken.{flows-end}
 use Rattle.timing_explain.specs.Captures.{known_of}
 use Rattle.timing_explain.specs.Ends.{EndsKnown, PairStandsFor, TellsPair}
@@ -11,7 +10,6 @@ use Rattle.timing_explain.proofs.captures.read_captures.Goals as goal
 pub returns-clause-told : goal.returns-clause-told
 returns-clause-told g c = λ texts whole.
     let taken = c.in_ok-taken.ensures.told texts whole in
-    let seq16 = ap (λ (j : CaptureJob). j.options.seq16) c.job-inside.view_is in
     record {
       files = taken.files;
       records = taken.records;
@@ -19,9 +17,9 @@ returns-clause-told g c = λ texts whole.
           c.in_ok-taken.taken.flows.items c.in_ok-flows.flows.items (λ f e ends m number packets h. ends m number c.args.job.now.options packets h)
           taken.are c.in_ok-flows.ensures;
       known_is = known-is c.args.job.now.options.seq16 (joined taken.files) c.in_ok-found.found c.in_ok-taken.taken.beside.second c.known_of.result
-          (subst (λ q. c.known_of.result ≡ known_of c.in_ok-found.found c.in_ok-taken.taken.beside.second q) seq16 c.known_of.ensures)
-          (c.in_ok-found.ensures (joined taken.files) (taken.beside.0 [] c.new-scan.ensures.stands))
-          (taken.beside.1 [] c.new-micros.ensures);
+          (subst (λ q. c.known_of.result ≡ known_of c.in_ok-found.found c.in_ok-taken.taken.beside.second q) c.seq16_of.ensures c.known_of.ensures)
+          (c.in_ok-found.ensures (joined taken.files) (taken.beside.0 [] c.new.ensures.stands))
+          (taken.beside.1 [] c.new-2.ensures);
     }
 
 pub returns-clause-some : goal.returns-clause-some

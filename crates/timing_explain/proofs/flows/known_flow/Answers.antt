@@ -18,5 +18,5 @@ returns c = λ m number options packets h.
       shows = subst (Shows m shift (judged_parts m counted shift))
           (ap (λ v. shown_alone v found) (sym h.verdict_is) ∙ sym c.shown_alone-shown.ensures)
           (flow-shows m shift counted c.args.end.out found h.told
-          (subst (λ l. HasRunOf c.args.end.out.1.found l found) c.as_slice.ensures c.shown_of-found.ensures));
+          (subst (λ l. HasRunOf c.args.end.out.1.found l found) c.as_slice.ensures.value c.shown_of-found.ensures));
     }
