@@ -54,6 +54,11 @@ MEASURED_ABSENT = "measure --sdp plain.sdp any.pcap"
 SCANNED = "scan --json plain.pcap"
 SCANNED_LINES = "scan --json gst_two.pcap"
 DESCRIBED = "sdp --json plain.sdp"
+EXPLAINED = "explain --json --sdp plain.sdp plain.pcap"
+EXPLAINED_BURST = "explain --json --sdp plain.sdp burst.pcap"
+EXPLAINED_LINEAR = "explain --json --sdp plain.sdp linear.pcap"
+EXPLAINED_FAULT = "explain --json --sdp ffmpeg.sdp ffmpeg_rtcp.pcap"
+EXPLAINED_GAP = "explain --json --sdp plain.sdp gap.pcap"
 DESCRIBED_FIELDS = "sdp --json interlaced.sdp"
 WRONG = [
     ("the status is missing", PLAIN, "status", REMOVED),
@@ -164,6 +169,25 @@ WRONG = [
     ("a note without a name", DESCRIBED, "notes 0 names", []),
     ("a name with a quote", DESCRIBED, "notes 0 names 0", '"'),
     ("an unknown cause", DESCRIBED, "fault", {"cause": "Late", "line": 1}),
+    ("no finding", EXPLAINED, "flows 0 findings", []),
+    ("an unknown finding", EXPLAINED, "flows 0 findings 0 finding", "late"),
+    ("a judged flow without its class", EXPLAINED, "flows 0 class", REMOVED),
+    ("a judged flow without its runs", EXPLAINED, "flows 0 runs", REMOVED),
+    ("a run that is judged of none", EXPLAINED, "flows 0 runs judged", 0),
+    ("a declared type as a class", EXPLAINED, "flows 0 declared", "narrow"),
+    ("a pass with a late packet", EXPLAINED, "flows 0 findings 0 slack", -1),
+    ("a pass and a burst", EXPLAINED_BURST, "flows 0 findings 1", {
+        "bucket": 1, "bucket_limit": 4, "buffer": 1, "buffer_limit": 8, "finding": "pass", "slack": 444}),
+    ("a burst without its first packet", EXPLAINED_BURST, "flows 0 findings 0 record", REMOVED),
+    ("a burst without a packet above the limit", EXPLAINED_BURST, "flows 0 findings 0 packets", 0),
+    ("a fail without its cause", EXPLAINED_BURST, "flows 0 findings 0", REMOVED),
+    ("a phase for which no offset serves", EXPLAINED_LINEAR, "flows 0 findings 0 troff least", REMOVED),
+    ("an offset above a second", EXPLAINED_LINEAR, "flows 0 findings 0 troff greatest", 1000001),
+    ("a loss without its packets", EXPLAINED_GAP, "flows 0 findings 0 missing", REMOVED),
+    ("a flow that is refused without a cause", EXPLAINED_FAULT, "flows 0 findings 0 fault", REMOVED),
+    ("a flow that is refused with a class", EXPLAINED_FAULT, "flows 0 class", "none"),
+    ("an offset beyond 32 bits", EXPLAINED, "flows 0 findings 1 offset", 2**31),
+    ("the verdict, which only check and measure have", EXPLAINED, "flows 0 verdict", "judged"),
 ]
 
 passed = failed = 0
@@ -182,7 +206,7 @@ def count(name, what):
 def schema_of(arguments):
     """Returns the name of the schema for a command line, or None."""
     command = arguments[0]
-    if command == "measure" or command in ("check", "scan", "sdp") and "--json" in arguments:
+    if command == "measure" or command in ("check", "scan", "sdp", "explain") and "--json" in arguments:
         return command
     return None
 
@@ -228,8 +252,10 @@ def example_commands():
     for sdp, captures in PAIRS.items():
         commands.append(f"check --json --sdp {sdp} {captures}")
         commands += [f"measure --sdp {sdp} {capture}" for capture in captures.split()]
+        commands += [f"explain --json --sdp {sdp} {capture}" for capture in captures.split()]
     commands.append("check --json --joined --tai 37 --sdp gst_pair.sdp gst_path1.pcap gst_path2.pcap")
     commands.append("measure --tai 37 --sdp utc.sdp utc.pcap")
+    commands.append("explain --json --joined --sdp gst_pair.sdp gst_path1.pcap gst_path2.pcap")
     captures = sorted({capture for captures in PAIRS.values() for capture in captures.split()})
     commands += [f"scan --json {capture}" for capture in captures]
     commands += [f"sdp --json {sdp}" for sdp in PAIRS]
@@ -300,7 +326,7 @@ def refuse_wrong(validators, printed):
 
 def main():
     validators = {}
-    for name in ("check", "measure", "scan", "sdp"):
+    for name in ("check", "measure", "scan", "sdp", "explain"):
         schema = json.loads((TOP / "docs" / "schema" / f"{name}.json").read_text())
         Draft202012Validator.check_schema(schema)
         validators[name] = Draft202012Validator(schema)

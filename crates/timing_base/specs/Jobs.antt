@@ -127,6 +127,11 @@ pub record IsCaptureJob (job : CaptureJob) : Type 0 where
   pub inputs : AreInputs job.joined job.captures
   pub media_few : IsChoice job.media
 
+-- `explain`: prints what is wrong with the flows of captures
+pub record ExplainJob : Type 0 where
+  pub flows : CaptureJob
+  pub json : Bool
+
 -- `series`: prints the numbers of a flow, by frame or by packet
 pub record SeriesJob : Type 0 where
   pub flow : FlowJob

@@ -240,6 +240,23 @@ impl Model for CaptureJob {
     ghost invariant = { λ job. IsCaptureJob (view job) };
 }
 
+/// The command `explain`: prints what is wrong with the flows of captures, and what to do.
+#[derive(Debug, Drop)]
+pub struct ExplainJob {
+    /// The flows.
+    pub flows: CaptureJob,
+    /// Whether the output is JSON.
+    pub json: bool,
+}
+
+impl Model for ExplainJob {
+    ghost use Rattle.timing_base.specs.Jobs.{ExplainJob as Seen};
+
+    ghost Value = { Seen };
+
+    ghost view = { λ job. record { flows = job.flows; json = job.json } };
+}
+
 /// The command `series`: prints the numbers of a flow as CSV.
 #[derive(Debug, Drop)]
 pub struct SeriesJob {

@@ -29,8 +29,8 @@ pub use address::Address;
 pub use capture::{FileNote, PcapFault};
 pub use fail::{Broken, FailProof};
 pub use job::{
-    CaptureJob, CheckJob, FlowJob, ReportJob, ScanForm, ScanJob, SdpJob, SelfTestJob, SeriesJob,
-    ShapeJob, SkewJob, VerifyJob,
+    CaptureJob, CheckJob, ExplainJob, FlowJob, ReportJob, ScanForm, ScanJob, SdpJob, SelfTestJob,
+    SeriesJob, ShapeJob, SkewJob, VerifyJob,
 };
 pub use key::{FlowKey, route};
 pub use list::Items;

@@ -1,13 +1,13 @@
 mod Sources
 mod Meters
-mod Eaches
+pub mod Eaches
 mod Ends
-mod Taken
+pub mod Taken
 mod Whole
 pub mod Held
-mod Reading
+pub mod Reading
 mod Packets
-mod Chosen
+pub mod Chosen
 pub mod Answering
 pub mod Some
 pub mod Numbers

@@ -19,6 +19,9 @@ use Rattle.timing_reach.specs.Windows.{window_query}
 use Rattle.timing_reach.proofs.Skewing.{once-skew, some-skew}
 use Rattle.timing_reach.proofs.SomeShape.{once-shape, some-shape}
 use Rattle.timing_reach.proofs.Windowing.{once-window, some-window}
+use Rattle.timing_explain.specs.Explained.{explain_query}
+use Rattle.timing_explain.proofs.Some.{some-explain}
+use Rattle.timing_explain.proofs.Unique.{once-explain}
 use Rattle.timing_measure.specs.Measures.{measure_query}
 use Rattle.timing_measure.specs.page.Pages.{page_query}
 use Rattle.timing_measure.specs.series.Series.{series_query}
@@ -99,6 +102,9 @@ some-answer (Some (request.Series job)) i texts there told bytes =
 some-answer (Some (request.Page job)) i texts there told bytes =
     some-queried (page_query job) i texts there told
     (λ read are. some-page job (map classic read) bytes.0 (have-stamps (page_query job) i texts read bytes.0.inputs.captures_are.few told are bytes.1))
+some-answer (Some (request.Explain job)) i texts there told bytes =
+    some-queried (explain_query job) i texts there told
+    (λ read are. some-explain job (map classic read) bytes.0 (have-stamps (explain_query job) i texts read bytes.0.inputs.captures_are.few told are bytes.1))
 
 -- there are not two
 pub only-answer : (asked : Option Request) (i : Inputs) (texts : List (List ℕ)) (a b : Answer) → AreTold i.texts (names_of asked) texts
@@ -118,6 +124,7 @@ only-answer (Some (request.Skew job)) i texts a b told h k = only-queried (skew_
 only-answer (Some (request.Measure job)) i texts a b told h k = only-queried (measure_query job) i texts a b (once-measure job) told h k
 only-answer (Some (request.Series job)) i texts a b told h k = only-queried (series_query job) i texts a b (once-series job) told h k
 only-answer (Some (request.Page job)) i texts a b told h k = only-queried (page_query job) i texts a b (once-page job) told h k
+only-answer (Some (request.Explain job)) i texts a b told h k = only-queried (explain_query job) i texts a b (once-explain job) told h k
 
 -- what has none has a cause
 pub answer-failed : (asked : Option Request) (i : Inputs) (texts : List (List ℕ)) (e : Failure) → AreTold i.texts (names_of asked) texts

@@ -18,6 +18,7 @@ use Rattle.timing_reach.specs.Scanned.{FollowsScan, ScanInputRose}
 use Rattle.timing_reach.specs.Shaped.{shape_query}
 use Rattle.timing_reach.specs.Skewed.{skew_query}
 use Rattle.timing_reach.specs.Windows.{window_query}
+use Rattle.timing_explain.specs.Explained.{explain_query}
 use Rattle.timing_measure.specs.Measures.{measure_query}
 use Rattle.timing_measure.specs.page.Pages.{page_query}
 use Rattle.timing_measure.specs.series.Series.{series_query}
@@ -60,6 +61,7 @@ query_of (request.Skew job) = skew_query job
 query_of (request.Measure job) = measure_query job
 query_of (request.Series job) = series_query job
 query_of (request.Page job) = page_query job
+query_of (request.Explain job) = explain_query job
 query_of other = record {
   sdp = [];
   captures = [];
@@ -98,12 +100,13 @@ names_of (Some (request.Sdp job)) = job.sdp ∷ []
 names_of (Some (request.Help named)) = []
 names_of (Some command) = inputs_of (query_of command)
 
--- for `measure`, `series` and `page`: the job is within its limits, as that of every command line is, and the contents
+-- for `measure`, `series`, `page` and `explain`: the job is within its limits, as that of every command line is, and the contents
 -- are bytes, as those of every file are
 abbrev pub MeasuresBytes : Option Request → List (List ℕ) → Type 0
 MeasuresBytes (Some (request.Measure job)) told = IsCaptureJob job × All AreBytes told
 MeasuresBytes (Some (request.Series job)) told = IsFlowJob job.flow × All AreBytes told
 MeasuresBytes (Some (request.Page job)) told = IsCaptureJob job × All AreBytes told
+MeasuresBytes (Some (request.Explain job)) told = IsCaptureJob job.flows × All AreBytes told
 MeasuresBytes other told = ⊤
 
 -- the inputs as seen on a shelf that lacks the names for which `lacking` is true; the laws are about such shelves

@@ -30,11 +30,12 @@ abbrev pub reads_captures : Option Request → Bool
 reads_captures (Some (request.Sdp job)) = false
 reads_captures asked = reads_inputs asked
 
--- the request may end with status 1: `check`, `verify` and `verify-report`
+-- the request may end with status 1: `check`, `verify`, `verify-report` and `explain`
 abbrev pub checks : Option Request → Bool
 checks (Some (request.Check job)) = true
 checks (Some (request.Verify job)) = true
 checks (Some (request.VerifyReport job)) = true
+checks (Some (request.Explain job)) = true
 checks asked = false
 
 -- the request reads a report: `verify-report`

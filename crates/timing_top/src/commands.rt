@@ -15,6 +15,7 @@ use crate::verify::{VerifyCommand, verify_all};
 use std::alloc::Global;
 use std::sync::Wait;
 use std::thread::Threads;
+use timing_explain::ExplainCommand;
 use timing_measure::{MeasureCommand, PageCommand, SeriesCommand};
 use timing_outside::{Gate, Shelf, Sink};
 use timing_reach::{ShapeCommand, SkewCommand, WindowCommand, scan_one, sdp_one};
@@ -61,6 +62,7 @@ where
         Request::Measure(job) => run_command(alloc, &MeasureCommand { job }, shelf, out, err),
         Request::Series(job) => run_command(alloc, &SeriesCommand { job }, shelf, out, err),
         Request::Page(job) => run_command(alloc, &PageCommand { job }, shelf, out, err),
+        Request::Explain(job) => run_command(alloc, &ExplainCommand { job }, shelf, out, err),
         Request::Help(command) => print_help(alloc, command, out, err),
     }
 }

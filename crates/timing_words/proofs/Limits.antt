@@ -6,7 +6,7 @@ use Rattle.std.specs.Str.{bytes_eq}
 use Rattle.std.proofs.lemmas.Bool.{leb-true}
 use Rattle.timing_base.specs.Shifts.{FlowOptions, AreFlowOptions}
 use Rattle.timing_base.specs.Jobs.{AreInputs, CaptureJob, CheckJob, FlowJob, IsCaptureJob, IsCheckJob, IsChoice, IsFlowJob, IsReportJob, IsSelfTestJob}
-use Rattle.timing_base.specs.Jobs.{IsSkewJob, IsVerifyJob, ReportJob, SelfTestJob, SeriesJob, ShapeJob}
+use Rattle.timing_base.specs.Jobs.{ExplainJob, IsSkewJob, IsVerifyJob, ReportJob, SelfTestJob, SeriesJob, ShapeJob}
 use Rattle.timing_base.specs.Jobs.{SkewJob, VerifyJob}
 use Rattle.timing_base.specs.Name.{is_file_name}
 use Rattle.timing_words.specs.declared.request.Request.{Request}
@@ -15,7 +15,7 @@ use Rattle.timing_words.specs.declared.command.Command.{Command}
 use Rattle.timing_words.specs.declared.command.Command.TheVariants as command
 use Rattle.timing_words.specs.Limits.{IsWithinLimits}
 use Rattle.timing_words.specs.Line.{Stands, Text, line, stands}
-use Rattle.timing_words.specs.Request.{asked, asked_by, capture_asked, check_asked, check_workers, command_named, file_name, file_names}
+use Rattle.timing_words.specs.Request.{asked, asked_by, capture_asked, check_asked, check_workers, command_named, explain_asked, file_name, file_names}
 use Rattle.timing_words.specs.Request.{flow_asked, given, help_asked, kind_named, media, need, number, passing}
 use Rattle.timing_words.specs.Request.{proof_asked, report_asked, request, scan_asked, sdp_asked, self_test_asked, series_asked, shape_asked, skew_asked}
 use Rattle.timing_words.specs.Request.{delay, inputs, only_media, options_asked, sole, sorts, tai, test_workers, verify_asked, written}
@@ -217,6 +217,11 @@ capture-within l job e =
       media_few = only-few (l.value (codes "media")) c.a c.gave;
     }
 
+explain-within : (l : Stands) (job : ExplainJob) → explain_asked l ≡ Some job → IsCaptureJob job.flows
+explain-within l job e =
+    let a = needed (capture_asked l) _ job e in
+    subst (λ (j : ExplainJob). IsCaptureJob j.flows) (same _ job a.rest) (capture-within l a.a a.gave)
+
 -- ---- the whole line
 
 asked-within : (c : Command) (l : Stands) (r : Request) → asked c l ≡ Some r → IsWithinLimits r
@@ -256,6 +261,9 @@ asked-within command.Sdp l r e =
 asked-within command.Page l r e =
     let m = mapped asks.Page (capture_asked l) r e in
     subst IsWithinLimits m.2 (capture-within l m.0 m.1)
+asked-within command.Explain l r e =
+    let m = mapped asks.Explain (explain_asked l) r e in
+    subst IsWithinLimits m.2 (explain-within l m.0 m.1)
 
 by-within : (c : Command) (words : List Text) (r : Request) → asked_by c words ≡ Some r → IsWithinLimits r
 by-within c words r e =

@@ -63,7 +63,7 @@ second_flow seconds = record {
   joined = false;
 }
 
--- the job of `measure --sdp p c`, and of `page`
+-- the job of `measure --sdp p c` and of `page`, and the flows of `explain`
 abbrev pub plain_capture : CaptureJob
 plain_capture = record {
   sdp = codes "p";

@@ -70,6 +70,7 @@ judges_all command.Measure = true
 judges_all command.Series = false
 judges_all command.Sdp = false
 judges_all command.Page = true
+judges_all command.Explain = true
 
 -- the command's option or flag of this name is optional
 abbrev pub may_be_missing : Command → Text → Bool
@@ -103,6 +104,7 @@ name_of command.Measure = codes "measure"
 name_of command.Series = codes "series"
 name_of command.Sdp = codes "sdp"
 name_of command.Page = codes "page"
+name_of command.Explain = codes "explain"
 
 -- the placeholder for the positional arguments of a command
 abbrev pub names_shape : Command → Text
@@ -118,6 +120,7 @@ names_shape command.Measure = codes "CAPTURE.."
 names_shape command.Series = codes "CAPTURE.."
 names_shape command.Sdp = codes "FILE"
 names_shape command.Page = codes "CAPTURE.."
+names_shape command.Explain = codes "CAPTURE.."
 
 -- what a command does, in words
 abbrev pub about : Command → Text
@@ -133,6 +136,7 @@ about command.Measure = codes "says how near each video comes to its limits, whe
 about command.Series = codes "lists the numbers of a flow as CSV, packet by packet or frame by frame"
 about command.Sdp = codes "prints how a description is read, and what of it is passed over"
 about command.Page = codes "writes the report of a capture as one page with pictures"
+about command.Explain = codes "says what is wrong with each video and what to do, the likeliest cause first"
 
 -- what a command prints, in words
 abbrev pub printed : Command → Text
@@ -164,6 +168,9 @@ printed command.Sdp =
 printed command.Page =
     codes "Prints one HTML page that needs nothing else: of each video what is judged and measured, in words, pictures and\n"
     ++ codes "tables, and what the capture holds.\n"
+printed command.Explain =
+    codes "Prints for each video a line with its headline, and for each finding a sentence with its numbers and what to do:\n"
+    ++ codes "loss, another frame rate, bursts, packets that come early or late, a drift, clocks; with --json the same as JSON.\n"
 
 -- an example of a command, with files of the repository
 abbrev pub example : Command → Text
@@ -183,6 +190,7 @@ example command.Measure = codes "./run measure --sdp examples/plain.sdp examples
 example command.Series = codes "./run series --sdp examples/plain.sdp --media 1 --frames examples/burst.pcap"
 example command.Sdp = codes "./run sdp examples/plain.sdp"
 example command.Page = codes "./run page --sdp examples/plain.sdp examples/burst.pcap > burst.html"
+example command.Explain = codes "./run explain --sdp examples/plain.sdp examples/burst.pcap"
 
 -- ---- texts
 
@@ -198,7 +206,8 @@ summary c = codes "  " ++ (usage c ++ (codes "\n      " ++ (about c ++ codes "\n
 abbrev pub commands : List Command
 commands =
     command.Check ∷ command.Verify ∷ command.VerifyReport ∷ command.SelfTest ∷ command.Window ∷ command.Shape
-    ∷ command.Skew ∷ command.Scan ∷ command.Measure ∷ command.Series ∷ command.Sdp ∷ command.Page ∷ []
+    ∷ command.Skew ∷ command.Scan ∷ command.Measure ∷ command.Series ∷ command.Sdp ∷ command.Page
+    ∷ command.Explain ∷ []
 
 -- the two lines of each command
 abbrev pub summaries : Text

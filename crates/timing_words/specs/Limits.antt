@@ -19,4 +19,5 @@ IsWithinLimits (asks.Measure job) = IsCaptureJob job
 IsWithinLimits (asks.Series job) = IsFlowJob job.flow
 IsWithinLimits (asks.Sdp job) = ⊤
 IsWithinLimits (asks.Page job) = IsCaptureJob job
+IsWithinLimits (asks.Explain job) = IsCaptureJob job.flows
 IsWithinLimits (asks.Help named) = ⊤

@@ -9,7 +9,7 @@ use Rattle.std.specs.Str.{bytes_eq}
 use Rattle.std.specs.Str.Parse.{digits_value}
 use Rattle.timing_base.specs.Shifts.{FlowOptions}
 use Rattle.timing_base.specs.Jobs.{CaptureJob, CheckJob, FlowJob, ReportJob, ScanJob, SelfTestJob, ShapeJob, SkewJob}
-use Rattle.timing_base.specs.Jobs.{SdpJob, SeriesJob, VerifyJob}
+use Rattle.timing_base.specs.Jobs.{ExplainJob, SdpJob, SeriesJob, VerifyJob}
 use Rattle.timing_base.specs.Name.{is_file_name}
 use Rattle.timing_base.specs.declared.fail.Broken.{Broken}
 use Rattle.timing_base.specs.declared.fail.Broken.TheVariants as broken
@@ -301,7 +301,7 @@ capture_sorts = takes
     (codes "sdp" ∷ codes "tai" ∷ codes "delay" ∷ codes "media" ∷ [])
     (codes "joined" ∷ codes "seq16" ∷ [])
 
--- the job of `measure` or `page`
+-- the job of `measure` or `page`, and the flows of `explain`
 abbrev pub capture_asked : Stands → Option CaptureJob
 capture_asked l =
     need (given (codes "sdp") l file_name) (λ sdp.
@@ -315,6 +315,17 @@ capture_asked l =
       joined = l.flag (codes "joined");
       media = m;
     })))))
+
+-- the options and flags of `explain`
+abbrev pub explain_sorts : List Sort
+explain_sorts = takes
+    (codes "sdp" ∷ codes "tai" ∷ codes "delay" ∷ codes "media" ∷ [])
+    (codes "json" ∷ codes "joined" ∷ codes "seq16" ∷ [])
+
+-- the job of `explain`
+abbrev pub explain_asked : Stands → Option ExplainJob
+explain_asked l =
+    need (capture_asked l) (λ flows. Some (record { flows = flows; json = l.flag (codes "json") }))
 
 -- the options and flags of `series`
 abbrev pub series_sorts : List Sort
@@ -350,6 +361,7 @@ command_named = chosen (
     ∷ (codes "series", command.Series)
     ∷ (codes "sdp", command.Sdp)
     ∷ (codes "page", command.Page)
+    ∷ (codes "explain", command.Explain)
     ∷ [])
 
 -- the options and flags of a command
@@ -366,6 +378,7 @@ sorts command.Measure = capture_sorts
 sorts command.Series = series_sorts
 sorts command.Sdp = sdp_sorts
 sorts command.Page = capture_sorts
+sorts command.Explain = explain_sorts
 
 -- the request of a command, from the contents of the command line
 abbrev pub asked : Command → Stands → Option Request
@@ -381,6 +394,7 @@ asked command.Measure l = option_map asks.Measure (capture_asked l)
 asked command.Series l = option_map asks.Series (series_asked l)
 asked command.Sdp l = option_map asks.Sdp (sdp_asked l)
 asked command.Page l = option_map asks.Page (capture_asked l)
+asked command.Explain l = option_map asks.Explain (explain_asked l)
 
 -- the request of the arguments after a command
 abbrev pub asked_by : Command → List Text → Option Request

@@ -39,6 +39,8 @@ pub enum Command {
     Sdp,
     /// `page`: prints the report of a capture as an HTML page.
     Page,
+    /// `explain`: prints what is wrong with the flows of a capture, and what to do.
+    Explain,
 }
 
 impl Command {
@@ -61,6 +63,7 @@ impl Command {
             "series" => Some(Command::Series),
             "sdp" => Some(Command::Sdp),
             "page" => Some(Command::Page),
+            "explain" => Some(Command::Explain),
             _ => None,
         }
     }
@@ -116,6 +119,11 @@ impl Command {
                 alloc,
                 &["sdp", "tai", "delay", "media"],
                 &["joined", "seq16"],
+            ),
+            Command::Explain => parser_of(
+                alloc,
+                &["sdp", "tai", "delay", "media"],
+                &["json", "joined", "seq16"],
             ),
         }
     }

@@ -193,6 +193,7 @@ impl Command {
             Command::Series => "series",
             Command::Sdp => "sdp",
             Command::Page => "page",
+            Command::Explain => "explain",
         }
     }
 
@@ -202,7 +203,11 @@ impl Command {
     {
         matches!(
             self,
-            Command::Check | Command::VerifyReport | Command::Measure | Command::Page
+            Command::Check
+                | Command::VerifyReport
+                | Command::Measure
+                | Command::Page
+                | Command::Explain
         )
     }
 
@@ -216,7 +221,7 @@ impl Command {
             Command::Window | Command::Shape => "CAPTURE..",
             Command::Skew => "CAPTURE [CAPTURE]",
             Command::Scan => "CAPTURE",
-            Command::Measure | Command::Series | Command::Page => "CAPTURE..",
+            Command::Measure | Command::Series | Command::Page | Command::Explain => "CAPTURE..",
             Command::Sdp => "FILE",
         }
     }
@@ -252,6 +257,9 @@ impl Command {
             }
             Command::Sdp => "prints how a description is read, and what of it is passed over",
             Command::Page => "writes the report of a capture as one page with pictures",
+            Command::Explain => {
+                "says what is wrong with each video and what to do, the likeliest cause first"
+            }
         }
     }
 
@@ -294,6 +302,9 @@ impl Command {
             Command::Page => {
                 "Prints one HTML page that needs nothing else: of each video what is judged and measured, in words, pictures and\ntables, and what the capture holds.\n"
             }
+            Command::Explain => {
+                "Prints for each video a line with its headline, and for each finding a sentence with its numbers and what to do:\nloss, another frame rate, bursts, packets that come early or late, a drift, clocks; with --json the same as JSON.\n"
+            }
         }
     }
 
@@ -326,6 +337,7 @@ impl Command {
             }
             Command::Sdp => "./run sdp examples/plain.sdp",
             Command::Page => "./run page --sdp examples/plain.sdp examples/burst.pcap > burst.html",
+            Command::Explain => "./run explain --sdp examples/plain.sdp examples/burst.pcap",
         }
     }
 }
@@ -379,6 +391,7 @@ fn summaries(alloc: Global) -> Result<String, OutOfMemory>
             Command::Series,
             Command::Sdp,
             Command::Page,
+            Command::Explain,
         ],
     )
 }

@@ -17,8 +17,8 @@ use crate::values::{
 use clap::ArgMatches;
 use std::alloc::Global;
 use timing_base::{
-    CaptureJob, CheckJob, FailProof, FileName, FlowJob, FlowOptions, Items, ReportJob, ScanJob,
-    SdpJob, SelfTestJob, SeriesJob, ShapeJob, Shift, SkewJob, VerifyJob,
+    CaptureJob, CheckJob, ExplainJob, FailProof, FileName, FlowJob, FlowOptions, Items, ReportJob,
+    ScanJob, SdpJob, SelfTestJob, SeriesJob, ShapeJob, Shift, SkewJob, VerifyJob,
 };
 
 /// Returns the value of a required option.
@@ -244,7 +244,7 @@ pub(crate) fn scan_job(alloc: Global, matches: &ArgMatches<'_>) -> Result<ScanJo
     Ok(ScanJob { capture, form })
 }
 
-/// Returns the job of `measure` or `page`.
+/// Returns the job of `measure` or `page`, and the flows of `explain`.
 pub(crate) fn capture_job(alloc: Global, matches: &ArgMatches<'_>) -> Result<CaptureJob, WordFault>
     ensures { Gives (words.capture_asked (found_stands (found_of matches.now))) result }
 {
@@ -260,6 +260,15 @@ pub(crate) fn capture_job(alloc: Global, matches: &ArgMatches<'_>) -> Result<Cap
         joined,
         media,
     })
+}
+
+/// Returns the job of `explain`.
+pub(crate) fn explain_job(alloc: Global, matches: &ArgMatches<'_>) -> Result<ExplainJob, WordFault>
+    ensures { Gives (words.explain_asked (found_stands (found_of matches.now))) result }
+{
+    let flows = capture_job(alloc, matches)?;
+    let json = matches.contains_id("json");
+    Ok(ExplainJob { flows, json })
 }
 
 /// Returns the job of `series`.

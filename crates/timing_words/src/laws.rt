@@ -380,6 +380,22 @@ pub fn pages_by_hand()
     ensures media_none { IsRefused (codes "page --sdp p --media 0 c") }
 {}
 
+/// Worked by hand: command lines of `explain`.
+pub fn explains_by_hand()
+    ensures plain { Asks (codes "explain --sdp p c") (asks.Explain (record { flows = plain_capture; json = false })) }
+    ensures json { Asks (codes "explain c --tai=1000 --json --sdp=p")
+        (asks.Explain (record { flows = record plain_capture { options = seconds_added 1000 }; json = true })) }
+    ensures chosen { Asks (codes "explain --joined c --media=64 d --sdp=p")
+        (asks.Explain (record {
+          flows = record plain_capture { captures = halves; joined = true; media = Some 63 };
+          json = false;
+        })) }
+    ensures no_sdp { IsRefused (codes "explain c") }
+    ensures no_capture { IsRefused (codes "explain --sdp p") }
+    ensures two_captures { IsRefused (codes "explain --sdp p c d") }
+    ensures valued { IsRefused (codes "explain --sdp p --json=1 c") }
+{}
+
 /// Worked by hand: first arguments that are no command.
 pub fn no_commands_by_hand()
     ensures nothing { request [] ≡ None }
@@ -413,6 +429,9 @@ pub fn help_texts_by_hand()
         ≡ codes "window --sdp FILE --media N [--tai SECONDS] [--delay NANOSECONDS] [--joined] [--seq16] CAPTURE.." }
     ensures page { usage command.Page
         ≡ codes "page --sdp FILE [--tai SECONDS] [--delay NANOSECONDS] [--media N] [--joined] [--seq16] CAPTURE.." }
+    ensures explain { usage command.Explain
+        ≡ codes "explain --sdp FILE [--tai SECONDS] [--delay NANOSECONDS] [--media N] [--json] [--joined] "
+        ++ codes "[--seq16] CAPTURE.." }
     ensures skew { usage command.Skew ≡ codes "skew --sdp FILE --media N --pair N CAPTURE [CAPTURE]" }
     ensures whole { help_text (Some command.SelfTest)
         ≡ codes "selftest [--workers N] FRAMES\n"

@@ -2,8 +2,8 @@
 
 use crate::command::Command;
 use timing_base::{
-    CaptureJob, CheckJob, FlowJob, ReportJob, ScanJob, SdpJob, SelfTestJob, SeriesJob, ShapeJob,
-    SkewJob, VerifyJob,
+    CaptureJob, CheckJob, ExplainJob, FlowJob, ReportJob, ScanJob, SdpJob, SelfTestJob, SeriesJob,
+    ShapeJob, SkewJob, VerifyJob,
 };
 
 /// The request of a command line.
@@ -33,6 +33,8 @@ pub enum Request {
     Sdp(SdpJob),
     /// The command `page`.
     Page(CaptureJob),
+    /// The command `explain`.
+    Explain(ExplainJob),
     /// The command `help`: the arguments of all commands, or more of this one.
     Help(Option<Command>),
 }

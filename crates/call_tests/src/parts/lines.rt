@@ -5,8 +5,8 @@ use std::alloc::{AllocError, Global};
 use std::process::Abort;
 use std::test::Fail;
 use timing_base::{
-    CaptureJob, CheckJob, FailProof, FileName, FlowJob, FlowOptions, Items, ReportJob, ScanJob,
-    SdpJob, SelfTestJob, SeriesJob, ShapeJob, SkewJob, VerifyJob,
+    CaptureJob, CheckJob, ExplainJob, FailProof, FileName, FlowJob, FlowOptions, Items, ReportJob,
+    ScanJob, SdpJob, SelfTestJob, SeriesJob, ShapeJob, SkewJob, VerifyJob,
 };
 use timing_words::{Command, Request, WordFault, read_words};
 
@@ -151,6 +151,16 @@ fn shown_capture(alloc: Global, command: &str, job: &CaptureJob) -> Result<Strin
     format!(in alloc; "{command} {sdp} {options}{only}{inputs}")
 }
 
+/// The fields of an `explain`.
+fn shown_explain(alloc: Global, job: &ExplainJob) -> Result<String, AllocError> {
+    let flows = shown_capture(alloc, "explain", &job.flows)?;
+    if job.json {
+        format!(in alloc; "{flows} as JSON")
+    } else {
+        Ok(flows)
+    }
+}
+
 /// The fields of an `sdp`.
 fn shown_sdp(alloc: Global, job: &SdpJob) -> Result<String, AllocError> {
     let (sdp, json) = (job.sdp.as_str(), job.json);
@@ -177,6 +187,7 @@ fn shown(alloc: Global, request: &Request) -> Result<String, AllocError> {
         Request::Series(job) => shown_series(alloc, job),
         Request::Sdp(job) => shown_sdp(alloc, job),
         Request::Page(job) => shown_capture(alloc, "page", job),
+        Request::Explain(job) => shown_explain(alloc, job),
         Request::Help(command) => shown_help(alloc, *command),
     }
 }
@@ -484,12 +495,22 @@ static OTHER_ROWS: &str = concat!(
     "skew|--sdp|p|--media|1|--pair|2|--delay|3|c => Usage\n",
     "skew|--sdp|p|--media|1|--pair|2|--seq16|c => Usage\n",
     "skew|--sdp|p|--media|1|--pair|2|--joined|c|d => Usage\n",
+    // explain
+    "explain|--sdp|p|c => explain p 0: c\n",
+    "explain|c|--json|--tai=37|--sdp=p => explain p 37: c as JSON\n",
+    "explain|--seq16|--delay|5|--media|2|--sdp|p|c => explain p 0 less 5 counted media 1: c\n",
+    "explain|--joined|--sdp|p|c|d => explain p 0 joined: c d\n",
+    "explain|--sdp|p|c|d => Usage\n",
+    "explain|--json|--json|--sdp|p|c => Usage\n",
+    "explain|--serial|--sdp|p|c => Usage\n",
+    "explain|c => Usage\n",
     // help
     "help => help None\n",
     "help|skew => help Some(Skew)\n",
     "help|verify-report => help Some(VerifyReport)\n",
     "help|series => help Some(Series)\n",
     "help|page => help Some(Page)\n",
+    "help|explain => help Some(Explain)\n",
     "help|nothing => Usage\n",
     "help|help => Usage\n",
     "help| => Usage\n",

@@ -29,7 +29,7 @@ use Rattle.timing_measure.specs.page.Ends.{HasRunOf, IsShownOf, TellsPair}
 use Rattle.timing_measure.specs.page.Shown.{IsShownRun, Shows}
 
 -- the numbers of runs rise, from this one on
-abbrev Rises : ℕ → List JudgedPart → Type 0
+abbrev pub Rises : ℕ → List JudgedPart → Type 0
 Rises number [] = ⊤
 Rises number (p ∷ parts) = (number ≤ p.number) × Rises (p.number + 1) parts
 
@@ -54,7 +54,7 @@ rises-between m packets shift to number from (cut ∷ rest) =
     rises-by m number (packet packets from) (judged_packets packets from cut) (run_outcome packets shift from cut) _
     (rises-between m packets shift to (number + 1) cut rest)
 
-rises-in : (m : Media) (packets : List FlowPacket) (shift : Shift) (v : FlowVerdict) → Rises 1 (parts_in m packets shift v)
+pub rises-in : (m : Media) (packets : List FlowPacket) (shift : Shift) (v : FlowVerdict) → Rises 1 (parts_in m packets shift v)
 rises-in m packets shift absent = tt
 rises-in m packets shift (refused rec fault) = tt
 rises-in m packets shift (gap rec expected got) = tt
@@ -66,7 +66,7 @@ low-at number [] after part h = h.0
 low-at number (p ∷ before) after part h =
     let low = low-at (p.number + 1) before after part h.1 in omega (arith, h.0, low)
 
-less-before : (number : ℕ) (before after : List JudgedPart) (part : JudgedPart) → Rises number (before ++ part ∷ after)
+pub less-before : (number : ℕ) (before after : List JudgedPart) (part : JudgedPart) → Rises number (before ++ part ∷ after)
     → All (λ (p : JudgedPart). p.number < part.number) before
 less-before number [] after part h = All-nil (λ (p : JudgedPart). p.number < part.number)
 less-before number (p ∷ before) after part h =
@@ -74,7 +74,7 @@ less-before number (p ∷ before) after part h =
     All-cons (λ (p : JudgedPart). p.number < part.number) p before (omega (arith, low)) (less-before (p.number + 1) before after part h.1)
 
 -- the measured run of this number is that of the part of this number
-measured-at : (N : JudgedPart → RunNumbers → Type 0) (n : ℕ) (before after : List JudgedPart) (part : JudgedPart) (past rest : List MeasuredRun)
+pub measured-at : (N : JudgedPart → RunNumbers → Type 0) (n : ℕ) (before after : List JudgedPart) (part : JudgedPart) (past rest : List MeasuredRun)
     (run : MeasuredRun) → AreMeasured N (before ++ part ∷ after) (past ++ run ∷ rest) → All (λ (p : JudgedPart). p.number < n) before → part.number ≡ n
     → All (λ (r : MeasuredRun). r.run ≡ n → ⊥) past → run.run ≡ n → IsMeasuredRun N part run
 measured-at N n [] after part [] rest run h few here none is = h.0
@@ -88,7 +88,7 @@ measured-at N n (p ∷ before) after part (r ∷ past) rest run h few here none 
     measured-at N n before after part past rest run h.1 (All-tail (λ (p : JudgedPart). p.number < n) p before few) here
     (All-tail (λ (r : MeasuredRun). r.run ≡ n → ⊥) r past none) is
 
-measured-some : (N : JudgedPart → RunNumbers → Type 0) (n : ℕ) (before after : List JudgedPart) (part : JudgedPart) (runs : List MeasuredRun)
+pub measured-some : (N : JudgedPart → RunNumbers → Type 0) (n : ℕ) (before after : List JudgedPart) (part : JudgedPart) (runs : List MeasuredRun)
     → AreMeasured N (before ++ part ∷ after) runs → part.number ≡ n → All (λ (r : MeasuredRun). r.run ≡ n → ⊥) runs → ⊥
 measured-some N n [] after part [] h here none = absurd h
 measured-some N n [] after part (r ∷ runs) h here none = All-head (λ (r : MeasuredRun). r.run ≡ n → ⊥) r runs none ((h.0).run_is ∙ here)

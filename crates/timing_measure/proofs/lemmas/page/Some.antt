@@ -206,14 +206,14 @@ longest-more p q parts h =
       )
     ]
 
-some-longest : (p : JudgedPart) (parts : List JudgedPart) → (part : JudgedPart) × IsLongest (p ∷ parts) part
+pub some-longest : (p : JudgedPart) (parts : List JudgedPart) → (part : JudgedPart) × IsLongest (p ∷ parts) part
 some-longest p [] = (
   p,
   record { before = []; after = []; whole = refl; fewer = All-nil (Fewer (length p.packets)); no_more = All-nil (NoMore (length p.packets)) },
 )
 some-longest p (q ∷ parts) = let later = some-longest q parts in longest-more p later.0 (q ∷ parts) later.1
 
-run-of : (N : JudgedPart → RunNumbers → Type 0) (before after : List JudgedPart) (part : JudgedPart) (runs : List MeasuredRun)
+pub run-of : (N : JudgedPart → RunNumbers → Type 0) (before after : List JudgedPart) (part : JudgedPart) (runs : List MeasuredRun)
     → AreMeasured N (before ++ part ∷ after) runs → (run : MeasuredRun) × IsMeasuredRun N part run
 run-of N [] after part [] h = absurd h
 run-of N [] after part (r ∷ runs) h = (r, h.0)

@@ -36,7 +36,7 @@ run-shown-once m shift part s t h k =
     λ i. record { run = run i; first_at = first i; last_at = last i; curves = curves i; regions = regions i }
 
 -- of no run none is the longest
-none-longest : (part : JudgedPart) → IsLongest [] part → ⊥
+pub none-longest : (part : JudgedPart) → IsLongest [] part → ⊥
 none-longest part h = absurd (omega (arith, ap length h.whole, length-append h.before (part ∷ h.after)))
 
 -- of a flow one run is shown, or none
