@@ -39,6 +39,8 @@ pub enum Command {
     Sdp,
     /// `page`: prints the report of a capture as an HTML page.
     Page,
+    /// `watch`: prints a line for each stretch of frames while captures are read.
+    Watch,
 }
 
 impl Command {
@@ -61,6 +63,7 @@ impl Command {
             "series" => Some(Command::Series),
             "sdp" => Some(Command::Sdp),
             "page" => Some(Command::Page),
+            "watch" => Some(Command::Watch),
             _ => None,
         }
     }
@@ -116,6 +119,11 @@ impl Command {
                 alloc,
                 &["sdp", "tai", "delay", "media"],
                 &["joined", "seq16"],
+            ),
+            Command::Watch => parser_of(
+                alloc,
+                &["sdp", "tai", "delay", "media", "every"],
+                &["joined", "seq16", "json"],
             ),
         }
     }

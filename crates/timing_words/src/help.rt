@@ -51,6 +51,7 @@ fn meaning(name: &str) -> &'static str
         "list" => "the delays are printed, and no capture",
         "frames" => "a row stands for a frame, and not for a packet",
         "seq16" => "the extended RTP sequence number is ignored",
+        "every" => "a line for every N frames, 1 to 1000000",
         _ => "docs/FORMATS.md says what",
     }
 }
@@ -71,6 +72,7 @@ fn is_optional(name: &str) -> bool
             | "draft"
             | "frames"
             | "seq16"
+            | "every"
     )
 }
 
@@ -193,6 +195,7 @@ impl Command {
             Command::Series => "series",
             Command::Sdp => "sdp",
             Command::Page => "page",
+            Command::Watch => "watch",
         }
     }
 
@@ -202,7 +205,11 @@ impl Command {
     {
         matches!(
             self,
-            Command::Check | Command::VerifyReport | Command::Measure | Command::Page
+            Command::Check
+                | Command::VerifyReport
+                | Command::Measure
+                | Command::Page
+                | Command::Watch
         )
     }
 
@@ -216,7 +223,7 @@ impl Command {
             Command::Window | Command::Shape => "CAPTURE..",
             Command::Skew => "CAPTURE [CAPTURE]",
             Command::Scan => "CAPTURE",
-            Command::Measure | Command::Series | Command::Page => "CAPTURE..",
+            Command::Measure | Command::Series | Command::Page | Command::Watch => "CAPTURE..",
             Command::Sdp => "FILE",
         }
     }
@@ -252,6 +259,9 @@ impl Command {
             }
             Command::Sdp => "prints how a description is read, and what of it is passed over",
             Command::Page => "writes the report of a capture as one page with pictures",
+            Command::Watch => {
+                "prints a line for every second of each video while the capture is read, then its report"
+            }
         }
     }
 
@@ -294,6 +304,9 @@ impl Command {
             Command::Page => {
                 "Prints one HTML page that needs nothing else: of each video what is judged and measured, in words, pictures and\ntables, and what the capture holds.\n"
             }
+            Command::Watch => {
+                "Prints for every second, or for every N frames, the peaks of bucket and buffers, and how many frames of the run\nso far break each type; gaps and refused flows as they come; and at the end the report of check --serial.\n"
+            }
         }
     }
 
@@ -326,6 +339,9 @@ impl Command {
             }
             Command::Sdp => "./run sdp examples/plain.sdp",
             Command::Page => "./run page --sdp examples/plain.sdp examples/burst.pcap > burst.html",
+            Command::Watch => {
+                "./run watch --sdp examples/plain.sdp --every 1 examples/burst.pcap"
+            }
         }
     }
 }
@@ -379,6 +395,7 @@ fn summaries(alloc: Global) -> Result<String, OutOfMemory>
             Command::Series,
             Command::Sdp,
             Command::Page,
+            Command::Watch,
         ],
     )
 }

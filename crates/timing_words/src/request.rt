@@ -3,7 +3,7 @@
 use crate::command::Command;
 use timing_base::{
     CaptureJob, CheckJob, FlowJob, ReportJob, ScanJob, SdpJob, SelfTestJob, SeriesJob, ShapeJob,
-    SkewJob, VerifyJob,
+    SkewJob, VerifyJob, WatchJob,
 };
 
 /// The request of a command line.
@@ -33,6 +33,8 @@ pub enum Request {
     Sdp(SdpJob),
     /// The command `page`.
     Page(CaptureJob),
+    /// The command `watch`.
+    Watch(WatchJob),
     /// The command `help`: the arguments of all commands, or more of this one.
     Help(Option<Command>),
 }

@@ -47,6 +47,7 @@ fn description_of(request: &Request) -> Option<&FileName> {
         Request::Series(job) => Some(&job.flow.sdp),
         Request::Sdp(job) => Some(&job.sdp),
         Request::Page(job) => Some(&job.sdp),
+        Request::Watch(job) => Some(&job.flows.sdp),
         Request::SelfTest(_) | Request::Scan(_) | Request::Help(_) => None,
     }
 }
@@ -72,6 +73,7 @@ fn capture_of(request: &Request, file: u32) -> Option<&FileName> {
         Request::Measure(job) => job.captures.as_slice().get(file as usize),
         Request::Series(job) => job.flow.captures.as_slice().get(file as usize),
         Request::Page(job) => job.captures.as_slice().get(file as usize),
+        Request::Watch(job) => job.flows.captures.as_slice().get(file as usize),
         Request::SelfTest(_) | Request::Sdp(_) | Request::Help(_) => None,
     }
 }

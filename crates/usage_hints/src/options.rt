@@ -64,7 +64,7 @@ pub(crate) fn choice_named(choices: &[Choice], name: &str) -> Option<Choice> {
 }
 
 /// Returns all commands, in the order of `help`.
-pub(crate) fn commands() -> [Command; 12] {
+pub(crate) fn commands() -> [Command; 13] {
     [
         Command::Check,
         Command::Verify,
@@ -78,5 +78,6 @@ pub(crate) fn commands() -> [Command; 12] {
         Command::Series,
         Command::Sdp,
         Command::Page,
+        Command::Watch,
     ]
 }

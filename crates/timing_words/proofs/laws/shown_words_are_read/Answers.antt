@@ -22,11 +22,12 @@ returns-clause-read c = go
     go command.Series = refl
     go command.Sdp = refl
     go command.Page = refl
+    go command.Watch = refl
 
 pub returns-clause-all : goal.returns-clause-all
 returns-clause-all c = go
   where
-    size : length commands ≡ 12
+    size : length commands ≡ 13
     size = refl
 
     go : (told : Command) → Contains commands told
@@ -42,3 +43,4 @@ returns-clause-all c = go
     go command.Series = (9, omega (arith, size), refl)
     go command.Sdp = (10, omega (arith, size), refl)
     go command.Page = (11, omega (arith, size), refl)
+    go command.Watch = (12, omega (arith, size), refl)
