@@ -21,6 +21,7 @@ use Rattle.timing_reach.specs.Windows.{window_query}
 use Rattle.timing_measure.specs.Measures.{measure_query}
 use Rattle.timing_measure.specs.page.Pages.{page_query}
 use Rattle.timing_measure.specs.series.Series.{series_query}
+use Rattle.timing_watch.specs.Watches.{watch_query}
 use Rattle.timing_top.specs.Report.{check_query}
 use Rattle.timing_top.specs.SelfTest.{HasSelfTest}
 use Rattle.timing_top.specs.verify.Asked.{FollowsReport, ReportInputRose, verify_query}
@@ -60,6 +61,7 @@ query_of (request.Skew job) = skew_query job
 query_of (request.Measure job) = measure_query job
 query_of (request.Series job) = series_query job
 query_of (request.Page job) = page_query job
+query_of (request.Watch job) = watch_query job
 query_of other = record {
   sdp = [];
   captures = [];

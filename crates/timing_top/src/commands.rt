@@ -20,6 +20,7 @@ use timing_outside::{Gate, Shelf, Sink};
 use timing_reach::{ShapeCommand, SkewCommand, WindowCommand, scan_one, sdp_one};
 use timing_report::Status;
 use timing_steps::{Answer, Failure, conclude, run_command};
+use timing_watch::WatchCommand;
 use timing_words::{Request, WordFault, read_words};
 
 /// Runs the command of a request. `check` runs on one thread if the job has 0 workers.
@@ -61,6 +62,7 @@ where
         Request::Measure(job) => run_command(alloc, &MeasureCommand { job }, shelf, out, err),
         Request::Series(job) => run_command(alloc, &SeriesCommand { job }, shelf, out, err),
         Request::Page(job) => run_command(alloc, &PageCommand { job }, shelf, out, err),
+        Request::Watch(job) => run_command(alloc, &WatchCommand { job }, shelf, out, err),
         Request::Help(command) => print_help(alloc, command, out, err),
     }
 }
