@@ -127,7 +127,7 @@ pub(crate) fn only_media(text: Option<&str>) -> Result<Option<u32>, WordFault>
 }
 
 /// Returns the number of frames or fields in a stretch, 1 to 1,000,000, or `None` without the option.
-pub(crate) fn every(text: Option<&str>) -> Result<Option<u32>, WordFault>
+pub fn every(text: Option<&str>) -> Result<Option<u32>, WordFault>
     ensures value { Gives (words.every (option_map (λ s. s.now) text.entry)) result }
     ensures is { IfOk result (λ e. IfSome e IsEvery) }
 {
