@@ -28,6 +28,9 @@ use Rattle.timing_measure.proofs.lemmas.page.Some.{some-page}
 use Rattle.timing_measure.proofs.lemmas.page.Unique.{once-page}
 use Rattle.timing_measure.proofs.lemmas.series.Some.{some-series}
 use Rattle.timing_measure.proofs.lemmas.series.Unique.{once-series}
+use Rattle.timing_watch.specs.Watches.{watch_query}
+use Rattle.timing_watch.proofs.Some.{some-watch}
+use Rattle.timing_watch.proofs.Unique.{once-watch}
 use Rattle.timing_top.specs.Asked.{Follows, FollowsAtOnce, FollowsHelp, FollowsSelfTest, InputRose, MeasuresBytes, names_of, page, query_of}
 use Rattle.timing_top.specs.Report.{check_query}
 use Rattle.timing_top.specs.SelfTest.{HasSelfTest}
@@ -99,6 +102,9 @@ some-answer (Some (request.Series job)) i texts there told bytes =
 some-answer (Some (request.Page job)) i texts there told bytes =
     some-queried (page_query job) i texts there told
     (λ read are. some-page job (map classic read) bytes.0 (have-stamps (page_query job) i texts read told are bytes.1))
+some-answer (Some (request.Watch job)) i texts there told bytes =
+    some-queried (watch_query job) i texts there told
+    (λ read are. some-watch job (map classic read) bytes.0 (have-stamps (watch_query job) i texts read told are bytes.1))
 
 -- there are not two
 pub only-answer : (asked : Option Request) (i : Inputs) (texts : List (List ℕ)) (a b : Answer) → AreTold i.texts (names_of asked) texts
@@ -118,6 +124,7 @@ only-answer (Some (request.Skew job)) i texts a b told h k = only-queried (skew_
 only-answer (Some (request.Measure job)) i texts a b told h k = only-queried (measure_query job) i texts a b (once-measure job) told h k
 only-answer (Some (request.Series job)) i texts a b told h k = only-queried (series_query job) i texts a b (once-series job) told h k
 only-answer (Some (request.Page job)) i texts a b told h k = only-queried (page_query job) i texts a b (once-page job) told h k
+only-answer (Some (request.Watch job)) i texts a b told h k = only-queried (watch_query job) i texts a b (once-watch job) told h k
 
 -- what has none has a cause
 pub answer-failed : (asked : Option Request) (i : Inputs) (texts : List (List ℕ)) (e : Failure) → AreTold i.texts (names_of asked) texts

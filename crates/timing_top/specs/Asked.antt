@@ -1,7 +1,7 @@
 -- The output and status that each command line and the contents of its inputs define. Inputs are read in the order in
 -- which they stand here.
 use Rattle.std.specs.Prelude.{◌≡◌, ⊤, Bool, IsTrue, true, false, ℕ, List, [], ◌∷◌, All, Option, Some, None, Result}
-use Rattle.timing_base.specs.Jobs.{IsCaptureJob, IsFlowJob}
+use Rattle.timing_base.specs.Jobs.{IsCaptureJob, IsFlowJob, IsWatchJob}
 use Rattle.pcapng_reader.specs.Bytes.{AreBytes}
 use Rattle.timing_words.specs.Help.{help_text}
 use Rattle.timing_words.specs.declared.command.Command.{Command}
@@ -100,12 +100,13 @@ names_of (Some (request.Sdp job)) = job.sdp ∷ []
 names_of (Some (request.Help named)) = []
 names_of (Some command) = inputs_of (query_of command)
 
--- for `measure`, `series` and `page`: the job is within its limits, as that of every command line is, and the contents
+-- for `measure`, `series`, `page` and `watch`: the job is within its limits, as that of every command line is, and the contents
 -- are bytes, as those of every file are
 abbrev pub MeasuresBytes : Option Request → List (List ℕ) → Type 0
 MeasuresBytes (Some (request.Measure job)) told = IsCaptureJob job × All AreBytes told
 MeasuresBytes (Some (request.Series job)) told = IsFlowJob job.flow × All AreBytes told
 MeasuresBytes (Some (request.Page job)) told = IsCaptureJob job × All AreBytes told
+MeasuresBytes (Some (request.Watch job)) told = IsWatchJob job × All AreBytes told
 MeasuresBytes other told = ⊤
 
 -- the inputs as seen on a shelf that lacks the names for which `lacking` is true; the laws are about such shelves

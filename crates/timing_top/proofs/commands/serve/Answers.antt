@@ -30,6 +30,9 @@ returns-in-Series-clause-ran g c = serves _ _ _ _ _ _ c.in-Series.is c.run_comma
 pub returns-in-Page-clause-ran : goal.returns-in-Page-clause-ran
 returns-in-Page-clause-ran g c = serves _ _ _ _ _ _ c.in-Page.is c.run_command-in-Page.ensures.ran
 
+pub returns-in-Watch-clause-ran : goal.returns-in-Watch-clause-ran
+returns-in-Watch-clause-ran g c = serves _ _ _ _ _ _ c.in-Watch.is c.run_command-in-Watch.ensures.ran
+
 pub returns-in-VerifyReport-clause-ran : goal.returns-in-VerifyReport-clause-ran
 returns-in-VerifyReport-clause-ran g c = serves _ _ _ _ _ _ c.in-VerifyReport.is c.verify_all.ensures.ran
 
@@ -65,6 +68,9 @@ returns-in-Series-clause-ends g c = ends-command _ _ _ _ c.in-Series.is refl c.r
 
 pub returns-in-Page-clause-ends : goal.returns-in-Page-clause-ends
 returns-in-Page-clause-ends g c = ends-command _ _ _ _ c.in-Page.is refl c.run_command-in-Page.ensures.ends
+
+pub returns-in-Watch-clause-ends : goal.returns-in-Watch-clause-ends
+returns-in-Watch-clause-ends g c = ends-command _ _ _ _ c.in-Watch.is refl c.run_command-in-Watch.ensures.ends
 
 pub returns-in-VerifyReport-clause-ends : goal.returns-in-VerifyReport-clause-ends
 returns-in-VerifyReport-clause-ends g c = ends-report _ _ _ _ c.in-VerifyReport.is c.verify_all.ensures.ends
