@@ -37,7 +37,8 @@ pub struct WatchFlow {
 
 impl WatchFlow {
     ghost use Rattle.timing_watch.specs.Watched.{AreFlowLines, IsLeftEnd, Watching};
-    ghost use Rattle.timing_watch.specs.making.Flows.{HasRoom, StandsFor};
+    ghost use Rattle.timing_watch.specs.making.Flows.{HasRoom, StandsFor, expected_next};
+    ghost use Rattle.timing_watch.specs.making.Steps.{AddsRefusal, AddsWaiting, BeginsRun, HasTaken, MovesStretches, TookPacket};
     ghost use Rattle.timing_base.specs.Keys.{key_of};
     ghost use Rattle.fail_interval.specs.Row.{row};
 
@@ -73,7 +74,9 @@ impl WatchFlow {
     }
 
     /// Moves the lines of complete stretches behind the others.
-    fn add_stretches(&mut self) -> Result<(), OutOfMemory> {
+    fn add_stretches(&mut self) -> Result<(), OutOfMemory>
+        ensures { IfOk result (λ _. MovesStretches self.old self.new) }
+    {
         let lines = &mut self.metered.out.text;
         if lines.is_empty() {
             return Ok(());
@@ -84,7 +87,9 @@ impl WatchFlow {
     }
 
     /// Adds the lines of a flow that isn't judged any more, for this reason.
-    fn add_refusal(&mut self, reason: Unjudged) -> Result<(), OutOfMemory> {
+    fn add_refusal(&mut self, reason: Unjudged) -> Result<(), OutOfMemory>
+        ensures { IfOk result (λ _. AddsRefusal reason self.old self.new) }
+    {
         self.refused = true;
         self.metered.out.end()?;
         self.add_stretches()?;
@@ -93,7 +98,9 @@ impl WatchFlow {
     }
 
     /// Begins a run with a packet that came at `at`, and adds the line of the gap before it, if there is one.
-    fn begin_run(&mut self, run: RunSoFar, at: u64) -> Result<(), OutOfMemory> {
+    fn begin_run(&mut self, run: RunSoFar, at: u64) -> Result<(), OutOfMemory>
+        ensures { IfOk result (λ _. BeginsRun run at self.old self.new) }
+    {
         self.run = run.run;
         self.before = self.metered.judge.fed().saturating_sub(1);
         self.since = at;
@@ -112,7 +119,9 @@ impl WatchFlow {
     }
 
     /// Adds the line that a run waits for a marker, if a second is over at `at`.
-    fn add_waiting(&mut self, run: RunSoFar, at: u64) -> Result<(), OutOfMemory> {
+    fn add_waiting(&mut self, run: RunSoFar, at: u64) -> Result<(), OutOfMemory>
+        ensures { IfOk result (λ _. AddsWaiting run at self.old self.new) }
+    {
         if run.whole || at < self.since.saturating_add(SECOND) {
             return Ok(());
         }
@@ -128,7 +137,13 @@ impl WatchFlow {
     /// Adds the lines of a packet that was taken, and came at `at`.
     #[cold]
     #[inline(never)]
-    fn add_lines(&mut self, at: u64) -> Result<(), OutOfMemory> {
+    fn add_lines(&mut self, at: u64) -> Result<(), OutOfMemory>
+        ensures expects { IfOk result (λ _. expected_next self.new ≡ expected_next self.old) }
+        ensures room { (count : ℕ) → IfOk result (λ _. HasRoom count self.old → HasRoom count self.new) }
+        ensures adds { IfOk result (λ _. (w : Watching) (m : MediaValue) (options : FlowOptionsValue)
+            (packets : List PacketValue) (p : PacketValue) → p.at ≡ at → HasTaken w m options self.old packets p
+            → TookPacket w m options self.old self.new packets p) }
+    {
         self.add_stretches()?;
         if let Some(reason) = self.metered.judge.refusal() {
             return self.add_refusal(reason);

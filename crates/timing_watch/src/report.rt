@@ -1,6 +1,6 @@
 //! The end of the output: the report of `check`.
 
-ghost use Rattle.std.specs.Prelude.{◌≡◌, IfOk, map, string_bytes};
+ghost use Rattle.std.specs.Prelude.{◌≡◌, ◌++◌, ℕ, List, IfOk, codes, string_bytes};
 ghost use Rattle.timing_report.specs.Outcomes.{AreOfSession};
 ghost use Rattle.timing_watch.specs.Watches.{check_of, end_text};
 
@@ -60,7 +60,9 @@ pub fn end_of(
 }
 
 /// Returns a line without its line end.
-fn without_end(line: &str) -> &str {
+fn without_end(line: &str) -> &str
+    ensures { (text : List ℕ) → line.now ≡ text ++ codes "\n" → result.now ≡ text }
+{
     match line.strip_suffix("\n") {
         Some(text) => text,
         None => line,

@@ -2,7 +2,13 @@
 
 ghost use Rattle.std.specs.Prelude.{◌≡◌, ◌≤◌, ◌+◌, ◌^◌, ◌++◌, ◌∷◌, [], ℕ, List, IfErr, IfOk, length, string_bytes};
 ghost use Rattle.flow_demux.specs.Rooms.{IsReady};
-ghost use Rattle.timing_watch.specs.making.Flows.{expected_next};
+ghost use Rattle.flow_demux.specs.Awaits.{AwaitsExpected};
+ghost use Rattle.std.specs.Io.KnownBytes.{Appends};
+ghost use Rattle.timing_outside.specs.Causes.{Rose};
+ghost use Rattle.timing_outside.specs.Written.{AppendsFront};
+ghost use Rattle.timing_steps.specs.declared.failure.Failure.TheVariants as failure;
+ghost use Rattle.timing_watch.specs.making.Flows.{HasRoom as FlowHasRoom, expected_next};
+ghost use Rattle.timing_watch.specs.making.Watches.{IsFlowOf};
 
 use crate::flow::WatchFlow;
 use flow_demux::{Demux, MediaFlow};
@@ -45,7 +51,12 @@ fn every_of(job: &WatchJob, media: &Media) -> u32
 ghost use Rattle.timing_watch.specs.Watches.{every_of};
 
 /// Returns the flow of this media before the first packet record. `number` is that of the media, counted from 0.
-fn begin_flow(alloc: Global, job: &WatchJob, media: &Media, number: u32) -> MediaFlow<WatchFlow> {
+fn begin_flow(alloc: Global, job: &WatchJob, media: &Media, number: u32) -> MediaFlow<WatchFlow>
+    ensures media { result.media ≡ media.now }
+    ensures room { FlowHasRoom (2 ^ 41) result.taker }
+    ensures awaits { AwaitsExpected expected_next result }
+    ensures stands { IsFlowOf job.now [] number media.now result }
+{
     let form = LineForm {
         media: number,
         interlaced: media.interlaced,
@@ -59,7 +70,7 @@ fn begin_flow(alloc: Global, job: &WatchJob, media: &Media, number: u32) -> Medi
 }
 
 impl Watch {
-    ghost use Rattle.timing_watch.specs.making.Watches.{EndsWatch, HasRoom, StandsFor};
+    ghost use Rattle.timing_watch.specs.making.Watches.{EndsWatch, GoesOn, HasRoom, HoldsText, StandsFor, text_of};
 
     /// Returns the flows of these media, which count from `first` on, before the first packet record. Returns `Err` if
     /// memory runs out.
@@ -108,7 +119,16 @@ impl Watch {
     /// Writes all lines.
     #[cold]
     #[inline(never)]
-    fn print_all<K: Sink>(&mut self, out: &mut K) -> Result<(), Failure> {
+    fn print_all<K: Sink>(&mut self, out: &mut K) -> Result<(), Failure>
+        requires some { HoldsText self.old }
+        ensures room { (count : ℕ) → HasRoom count self.old → HasRoom count self.new }
+        ensures printed { IfOk result (λ _. Appends (K.written out.old) (K.written out.new) (text_of self.old)
+            × GoesOn self.old self.new (text_of self.old) []) }
+        ensures failed { IfErr result (λ e. (e ≡ failure.WriteFault)
+            × Rose (K.faults out.old) (K.faults out.new)
+            × AppendsFront (K.written out.old) (K.written out.new) (text_of self.old)) }
+        ensures later { K.faults out.old ≤ K.faults out.new }
+    {
         match put_all(out, self.text.as_str().as_bytes()) {
             Ok(()) => {
                 self.text.clear();
