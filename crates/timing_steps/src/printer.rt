@@ -50,4 +50,7 @@ pub trait Printer: Drop {
     /// Two steps, one after the other, are one.
     ghost more: { (x y z : Self) (first second : List ℕ) (a b : List Record) → goes_on x y first a
         → goes_on y z second b → goes_on x z (first ++ second) (a ++ b) };
+
+    /// Room for many packet records is room for fewer.
+    ghost less: { (few many : ℕ) (x : Self) → few ≤ many → room many x → room few x };
 }

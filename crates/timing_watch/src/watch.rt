@@ -140,7 +140,7 @@ impl Watch {
 }
 
 impl Printer for Watch {
-    ghost use Rattle.timing_watch.specs.making.Watches.{GoesOn, HasRoom, HoldsText, goes_more, goes_none, text_of};
+    ghost use Rattle.timing_watch.specs.making.Watches.{GoesOn, HasRoom, HoldsText, goes_more, goes_none, less_room, text_of};
 
     ghost goes_on = { GoesOn };
 
@@ -153,6 +153,8 @@ impl Printer for Watch {
     ghost none = { goes_none };
 
     ghost more = { goes_more };
+
+    ghost less = { less_room };
 
     #[inline(always)]
     fn take(&mut self, number: u64, at: u64, frame: &[u8]) -> Result<(), OutOfMemory> {

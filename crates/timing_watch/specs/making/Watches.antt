@@ -8,12 +8,13 @@ use Rattle.timing_base.specs.Media.{Media}
 use Rattle.timing_base.specs.declared.capture.FileNote.{FileNote}
 use Rattle.udp_rtp.specs.Flow.{flow}
 use Rattle.fail_interval.specs.Rows.{rows_from}
-use Rattle.flow_demux.specs.Rooms.{HasRoom as DemuxHasRoom, flows_of}
+use Rattle.flow_demux.specs.Rooms.{HasRoom as DemuxHasRoom, flows_of, room_less}
 use Rattle.flow_demux.specs.declared.media_flow.MediaFlow.{MediaFlow}
 use Rattle.timing_report.specs.Outcomes.{status_of}
 use Rattle.timing_steps.specs.Answers.{Answer}
 use Rattle.timing_watch.specs.Watches.{AreLeft, AreLines, end_text, watching_of}
-use Rattle.timing_watch.specs.making.Flows.{HasRoom as FlowHasRoom, StandsFor as FlowStandsFor, expected_next, text_in}
+use Rattle.timing_watch.specs.making.Flows.{HasRoom as FlowHasRoom, StandsFor as FlowStandsFor, expected_next}
+use Rattle.timing_watch.specs.making.Flows.{room_less as flow_less, text_in}
 use Rattle.timing_watch.specs.declared.flow.WatchFlow.{WatchFlow}
 use Rattle.timing_watch.specs.declared.watch.Watch.{Watch}
 use Rattle.timing_watch.specs.declared.watch.Watched.{Watched}
@@ -50,6 +51,10 @@ pub record StandsFor (job : WatchJob) (first : ℕ) (media : List Media) (gone :
 -- `count` more packet records can be taken
 abbrev pub HasRoom : (count : ℕ) → Watch → Type 0
 HasRoom count x = DemuxHasRoom FlowHasRoom expected_next count x.demux
+
+-- if many more packet records can be taken, so can fewer
+pub less_room : (few many : ℕ) (x : Watch) → few ≤ many → HasRoom many x → HasRoom few x
+less_room few many x le room = room_less FlowHasRoom expected_next flow_less few many x.demux le room
 
 -- these packet records were taken after those before, and `written` was printed after what was printed before
 abbrev pub GoesOn : (old new : Watch) → (written : List ℕ) → List Record → Type 0
