@@ -14,7 +14,7 @@ returns-else-read_failed-clause-told g c = λ text whole.
 pub returns-then-read_failed-clause-stopped : goal.returns-then-read_failed-clause-stopped
 returns-then-read_failed-clause-stopped g c = λ text items end whole holds.
     let taken = c.in-Ok-printed.taken in
-    printed-stopped g.P.Printer.goes_on g.P.Printer.holds g.P.Printer.text g.met.P.Printer.none g.met.P.Printer.more (output_of g.K.Sink c.args.out.now c.print_records-printed.new.out) c.args.printer.now c.print_records-printed.new.printer c.args.before taken.records
+    copied-stopped g.P.Printer.goes_on g.P.Printer.holds g.P.Printer.text g.met.P.Printer.none g.met.P.Printer.more (output_of g.K.Sink c.args.out.now c.print_records-printed.new.out) c.args.printer.now c.print_records-printed.new.printer c.args.before taken.records
     taken.note items end (c.in-Ok-printed.ensures.told items end (c.in-Ok.ensures.gives text items end whole holds))
 
 pub returns-then-read_failed-clause-front : goal.returns-then-read_failed-clause-front
