@@ -169,8 +169,10 @@ module _ {X : Type 0} (goes : GoingOn X) (holds : X → Type 0) (waiting : X →
   -- it stopped in that one
   stopped-next : (x y z : Option (List ℕ)) (i j k : ℕ) (texts : List (List ℕ)) (text : List ℕ) (old mid : X) (before : TakenCaptures)
       → TakesTexts (Copies goes (between x y i j)) texts old mid before
-      → ((items : List Record) (end : FileNote) → Records text (2 ^ 40) items end → Stopped goes holds waiting (between y z j k) mid (map (raised before.records) items))
-      → (files : List (List Record)) (notes : List FileNote) → AreRecords (texts ++ text ∷ []) files notes → Stopped goes holds waiting (between x z i k) old (joined files)
+      → ((items : List Record) (end : FileNote) → Records text (2 ^ 40) items end → Stopped goes holds waiting (between y z j k) mid (map (raised
+      before.records) items))
+      → (files : List (List Record)) (notes : List FileNote) → AreRecords (texts ++ text ∷ []) files notes → Stopped goes holds waiting (between x z i k) old
+      (joined files)
   stopped-next x y z i j k texts text old mid before h stops files notes records =
       let parts = records-parts texts (text ∷ []) files notes records in
       let one = records-one text parts.second parts.second_notes parts.second_records in
@@ -300,7 +302,8 @@ module _ {X : Type 0} (goes : GoingOn X) (holds : X → Type 0) (waiting : X →
     -- it stopped: so it did whatever follows
     pub sources-stopped : (before now : List ℕ → ℕ) (names read : List (List ℕ)) (rest : List S) (o : Output) (old flow : X) (done : TakenCaptures)
         (outcome : Result (Unit {0}) Failure) (files : List (List Record)) (notes : List FileNote) → is_ok outcome ≡ false
-        → CopiesSources name left faults texts before now names rest goes holds waiting o old flow done outcome → AreTold texts names read → AreRecords read files notes
+        → CopiesSources name left faults texts before now names rest goes holds waiting o old flow done outcome → AreTold texts names read
+        → AreRecords read files notes
         → Stopped goes holds waiting o old (joined files)
     sources-stopped before now names read rest o old flow done (Ok u) files notes failed g told records = absurd (false≢true (sym failed))
     sources-stopped before now names read rest o old flow done (Err e) files notes failed g told records =

@@ -100,13 +100,13 @@ names_of (Some (request.Sdp job)) = job.sdp ∷ []
 names_of (Some (request.Help named)) = []
 names_of (Some command) = inputs_of (query_of command)
 
--- for `measure`, `series`, `page` and `watch`: the job is within its limits, as that of every command line is, and the contents
--- are bytes, as those of every file are
+-- for `measure`, `series`, `page` and `watch`: the job is within its limits, as that of every command line is. For the
+-- first three the contents are bytes too, as those of every file are
 abbrev pub MeasuresBytes : Option Request → List (List ℕ) → Type 0
 MeasuresBytes (Some (request.Measure job)) told = IsCaptureJob job × All AreBytes told
 MeasuresBytes (Some (request.Series job)) told = IsFlowJob job.flow × All AreBytes told
 MeasuresBytes (Some (request.Page job)) told = IsCaptureJob job × All AreBytes told
-MeasuresBytes (Some (request.Watch job)) told = IsWatchJob job × All AreBytes told
+MeasuresBytes (Some (request.Watch job)) told = IsWatchJob job
 MeasuresBytes other told = ⊤
 
 -- the inputs as seen on a shelf that lacks the names for which `lacking` is true; the laws are about such shelves

@@ -1,0 +1,3 @@
+mod Lines
+pub mod Some
+pub mod Unique

@@ -1,23 +1,20 @@
 //! Laws of the definitions. Each function is a theorem: it does nothing, and its clauses are proved.
 
-ghost use Rattle.std.specs.Prelude.{◌≡◌, ◌<◌, ◌≤◌, ◌^◌, ◌++◌, ℕ, All, List, None, length};
-ghost use Rattle.timing_base.specs.Captures.{IsStamp, Record, joined};
+ghost use Rattle.std.specs.Prelude.{◌≡◌, ◌++◌, ℕ, All, List};
+ghost use Rattle.timing_base.specs.Captures.{Record};
 ghost use Rattle.timing_base.specs.Jobs.{IsWatchJob, WatchJob};
 ghost use Rattle.timing_base.specs.Media.{IsMedia, Media};
 ghost use Rattle.timing_base.specs.declared.capture.FileNote.{FileNote};
 ghost use Rattle.pcap_reader.specs.Records.{AreRecords};
 ghost use Rattle.timing_steps.specs.Answers.{Answer};
-ghost use Rattle.timing_steps.specs.Flows.{no_choice};
 ghost use Rattle.timing_steps.specs.Queries.{HasAnswer};
 ghost use Rattle.timing_watch.specs.Watches.{AreLines, AreLinesAfter, watch_query};
 
-/// The contents of the inputs of `watch` have an answer, if the SDP has the media of the job, the job is within its
-/// limits, and the packet records have timestamps that a capture can have.
+/// The contents of the inputs of `watch` have an answer, if the job is within its limits, and the media are.
 pub fn some_watch_answer()
     ensures { (job : WatchJob) (media : List Media) (texts : List (List ℕ)) (files : List (List Record))
         (notes : List FileNote)
-        → IsWatchJob job → All IsMedia media → no_choice job.flows.media media ≡ None
-        → AreRecords texts files notes → length (joined files) < 2 ^ 41 → All (λ r. IsStamp r.stamp) (joined files)
+        → IsWatchJob job → All IsMedia media → AreRecords texts files notes
         → (answer : Answer) × HasAnswer (watch_query job) media texts answer }
 {}
 

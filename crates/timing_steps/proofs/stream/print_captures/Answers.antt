@@ -13,7 +13,8 @@ use Rattle.timing_steps.proofs.stream.print_captures.Goals as goal
 pub returns-in_err-sources-clause-stopped : goal.returns-in_err-sources-clause-stopped
 returns-in_err-sources-clause-stopped g c =
     any-err c.from_residual.result _
-    (λ texts files notes told records. stopped-none g.P.Printer.goes_on g.P.Printer.holds g.P.Printer.text g.met.P.Printer.none g.met.P.Printer.more (output_of g.K.Sink c.args.out.now c.args.out.now) c.args.printer.now _ refl)
+    (λ texts files notes told records. stopped-none g.P.Printer.goes_on g.P.Printer.holds g.P.Printer.text g.met.P.Printer.none g.met.P.Printer.more
+    (output_of g.K.Sink c.args.out.now c.args.out.now) c.args.printer.now _ refl)
 
 pub print_sources-requires-clause-few : goal.print_sources-requires-clause-few
 print_sources-requires-clause-few g c =

@@ -19,10 +19,12 @@ returns-clause-room g c =
 pub returns-in_err-push-clause-stopped : goal.returns-in_err-push-clause-stopped
 returns-in_err-push-clause-stopped g c =
     any-err c.from_residual-in_err-push.result _
-    (λ text items end whole records. taken-stopped g.P.Printer.goes_on g.P.Printer.holds g.P.Printer.text g.met.P.Printer.none g.met.P.Printer.more (output_of g.K.Sink c.args.out.now c.print_source.new.out) c.args.printer.now c.print_source.new.printer text
+    (λ text items end whole records. taken-stopped g.P.Printer.goes_on g.P.Printer.holds g.P.Printer.text g.met.P.Printer.none g.met.P.Printer.more (output_of
+    g.K.Sink c.args.out.now c.print_source.new.out) c.args.printer.now c.print_source.new.printer text
     c.args.done.now.records c.in_ok-taken.taken items end (c.in_ok-taken.ensures.told text whole) records)
 
 pub returns-in_err-push-clause-front : goal.returns-in_err-push-clause-front
 returns-in_err-push-clause-front g c =
     any-err c.from_residual-in_err-push.result _
-    (some-front g.P.Printer.goes_on g.P.Printer.holds g.P.Printer.text g.met.P.Printer.none g.met.P.Printer.more (output_of g.K.Sink c.args.out.now c.print_source.new.out) c.args.printer.now c.print_source.new.printer c.in_ok-taken.ensures.some)
+    (some-front g.P.Printer.goes_on g.P.Printer.holds g.P.Printer.text g.met.P.Printer.none g.met.P.Printer.more (output_of g.K.Sink c.args.out.now
+    c.print_source.new.out) c.args.printer.now c.print_source.new.printer c.in_ok-taken.ensures.some)

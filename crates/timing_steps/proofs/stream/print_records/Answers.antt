@@ -8,7 +8,8 @@ use Rattle.timing_steps.proofs.stream.print_records.Goals as goal
 
 pub loop-at-init : goal.loop-at-init
 loop-at-init g c = record {
-  copying = copying-none g.P.Printer.goes_on g.P.Printer.holds g.P.Printer.text g.met.P.Printer.none g.met.P.Printer.more (WillGive g.S.Source.left) (output_of g.K.Sink c.args.out.now c.args.out.now) c.args.before c.args.reader.now c.args.printer.now refl;
+  copying = copying-none g.P.Printer.goes_on g.P.Printer.holds g.P.Printer.text g.met.P.Printer.none g.met.P.Printer.more (WillGive g.S.Source.left)
+      (output_of g.K.Sink c.args.out.now c.args.out.now) c.args.before c.args.reader.now c.args.printer.now refl;
   fresh = c.requires.fresh;
   number_is = sym c.requires.first;
   most = refl;
@@ -29,7 +30,8 @@ take-requires-clause-room g c =
 pub returns-in_err-take-in-Ok-Frame-clause-stopped : goal.returns-in_err-take-in-Ok-Frame-clause-stopped
 returns-in_err-take-in-Ok-Frame-clause-stopped g c =
     any-err c.from_residual.result _
-    (copying-stopped g.P.Printer.goes_on g.P.Printer.holds g.P.Printer.text g.met.P.Printer.none g.met.P.Printer.more (WillGive g.S.Source.left) (output_of g.K.Sink c.args.out.now c.loop-at.out) c.args.before c.loop-at.records c.args.reader.now
+    (copying-stopped g.P.Printer.goes_on g.P.Printer.holds g.P.Printer.text g.met.P.Printer.none g.met.P.Printer.more (WillGive g.S.Source.left) (output_of
+    g.K.Sink c.args.out.now c.loop-at.out) c.args.before c.loop-at.records c.args.reader.now
     c.loop-at.reader c.args.printer.now c.loop-at.printer c.loop-at.invariant.copying)
 
 pub loop-at-preserved : goal.loop-at-preserved
@@ -44,9 +46,11 @@ loop-at-preserved g c =
     let o = output_of g.K.Sink c.args.out.now c.loop-at.out in
     let poured = c.in_ok-print.ensures.goes_on in
     record {
-      copying = copying-poured g.P.Printer.goes_on g.P.Printer.holds g.P.Printer.text g.met.P.Printer.none g.met.P.Printer.more (WillGive g.S.Source.left) o (g.K.Sink.written c.print.new.out) (g.K.Sink.faults c.print.new.out) c.args.before _
+      copying = copying-poured g.P.Printer.goes_on g.P.Printer.holds g.P.Printer.text g.met.P.Printer.none g.met.P.Printer.more (WillGive g.S.Source.left) o
+          (g.K.Sink.written c.print.new.out) (g.K.Sink.faults c.print.new.out) c.args.before _
           c.args.reader.now new c.args.printer.now c.take.new.self _ poured.0
-          (copying-taken g.P.Printer.goes_on g.P.Printer.holds g.P.Printer.text g.met.P.Printer.none g.met.P.Printer.more g.S.Source.left g.S.Source.name g.S.Source.faults o c.args.before c.loop-at.records c.args.reader.now c.loop-at.reader new
+          (copying-taken g.P.Printer.goes_on g.P.Printer.holds g.P.Printer.text g.met.P.Printer.none g.met.P.Printer.more g.S.Source.left g.S.Source.name
+          g.S.Source.faults o c.args.before c.loop-at.records c.args.reader.now c.loop-at.reader new
           c.args.printer.now c.loop-at.printer c.take.new.self at bytes c.next.result is s inv.number_is c.in_ok-take-in-Ok-Frame.ensures.goes_on inv.copying)
           poured.1 poured.2;
       fresh = s.tells ∙ ap answer_note is;
@@ -68,9 +72,11 @@ returns-in_err-print-clause-stopped g c =
     let o = output_of g.K.Sink c.args.out.now c.loop-at.out in
     let follows = c.next.follows in
     any-err c.from_residual-in_err-print.result _
-    (copying-broken g.P.Printer.goes_on g.P.Printer.holds g.P.Printer.text g.met.P.Printer.none g.met.P.Printer.more (WillGive g.S.Source.left) o (g.K.Sink.written c.print.new.out) (g.K.Sink.faults c.print.new.out) c.args.before _ c.args.reader.now
+    (copying-broken g.P.Printer.goes_on g.P.Printer.holds g.P.Printer.text g.met.P.Printer.none g.met.P.Printer.more (WillGive g.S.Source.left) o
+    (g.K.Sink.written c.print.new.out) (g.K.Sink.faults c.print.new.out) c.args.before _ c.args.reader.now
     follows.lender-at-none c.args.printer.now c.take.new.self
-    (copying-taken g.P.Printer.goes_on g.P.Printer.holds g.P.Printer.text g.met.P.Printer.none g.met.P.Printer.more g.S.Source.left g.S.Source.name g.S.Source.faults o c.args.before c.loop-at.records c.args.reader.now c.loop-at.reader
+    (copying-taken g.P.Printer.goes_on g.P.Printer.holds g.P.Printer.text g.met.P.Printer.none g.met.P.Printer.more g.S.Source.left g.S.Source.name
+    g.S.Source.faults o c.args.before c.loop-at.records c.args.reader.now c.loop-at.reader
     follows.lender-at-none c.args.printer.now c.loop-at.printer c.take.new.self frame.at frame.bytes c.next.result (frame.is ∙ ap Ok frame.field-0-is)
     follows.holds-at-none inv.number_is c.in_ok-take-in-Ok-Frame.ensures.goes_on inv.copying)
     c.in_err-print.ensures.failed.2 c.in_err-print.ensures.failed.3)

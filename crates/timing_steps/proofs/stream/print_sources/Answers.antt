@@ -16,7 +16,8 @@ loop-source-init g c =
     let shelf = g.H.Shelf in
     record {
       copying = λ names fetched.
-          sources-start g.P.Printer.goes_on g.P.Printer.holds g.P.Printer.text g.met.P.Printer.none g.met.P.Printer.more (name_of source.name) (left_of source.left) (faults_of source.faults) (classic_texts (shelf.text c.args.shelf.now))
+          sources-start g.P.Printer.goes_on g.P.Printer.holds g.P.Printer.text g.met.P.Printer.none g.met.P.Printer.more (name_of source.name) (left_of
+          source.left) (faults_of source.faults) (classic_texts (shelf.text c.args.shelf.now))
           (shelf.faults c.args.shelf.now) names c.args.sources.items c.into_iter-source-iterator.result.rest.items
           (output_of g.K.Sink c.args.out.now c.args.out.now) c.args.printer.now _ c.into_iter-source-iterator.ensures.into_iter_gives.0 (search rules) refl refl
           fetched;
@@ -24,7 +25,11 @@ loop-source-init g c =
       count = search rules;
       before = search rules;
       room = c.requires.room;
-      some = ([], copies-none g.P.Printer.goes_on g.P.Printer.holds g.P.Printer.text g.met.P.Printer.none g.met.P.Printer.more (output_of g.K.Sink c.args.out.now c.args.out.now) c.args.printer.now refl);
+      some = (
+        [],
+        copies-none g.P.Printer.goes_on g.P.Printer.holds g.P.Printer.text g.met.P.Printer.none g.met.P.Printer.more (output_of g.K.Sink
+            c.args.out.now c.args.out.now) c.args.printer.now refl,
+      );
       front = tt;
       later = omega arith;
       stays = search rules;
@@ -43,10 +48,12 @@ loop-source-preserved-in-Ok g c =
     let sink = g.K.Sink in
     let inv = c.loop-source.invariant in
     let copied = c.print_next-outcome in
-    let was : CopiesSome g.P.Printer.goes_on (output_of sink c.args.out.now c.loop-source.out) c.args.printer.now c.loop-source.printer = if_ok-at _ _ _ c.in-Ok.is inv.some in
+    let was : CopiesSome g.P.Printer.goes_on (output_of sink c.args.out.now c.loop-source.out) c.args.printer.now c.loop-source.printer = if_ok-at _ _ _
+    c.in-Ok.is inv.some in
     record {
       copying = λ names fetched.
-          sources-next g.P.Printer.goes_on g.P.Printer.holds g.P.Printer.text g.met.P.Printer.none g.met.P.Printer.more (name_of source.name) (left_of source.left) (faults_of source.faults) (classic_texts (shelf.text c.args.shelf.now))
+          sources-next g.P.Printer.goes_on g.P.Printer.holds g.P.Printer.text g.met.P.Printer.none g.met.P.Printer.more (name_of source.name) (left_of
+          source.left) (faults_of source.faults) (classic_texts (shelf.text c.args.shelf.now))
           (shelf.faults c.args.shelf.now) (shelf.faults c.loop-source.shelf) (shelf.faults copied.new.shelf) names c.in-Some.source
           c.loop-source.source-iterator.rest.items c.next.new.self.rest.items (sink.written c.args.out.now) (sink.written c.loop-source.out)
           (sink.written copied.new.out) (sink.faults c.args.out.now) (sink.faults c.loop-source.out) (sink.faults copied.new.out) c.args.printer.now
@@ -57,10 +64,12 @@ loop-source-preserved-in-Ok g c =
       count = search rules;
       before = copied.ensures.few;
       room = copied.ensures.room;
-      some = if_ok-some g.P.Printer.goes_on g.P.Printer.holds g.P.Printer.text g.met.P.Printer.none g.met.P.Printer.more (sink.written c.args.out.now) (sink.written c.loop-source.out) (sink.written copied.new.out) (sink.faults c.args.out.now)
+      some = if_ok-some g.P.Printer.goes_on g.P.Printer.holds g.P.Printer.text g.met.P.Printer.none g.met.P.Printer.more (sink.written c.args.out.now)
+          (sink.written c.loop-source.out) (sink.written copied.new.out) (sink.faults c.args.out.now)
           (sink.faults c.loop-source.out) (sink.faults copied.new.out) c.args.printer.now c.loop-source.printer copied.new.printer copied.result was
           copied.ensures.some;
-      front = front-then g.P.Printer.goes_on g.P.Printer.holds g.P.Printer.text g.met.P.Printer.none g.met.P.Printer.more (sink.written c.args.out.now) (sink.written c.loop-source.out) (sink.written copied.new.out) (sink.faults c.args.out.now)
+      front = front-then g.P.Printer.goes_on g.P.Printer.holds g.P.Printer.text g.met.P.Printer.none g.met.P.Printer.more (sink.written c.args.out.now)
+          (sink.written c.loop-source.out) (sink.written copied.new.out) (sink.faults c.args.out.now)
           (sink.faults c.loop-source.out) (sink.faults copied.new.out) c.args.printer.now c.loop-source.printer copied.result was copied.ensures.front;
       later = omega (arith, inv.later, copied.ensures.later);
       stays = stays-then shelf.text shelf.lacks shelf.faults _ _ _ inv.stays copied.ensures.stays;
@@ -77,7 +86,8 @@ loop-source-preserved g c =
     subst (λ r. IfErr r (λ _. (front : List ℕ) × Appended (output_of sink c.args.out.now c.loop-source.out) front)) c.in-Err.is inv.front in
     record {
       copying = λ names fetched.
-          sources-past g.P.Printer.goes_on g.P.Printer.holds g.P.Printer.text g.met.P.Printer.none g.met.P.Printer.more (name_of source.name) (left_of source.left) (faults_of source.faults) (classic_texts (shelf.text c.args.shelf.now))
+          sources-past g.P.Printer.goes_on g.P.Printer.holds g.P.Printer.text g.met.P.Printer.none g.met.P.Printer.more (name_of source.name) (left_of
+          source.left) (faults_of source.faults) (classic_texts (shelf.text c.args.shelf.now))
           (shelf.faults c.args.shelf.now) (shelf.faults c.loop-source.shelf) (shelf.faults given.new.shelf) names
           c.loop-source.source-iterator.rest.items c.next.new.self.rest.items (sink.written c.args.out.now) (sink.written c.loop-source.out)
           (sink.faults c.args.out.now) (sink.faults c.loop-source.out) c.args.printer.now c.loop-source.printer c.loop-source.done c.loop-source.outcome
@@ -96,7 +106,8 @@ pub returns-clause-told : goal.returns-clause-told
 returns-clause-told g c = λ names texts fetched told.
     let source = g.H.Source.Source in
     let shelf = g.H.Shelf in
-    sources-whole g.P.Printer.goes_on g.P.Printer.holds g.P.Printer.text g.met.P.Printer.none g.met.P.Printer.more (name_of source.name) (left_of source.left) (faults_of source.faults) (classic_texts (shelf.text c.args.shelf.now))
+    sources-whole g.P.Printer.goes_on g.P.Printer.holds g.P.Printer.text g.met.P.Printer.none g.met.P.Printer.more (name_of source.name) (left_of source.left)
+    (faults_of source.faults) (classic_texts (shelf.text c.args.shelf.now))
     (shelf.faults c.args.shelf.now) (shelf.faults c.loop-source.shelf) names texts c.loop-source.source-iterator.rest.items
     (output_of g.K.Sink c.args.out.now c.loop-source.out) c.args.printer.now c.loop-source.printer c.loop-source.done c.loop-source.outcome (search rules)
     (none-left c.loop-source.source-iterator.rest.items (search rules)) (c.loop-source.invariant.copying names fetched) told
@@ -113,7 +124,8 @@ returns-in_err-outcome-clause-stopped g c =
     let shelf = g.H.Shelf in
     any-err c.from_residual.result _
     (λ names texts files notes fetched told records.
-    sources-stopped g.P.Printer.goes_on g.P.Printer.holds g.P.Printer.text g.met.P.Printer.none g.met.P.Printer.more (name_of source.name) (left_of source.left) (faults_of source.faults) (classic_texts (shelf.text c.args.shelf.now))
+    sources-stopped g.P.Printer.goes_on g.P.Printer.holds g.P.Printer.text g.met.P.Printer.none g.met.P.Printer.more (name_of source.name) (left_of
+    source.left) (faults_of source.faults) (classic_texts (shelf.text c.args.shelf.now))
     (shelf.faults c.args.shelf.now) (shelf.faults c.loop-source.shelf) names texts c.loop-source.source-iterator.rest.items
     (output_of g.K.Sink c.args.out.now c.loop-source.out) c.args.printer.now c.loop-source.printer c.loop-source.done c.loop-source.outcome
     files notes (search rules) (c.loop-source.invariant.copying names fetched) told records)

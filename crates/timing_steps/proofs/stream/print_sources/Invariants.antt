@@ -17,7 +17,8 @@ invariant-loop-source g l =
       copying : (names : List (List ℕ)) → AreFetched (name_of source.name) (left_of source.left) (faults_of source.faults)
           (classic_texts (shelf.text l.fn.shelf)) names l.fn.sources.items
           → CopiesSources (name_of source.name) (left_of source.left) (faults_of source.faults) (classic_texts (shelf.text l.fn.shelf))
-          (shelf.faults l.fn.shelf) (shelf.faults l.shelf) names l.source-iterator.rest.items g.P.Printer.goes_on g.P.Printer.holds g.P.Printer.text (output_of sink l.fn.out l.out) l.fn.printer l.printer l.done l.outcome;
+          (shelf.faults l.fn.shelf) (shelf.faults l.shelf) names l.source-iterator.rest.items g.P.Printer.goes_on g.P.Printer.holds g.P.Printer.text
+          (output_of sink l.fn.out l.out) l.fn.printer l.printer l.done l.outcome;
       fresh : All (λ s. faults_of source.faults s ≡ 0) l.source-iterator.rest.items;
       count : IfOk l.outcome (λ _. length l.done.notes.items + length l.source-iterator.rest.items ≡ length l.fn.sources.items);
       before : IfOk l.outcome (λ _. l.done.records ≤ length l.done.notes.items * 2 ^ 36);
