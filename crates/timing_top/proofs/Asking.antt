@@ -102,8 +102,8 @@ some-answer (Some (request.Series job)) i texts there told bytes =
 some-answer (Some (request.Page job)) i texts there told bytes =
     some-queried (page_query job) i texts there told
     (λ read are. some-page job (map classic read) bytes.0 (have-stamps (page_query job) i texts read told are bytes.1))
-some-answer (Some (request.Watch job)) i texts there told bytes = some-queried (watch_query job) i texts there told (λ read are. some-watch job (map classic
-    read) bytes)
+some-answer (Some (request.Watch job)) i texts there told bytes =
+    some-queried (watch_query job) i texts there told (λ read are. some-watch job (map classic read) bytes)
 
 -- there are not two
 pub only-answer : (asked : Option Request) (i : Inputs) (texts : List (List ℕ)) (a b : Answer) → AreTold i.texts (names_of asked) texts
