@@ -1,2 +1,5 @@
+pub mod Adding
 pub mod Existing
+pub mod Joining
+pub mod Keeping
 pub mod Unique
