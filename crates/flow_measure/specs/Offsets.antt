@@ -1,6 +1,6 @@
--- The offsets with which the packets of a run would keep the receiver buffer, for each sender type. An offset is a whole
--- number of microseconds from 0 to 1,000,000, as TROFF gives it; m is the video, n the packets per frame or field, and
--- stamps the capture timestamps of the judged packets, in nanoseconds of TAI.
+-- The meters of the offsets with which the packets of a run would keep the receiver buffer, for each sender type. m is
+-- the video, n the packets per frame or field, and stamps the capture timestamps of the judged packets, in nanoseconds
+-- of TAI.
 use Rattle.std.specs.Prelude.{◌≡◌, ◌<◌, ℕ, List, length}
 use Rattle.timing_base.specs.Media.{Media}
 use Rattle.timing_base.specs.declared.media.Kind.{Kind}

@@ -1,6 +1,6 @@
--- The whole page of a capture, or of several that were taken as one: the table of the media, for each flow with a judged
--- run the pictures and the measurements of one run, and the other contents of the captures. Capture timestamps are
--- nanoseconds. Media count from 1 in the text. This project's own format.
+-- The whole page of a capture, or of several that were taken as one: the table of the media, for each flow with a
+-- judged run the pictures and the measurements of one run, and the other contents of the captures. Capture timestamps
+-- are nanoseconds. Media count from 1 in the text. This project's own format.
 use Rattle.std.specs.Prelude.{ℕ, ◌+◌, List, [], ◌++◌, codes, Option, Some, None}
 use Rattle.std.specs.Fmt.{decimal}
 use Rattle.std.specs.List.{flat_map}

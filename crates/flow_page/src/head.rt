@@ -54,6 +54,13 @@ impl fmt::Display for More {
     }
 }
 
+/// Adds markup as it is.
+pub(crate) fn add_markup(text: &mut String, markup: &str) -> Result<(), OutOfMemory>
+    ensures { IfOk result (λ _. string_bytes text.new ≡ string_bytes text.old ++ markup.now) }
+{
+    text.push_str(markup)
+}
+
 /// Adds the start of the page of captures with these names: the head with all styles, and the heading.
 pub(crate) fn add_page_start(text: &mut String, names: &[FileName]) -> Result<(), OutOfMemory>
     ensures { IfOk result (λ _. string_bytes text.new ≡ string_bytes text.old ++ page_start names.now) }
@@ -110,9 +117,12 @@ fn add_notes_list(
     ensures { IfOk result (λ _. string_bytes text.new
         ≡ string_bytes text.old ++ notes_list names.now notes.now) }
 {
-    text.push_str("<p>By SMPTE ST 2110-21. How the captures end:</p>\n<ol>")?;
+    add_markup(
+        text,
+        "<p>By SMPTE ST 2110-21. How the captures end:</p>\n<ol>",
+    )?;
     add_note_items(text, names, notes)?;
-    text.push_str("</ol>\n")
+    add_markup(text, "</ol>\n")
 }
 
 /// Adds several captures in their order, and how each of them ends.

@@ -33,7 +33,7 @@ ghost use Rattle.flow_page.specs.declared.timings.Timing.TheVariants.{First, Las
 
 /// How captures end: one, and two of which the second ends within the packet record at byte 40. The title and the
 /// heading name the first one, and say how many more there are.
-#[tactic(auto, unfolding(crate::proofs::Numerals::numerals))]
+#[tactic(auto, unfolding(crate::proofs::Numerals::numerals, crate::proofs::lemmas::chart::Numerals::numerals))]
 pub fn captures_by_hand()
     ensures alone { notes_part (codes "a.pcap" ∷ []) (note.End ∷ [])
         ≡ codes "<p>By SMPTE ST 2110-21. How the capture ends: end.</p>\n" }

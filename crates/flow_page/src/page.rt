@@ -12,7 +12,7 @@ ghost use Rattle.flow_page.specs.Times.{file_time};
 
 use crate::around::add_around_figures;
 use crate::chart::add_told;
-use crate::head::{add_legend, add_notes, add_page_end, add_page_start};
+use crate::head::{add_legend, add_markup, add_notes, add_page_end, add_page_start};
 use crate::levels::{View, add_level_figures};
 use crate::media::{add_media_table, flow_media};
 use crate::numbers::{add_numbers_table, add_runs_table, add_types_table};
@@ -25,13 +25,6 @@ use flow_measure::{MeasuredFlow, MeasuredRun};
 use std::alloc::{AllocError as OutOfMemory, Global};
 use timing_base::{FileName, FileNote, Media, Session, Shift, Target};
 use timing_report::group_name;
-
-/// Adds markup as it is.
-fn add_markup(text: &mut String, markup: &str) -> Result<(), OutOfMemory>
-    ensures { IfOk result (λ _. string_bytes text.new ≡ string_bytes text.old ++ markup.now) }
-{
-    text.push_str(markup)
-}
 
 /// Adds the heading of a flow.
 fn add_flow_heading(text: &mut String, number: u64, target: Target) -> Result<(), OutOfMemory>

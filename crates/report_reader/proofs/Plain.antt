@@ -56,6 +56,7 @@ plain_reported = record {
     captures_are = record { some = omega arith; few = omega arith };
     workers_few = omega arith;
     options_are = record { tai_most = omega arith; delay_most = omega arith };
+    media_few = tt;
   };
   names = one (λ name. is_file_name name ≡ true) (codes "a.pcap") refl;
   is_session = record { some = omega arith; few = omega arith };

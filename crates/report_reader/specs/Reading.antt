@@ -2,7 +2,7 @@
 -- then the line of each capture, the lines of each flow, and the status. A report has at most as many captures and
 -- flows as its text has bytes. That a run or a capture has its place as its number isn't tested, nor that peaks and
 -- numbers of gaps that stand in several places agree.
-use Rattle.std.specs.Prelude.{ℕ, zero, suc, ◌-◌, ◌*◌, ◌+◌, ◌^◌, Bool, true, false, List, [], ◌∷◌, ◌++◌, length}
+use Rattle.std.specs.Prelude.{ℕ, zero, suc, ◌-◌, Bool, true, false, List, [], ◌∷◌, ◌++◌, length}
 use Rattle.std.specs.Prelude.{Option, Some, None, codes}
 use Rattle.timing_base.specs.Addresses.{ipv4}
 use Rattle.timing_base.specs.declared.capture.FileNote.{FileNote}

@@ -1,10 +1,9 @@
 -- The media that are judged, of a session.
-use Rattle.std.proofs.Common.{◌≡◌, ◌≤◌, ◌<◌, ◌+◌, ◌-◌, ℕ, List, [], ◌∷◌, length, take, drop, Option, Some, None, refl, ap, arith, sym, subst}
+use Rattle.std.proofs.Common.{◌≡◌, ◌≤◌, ◌<◌, ◌+◌, ◌-◌, ℕ, List, [], ◌∷◌, length, take, drop, Option, Some, None, arith}
 use Rattle.std.specs.Prelude.{All}
-use Rattle.std.proofs.lemmas.List.{length-drop, length-take-le}
+use Rattle.std.proofs.lemmas.List.{length-drop}
 use Rattle.std.proofs.lemmas.List.Elements.{All-drop, All-nil, All-take, All-weaker}
 use Rattle.timing_base.specs.Choices.{chosen, first_chosen}
-use Rattle.timing_base.specs.Jobs.{IsChoice}
 use Rattle.timing_base.specs.Media.{Media}
 
 -- they are no more than those of the session
@@ -15,11 +14,6 @@ one-few (m ∷ rest) = omega arith
 pub chosen-few : (only : Option ℕ) (session : List Media) → length (chosen only session) ≤ length session
 chosen-few None session = omega arith
 chosen-few (Some number) session = omega (arith, one-few (drop number session), length-drop number session)
-
--- the number of the first is below 64
-pub first-few : (only : Option ℕ) → IsChoice only → first_chosen only ≤ 64
-first-few None is = omega arith
-first-few (Some number) is = omega (arith, is)
 
 -- each of them is one of the session
 pub chosen-all : (P : Media → Type 0) (only : Option ℕ) (session : List Media) → All P session → All P (chosen only session)

@@ -13,6 +13,7 @@ use Rattle.timing_base.specs.declared.media.Kind.{Kind}
 use Rattle.timing_base.specs.declared.media.Kind.TheVariants.{N, NL, W}
 use Rattle.timing_base.specs.declared.packet.FlowPacket.{FlowPacket}
 use Rattle.sender_params.specs.Limits.{c_max_of, gapped_of, vrx_full_of}
+use Rattle.offset_window.proofs.Unique.{window-once}
 use Rattle.flow_measure.specs.Bins.{bin_width, in_bin}
 use Rattle.flow_measure.specs.Classes.{in_class}
 use Rattle.flow_measure.specs.Gaps.{AreClassesOf, AreGapsOf, gap_after}
@@ -99,16 +100,19 @@ kind-once : (m : Media) (n groups : ℕ) (stamps records : List ℕ) (occupancy 
     → AreOccupancies m n stamps (gapped_of kind) occupancy → AreOccupancies m n stamps (gapped_of kind) others
     → IsKind m n groups stamps records occupancy kind named k → IsKind m n groups stamps records others kind named other → k ≡ other
 kind-once m n groups stamps records occupancy others kind named k other are be h there =
-    let is = kind-same m n groups stamps records others occupancy kind named other be are there in
+    let there_is = kind-same m n groups stamps records others occupancy kind named other be are there in
+    let a = h.numbers in
+    let b = there_is.numbers in
     let p = packets_of m n stamps records occupancy kind in
     let count = length stamps in
-    let bucket = bins-same (c_max_of m n kind) count p.bucket k.bucket other.bucket h.bucket is.bucket in
-    let buffer = bins-same (vrx_full_of m n kind) count p.occupancy k.buffer other.buffer h.buffer is.buffer in
-    let broken = h.groups_broken ∙ sym is.groups_broken in
-    let overfull = first-once p.overfull count k.first_bucket other.first_bucket h.first_bucket is.first_bucket in
-    let over = first-once p.over count k.first_over other.first_over h.first_over is.first_over in
-    let empty = first-once p.empty count k.first_empty other.first_empty h.first_empty is.first_empty in
-    let place = h.named_is ∙ sym is.named_is in
+    let bucket = bins-same (c_max_of m n kind) count p.bucket k.bucket other.bucket a.bucket b.bucket in
+    let buffer = bins-same (vrx_full_of m n kind) count p.occupancy k.buffer other.buffer a.buffer b.buffer in
+    let broken = a.groups_broken ∙ sym b.groups_broken in
+    let overfull = first-once p.overfull count k.first_bucket other.first_bucket a.first_bucket b.first_bucket in
+    let over = first-once p.over count k.first_over other.first_over a.first_over b.first_over in
+    let empty = first-once p.empty count k.first_empty other.first_empty a.first_empty b.first_empty in
+    let place = a.named_is ∙ sym b.named_is in
+    let troff = window-once m n stamps kind k.troff other.troff h.troff there.troff in
     λ i. record {
       groups_broken = broken i;
       bucket = bucket i;
@@ -117,6 +121,7 @@ kind-once m n groups stamps records occupancy others kind named k other are be h
       first_over = over i;
       first_empty = empty i;
       named = place i;
+      troff = troff i;
     }
 
 -- the three types

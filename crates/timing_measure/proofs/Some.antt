@@ -152,7 +152,8 @@ pub measure-defined : (job : CaptureJob) (media : List Media) (items : List Reco
     → (answer : Answer) × DefinesMeasure job media items notes answer
 measure-defined job media items notes is all held =
     let flows =
-    some-flows job.options items (first_chosen job.media) (chosen job.media media) (chosen-all IsMedia job.media media all) is.options_are held.few held.stamps in
+    some-flows job.options items (first_chosen job.media) (chosen job.media media) (chosen-all IsMedia job.media media all) is.options_are held.few
+    held.stamps in
     (measured job.captures notes media flows.0, record { flows = flows.0; are = flows.1; answer_is = refl })
 
 pub some-measure : (job : CaptureJob) (texts : List (List ℕ)) → IsCaptureJob job → HaveStamps texts → DefinesSome (measure_query job) texts

@@ -10,14 +10,14 @@ ghost use Rattle.timing_measure.specs.flows.Taken.{AreCapturesIn, AreCapturesOf}
 
 use crate::answer::measured;
 use crate::both::Nothing;
-use crate::flows::take_flows;
+use crate::flows::{judged_media, take_flows};
 use crate::measured::{MeasuredCaptures, measured_flows};
 use flow_measure::{MeasuredRuns, NumbersMeter};
 use std::alloc::{AllocError as OutOfMemory, Global};
 use timing_base::{CaptureJob, FileName, Media, Session};
 use timing_outside::{Shelf, Sink};
 use timing_report::Input;
-use timing_steps::{Answer, Command, Failure, chosen_media, early_of_choice, first_chosen};
+use timing_steps::{Answer, Command, Failure, early_of_choice, first_chosen};
 
 /// Returns the flows of these media, which count from `first` on, in the captures of a job as one.
 fn read_flows<H: Shelf>(
@@ -62,7 +62,7 @@ fn answer_measure<H: Shelf>(
         × CaptureRose (H.faults shelf.old) (H.faults shelf.new) job.now.captures number)) }
     ensures stays { StaysAs H.text H.lacks H.faults shelf.old shelf.new }
 {
-    let media = chosen_media(session, job.media);
+    let media = judged_media(job, session);
     let captures = read_flows(alloc, job, shelf, media, first_chosen(job.media))?;
     Ok(measured(alloc, job, session, &captures)?)
 }

@@ -96,12 +96,12 @@ some-answer (Some (request.Shape job)) i texts there told bytes =
 some-answer (Some (request.Skew job)) i texts there told bytes = some-queried (skew_query job) i texts there told (λ read are. some-skew job (map classic read))
 some-answer (Some (request.Measure job)) i texts there told bytes =
     some-queried (measure_query job) i texts there told
-    (λ read are. some-measure job (map classic read) bytes.0 (have-stamps (measure_query job) i texts read told are bytes.1))
+    (λ read are. some-measure job (map classic read) bytes.0 (have-stamps (measure_query job) i texts read bytes.0.inputs.captures_are.few told are bytes.1))
 some-answer (Some (request.Series job)) i texts there told bytes =
     some-queried (series_query job) i texts there told (λ read are. some-series job (map classic read))
 some-answer (Some (request.Page job)) i texts there told bytes =
     some-queried (page_query job) i texts there told
-    (λ read are. some-page job (map classic read) bytes.0 (have-stamps (page_query job) i texts read told are bytes.1))
+    (λ read are. some-page job (map classic read) bytes.0 (have-stamps (page_query job) i texts read bytes.0.inputs.captures_are.few told are bytes.1))
 some-answer (Some (request.Watch job)) i texts there told bytes =
     some-queried (watch_query job) i texts there told (λ read are. some-watch job (map classic read) bytes)
 

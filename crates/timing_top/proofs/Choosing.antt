@@ -1,12 +1,11 @@
 -- The media that are judged, as media of the session: all, or the chosen one under its number.
-use Rattle.std.proofs.Common.{◌≡◌, ◌≤◌, ◌<◌, ◌+◌, ◌^◌, ℕ, zero, suc, List, [], ◌∷◌, length, drop, take, Option, Some, None, refl, arith, ap, ◌∙◌, sym}
+use Rattle.std.proofs.Common.{◌≡◌, ◌≤◌, ◌<◌, ◌+◌, ◌^◌, ℕ, zero, suc, List, [], ◌∷◌, length, drop, take, Option, Some, None, refl, arith, ap, ◌∙◌}
 use Rattle.std.proofs.lemmas.List.Elements.{All-drop, All-map, All-take, All-weaker}
 use Rattle.std.specs.Prelude.{All, map, slice_get}
 use Rattle.timing_base.specs.Choices.{chosen, first_chosen, key_from, row_from}
 use Rattle.timing_base.specs.Jobs.{IsChoice}
 use Rattle.timing_base.specs.Media.{Media}
 use Rattle.timing_base.specs.Targets.{HaveOwnTargets}
-use Rattle.timing_base.specs.declared.key.FlowKey.{FlowKey}
 use Rattle.timing_base.specs.declared.row.Row.{Row}
 use Rattle.timing_report.specs.Outcomes.{AreOfSession}
 use Rattle.timing_steps.specs.Flows.{no_choice, no_media, no_such_media}
@@ -83,13 +82,18 @@ rows-chosen only session rows h =
     (λ row within. chosen-within only session row.key.media within) rows h)
 
 -- and their numbers have 32 bits
-pub rows-few : (only : Option ℕ) (session : List Media) (rows : List Row) → length session ≤ 64 → AreOfSession (chosen only session) rows
+first-few : (only : Option ℕ) → IsChoice only → first_chosen only < 64
+first-few None h = omega arith
+first-few (Some first) h = h
+
+pub rows-few : (only : Option ℕ) (media : List Media) (rows : List Row) → IsChoice only → length media ≤ 64 → AreOfSession media rows
     → All (λ (row : Row). first_chosen only + row.key.media < 2 ^ 32) rows
-rows-few only session rows few h =
-    All-weaker (λ (row : Row). row.key.media < length (chosen only session)) (λ (row : Row). first_chosen only + row.key.media < 2 ^ 32)
-    (λ row within. let less = chosen-within only session row.key.media within in omega (arith, less, few)) rows h
+rows-few only media rows choice few h =
+    All-weaker (λ (row : Row). row.key.media < length media) (λ (row : Row). first_chosen only + row.key.media < 2 ^ 32)
+    (λ row within. omega (arith, first-few only choice, within, few)) rows h
 
 -- the flows of results under their numbers
-pub keys-chosen : (first : ℕ) (rows : List Row) → map (λ (row : Row). row.key) (map (row_from first) rows) ≡ map (key_from first) (map (λ (row : Row). row.key) rows)
+pub keys-chosen : (first : ℕ) (rows : List Row)
+    → map (λ (row : Row). row.key) (map (row_from first) rows) ≡ map (key_from first) (map (λ (row : Row). row.key) rows)
 keys-chosen first [] = refl
 keys-chosen first (row ∷ rows) = ap (λ l. key_from first row.key ∷ l) (keys-chosen first rows)

@@ -67,7 +67,7 @@ same-follows job workers i outcome (inr (inr read)) = inr (inr (read.0, λ text 
     on (Ok media) h = early media (no_choice job.media media) h
 
 -- each name that is told has a text
-told-length : (texts : List ℕ → Option (List ℕ)) (names told : List (List ℕ)) → AreTold texts names told → length told ≡ length names
+pub told-length : (texts : List ℕ → Option (List ℕ)) (names told : List (List ℕ)) → AreTold texts names told → length told ≡ length names
 told-length texts [] [] h = refl
 told-length texts [] (t ∷ ts) h = absurd h
 told-length texts (n ∷ ns) [] h = absurd h
@@ -138,7 +138,8 @@ printed-front job sdp captures i o ends (Ok media) answer e is status broke = un
 -- how a run of `check` ends, by its outcome
 by-outcome : (job : CheckJob) (sdp : List ℕ) (captures : List (List ℕ)) (i : Inputs) (o : Output) (ends : Status)
     (outcome : Result Answer Failure) → IsCheckJob job → i.texts job.sdp ≡ Some sdp → AreTold i.texts job.captures captures
-    → All AreBytes captures → FollowsQuery (check_query job) i outcome → HasCause outcome (QueryInputRose (check_query job) i) → Leaves o outcome ends → Headline job sdp captures i o ends
+    → All AreBytes captures → FollowsQuery (check_query job) i outcome → HasCause outcome (QueryInputRose (check_query job) i) → Leaves o outcome ends
+    → Headline job sdp captures i o ends
 by-outcome job sdp captures i o ends (Ok answer) is told are bytes follows cause (inl h) =
     printed-whole job sdp captures i o ends (session sdp) answer refl (to-print job i sdp captures answer is told are bytes follows) h.0 h.1
 by-outcome job sdp captures i o ends (Ok answer) is told are bytes follows cause (inr h) =
@@ -154,7 +155,8 @@ pub headline : (words : List (List ℕ)) (job : CheckJob) (sdp : List ℕ) (capt
 headline words job sdp captures i o e ends asked told are bytes ran =
     let is : IsCheckJob job = request-within words (request.Check job) asked in
     let follows : FollowsQuery (check_query job) i ran.outcome = subst (λ (r : Option Request). Follows r i ran.outcome) asked ran.follows in
-    let cause : HasCause ran.outcome (QueryInputRose (check_query job) i) = subst (λ (r : Option Request). HasCause ran.outcome (InputRose r i)) asked ran.cause in
+    let cause : HasCause ran.outcome (QueryInputRose (check_query job) i) = subst (λ (r : Option Request). HasCause ran.outcome (InputRose r i)) asked
+    ran.cause in
     by-outcome job sdp captures i o ends ran.outcome is told are bytes follows cause ran.printed
 
 -- a run on words that are no request

@@ -10,7 +10,7 @@ use Rattle.timing_report.specs.declared.json_report.reading.ReportProof.{ReportP
 use Rattle.timing_report.specs.declared.status.Input.{Input}
 use Rattle.timing_report.specs.declared.status.Input.TheVariants as input
 use Rattle.timing_report.specs.declared.status.Status.TheVariants as status
-use Rattle.timing_steps.specs.Answers.{Answer, AreThere, AreTold, Gives, HasRisen, Inputs, ReadsSession, silent}
+use Rattle.timing_steps.specs.Answers.{Answer, AreThere, AreTold, HasRisen, Inputs, ReadsSession, silent}
 use Rattle.timing_steps.specs.declared.failure.Failure.{Failure}
 use Rattle.timing_steps.specs.Flows.{no_choice}
 use Rattle.timing_steps.specs.Queries.{OnEarly}
@@ -66,7 +66,8 @@ read-failed i name report Next e Rises told rises caused (inl h) = inr (input.Re
 read-failed i name report Next e Rises told rises caused (inr h) = on_report-failed report Next e Rises caused (h.1 report told)
 
 -- an answer that media may settle
-some-early : (settled : Option Answer) (Next : Answer → Type 0) → (answer : Answer) × Next answer → (answer : Answer) × OnEarly settled (Ok answer) (Next answer)
+some-early : (settled : Option Answer) (Next : Answer → Type 0) → (answer : Answer) × Next answer
+    → (answer : Answer) × OnEarly settled (Ok answer) (Next answer)
 some-early (Some settled) Next h = (settled, (settled, refl, refl))
 some-early None Next h = h
 
@@ -128,7 +129,8 @@ some-reread job i (sdp ∷ []) there told = absurd told.1
 some-reread job i (sdp ∷ report ∷ texts) there told =
     let later = All-tail (λ n. ¬ i.lacks n) job.sdp (job.report ∷ job.captures) there in
     some-yielded (λ answer. ReadsSession i (Ok answer) job.sdp (AnswersSession job i (Ok answer)))
-    (some-described i job.sdp sdp (λ answer media. AnswersSession job i (Ok answer) media) (All-head (λ n. ¬ i.lacks n) job.sdp (job.report ∷ job.captures) there)
+    (some-described i job.sdp sdp (λ answer media. AnswersSession job i (Ok answer) media)
+    (All-head (λ n. ¬ i.lacks n) job.sdp (job.report ∷ job.captures) there)
     told.0
     (λ media e. some-early (no_choice job.media media) (λ answer. ReadsReport i (Ok answer) job.report (AfterReport job i (Ok answer) media))
     (some-read i job.report report (λ answer claims. AfterReport job i (Ok answer) media claims)

@@ -90,7 +90,8 @@ only-line : (frames flaw : ℕ) (a b : List ℕ) → HasLine frames flaw a → H
 only-line frames flaw a b h k =
     let media = same-media h.media k.media (session sdp_text) h.session_is k.session_is in
     let same = only_by (header (capture frames frames flaw)) (2 ^ 40) (capture frames frames flaw) h.items k.items h.note k.note h.records k.records in
-    let row = same-row h.row k.row _ (h.row_is) (ap (λ m. rows_of no_options 0 (m ∷ []) h.items) media ∙ ap (λ l. rows_of no_options 0 (k.media ∷ []) l) same.0 ∙ k.row_is) in
+    let row = same-row h.row k.row _ (h.row_is) (ap (λ m. rows_of no_options 0 (m ∷ []) h.items) media ∙ ap (λ l. rows_of no_options 0 (k.media ∷ []) l)
+    same.0 ∙ k.row_is) in
     h.line_is ∙ ap (λ m. flaw_line flaw m h.note h.row) media
     ∙ ap (λ n. flaw_line flaw k.media n h.row) same.1
     ∙ ap (λ r. flaw_line flaw k.media k.note r) row
@@ -117,7 +118,8 @@ pub record OneFound (text : List ℕ) (media : Media) (notes : List FileNote) (f
   pub found_is : found ≡ row ∷ []
   pub row_is : rows_of no_options 0 (media ∷ []) items ≡ row ∷ []
 
-pub one-found : (text : List ℕ) (media : Media) (notes : List FileNote) (found : List Row) → AreFound (text ∷ []) (rows_of_files no_options 0 (media ∷ [])) notes found
+pub one-found : (text : List ℕ) (media : Media) (notes : List FileNote) (found : List Row)
+    → AreFound (text ∷ []) (rows_of_files no_options 0 (media ∷ [])) notes found
     → OneFound text media notes found
 unfolding one-row
 one-found text media notes found h = by-files h.files notes h.records h.rows_are

@@ -1,5 +1,5 @@
 -- Captures that are taken and judged one by one.
-use Rattle.std.proofs.Common.{◌≡◌, ◌≤◌, ◌<◌, ◌+◌, ℕ, List, [], ◌∷◌, ◌++◌, length, Option, Some, refl, arith, ap, ◌∙◌, sym, subst, append_assoc, append-nil}
+use Rattle.std.proofs.Common.{◌≡◌, ◌≤◌, ◌<◌, ◌+◌, ℕ, List, [], ◌∷◌, ◌++◌, length, Option, Some, arith, ap, ◌∙◌, sym, subst, append_assoc, append-nil}
 use Rattle.std.specs.Prelude.{All, IfOk, Result, Ok, Err}
 use Rattle.std.proofs.lemmas.List.Elements.{All-nil, All-cons, All-append}
 use Rattle.timing_base.specs.Captures.{Record, joined}
@@ -29,7 +29,8 @@ rows-within options file number count (m ∷ ms) items h =
     (rows-within options file (number + 1) count ms items (omega (arith, h)))
 
 -- rows of the media of a session are put to rows of the session
-pub rows-of_session : (options : FlowOptions) (file : ℕ) (media : List Media) (items : List Record) (old new : List Row) → new ≡ old ++ rows_of options file media items
+pub rows-of_session : (options : FlowOptions) (file : ℕ) (media : List Media) (items : List Record) (old new : List Row)
+    → new ≡ old ++ rows_of options file media items
     → AreOfSession media old → AreOfSession media new
 rows-of_session options file media items old new e h =
     subst (AreOfSession media) (sym e)
@@ -67,7 +68,8 @@ pub found-none : (media : List Media) (options : FlowOptions) (notes : List File
 found-none media options notes found no_notes no_rows = record { files = []; records = subst (AreRecords [] []) (sym no_notes) tt; rows_are = no_rows }
 
 -- one capture more was judged
-pub found-more : (texts : List (List ℕ)) (text : List ℕ) (media : List Media) (options : FlowOptions) (old_notes new_notes : List FileNote) (old_rows new_rows : List Row)
+pub found-more : (texts : List (List ℕ)) (text : List ℕ) (media : List Media) (options : FlowOptions) (old_notes new_notes : List FileNote)
+    (old_rows new_rows : List Row)
     → AreFound texts (rows_of_files options 0 media) old_notes old_rows → FindsNext text media options (length old_notes) old_notes new_notes old_rows new_rows
     → AreFound (texts ++ text ∷ []) (rows_of_files options 0 media) new_notes new_rows
 found-more texts text media options old_notes new_notes old_rows new_rows found next = record {
@@ -91,7 +93,8 @@ found-joined texts media options old new taken found t fresh rows_are =
     record { files = t.files; records = t.records; rows_are = rows_are (joined t.files) (t.fed media 0 options [] fresh) }
 
 -- rows that come behind none
-pub rows-alone : (options : FlowOptions) (media : List Media) (items : List Record) (old new : List Row) → old ≡ [] → new ≡ old ++ rows_of options 0 media items → new
+pub rows-alone : (options : FlowOptions) (media : List Media) (items : List Record) (old new : List Row) → old ≡ []
+    → new ≡ old ++ rows_of options 0 media items → new
     ≡ rows_of options 0 media items
 rows-alone options media items old new none e = e ∙ ap (λ l. l ++ rows_of options 0 media items) none
 
@@ -101,6 +104,6 @@ pub found-if_read : (o : Result (Unit {0}) Failure) (left : Option (List ℕ)) (
     → IfOk o (λ _. (text : List ℕ) → left ≡ Some text → FindsNext text media options (length old_notes) old_notes new_notes old_rows new_rows)
     → IfOk o (λ _. (read : List (List ℕ)) (text : List ℕ) → left ≡ Some text → AreFound read (rows_of_files options 0 media) old_notes old_rows
     → AreFound (read ++ text ∷ []) (rows_of_files options 0 media) new_notes new_rows)
-found-if_read (Ok u) left media options old_notes new_notes old_rows new_rows h = λ read text whole found. found-more read text media options old_notes new_notes
-    old_rows new_rows found (h text whole)
+found-if_read (Ok u) left media options old_notes new_notes old_rows new_rows h = λ read text whole found.
+    found-more read text media options old_notes new_notes old_rows new_rows found (h text whole)
 found-if_read (Err e) left media options old_notes new_notes old_rows new_rows h = tt

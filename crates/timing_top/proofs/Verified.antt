@@ -20,7 +20,8 @@ use Rattle.timing_top.proofs.ReadBack.{report-confirmed, report-status, report-t
 prints-json : (job : CheckJob) (media : List Media) (texts : List (List ℕ)) (answer : Answer) → job.json ≡ true → (h : HasReport job media texts answer)
     → answer.text ≡ json_text job media h.notes (rows job media h.files)
 prints-json job media texts answer json h =
-    h.defined.text_is ∙ ap (λ b. if b then json_text job media h.notes (rows job media h.files) else report_text job media h.notes (rows job media h.files)) json
+    h.defined.text_is ∙ ap (λ b. if b then json_text job media h.notes (rows job media h.files) else report_text job media h.notes
+    (rows job media h.files)) json
 
 pub answer-told : (job : CheckJob) (media : List Media) (text : List ℕ → List ℕ) (answer : Answer) → IsReadable job media text → job.json ≡ true
     → length answer.text ≤ 16777216

@@ -1,7 +1,7 @@
 //! `check`: judges the captures on one thread or with workers, and prints their report.
 
 ghost use Rattle.std.specs.Io.KnownBytes.{Keeps};
-ghost use Rattle.std.specs.Prelude.{◌≡◌, ◌+◌, ◌<◌, ◌^◌, ℕ, All, IfErr, IfOk, None, false, map, string_bytes, true};
+ghost use Rattle.std.specs.Prelude.{◌≡◌, ◌+◌, ◌<◌, ◌≤◌, ◌^◌, ℕ, All, IfErr, IfOk, None, false, length, map, string_bytes, true};
 ghost use Rattle.timing_base.specs.Choices.{chosen, first_chosen, row_from};
 ghost use Rattle.timing_base.specs.Targets.{HaveOwnTargets};
 ghost use Rattle.timing_outside.specs.Shelves.{StaysAs};
@@ -19,7 +19,7 @@ use crate::many::judge_many;
 use std::alloc::{AllocError as OutOfMemory, Global};
 use std::sync::Wait;
 use std::thread::Threads;
-use timing_base::{CheckJob, FileName, Row, Session};
+use timing_base::{CheckJob, FileName, Media, Row, Session};
 use timing_outside::{Gate, Shelf, Sink};
 use timing_report::json_report::json_of;
 use timing_report::{Input, Status, status_of, text_of};
@@ -67,6 +67,18 @@ fn report_on(
     })
 }
 
+/// Returns the media of a session that a job judges. They are at most 64, and at least one if the session has the
+/// chosen one.
+fn judged_media<'a>(job: &CheckJob, session: &'a Session) -> &'a [Media]
+    ensures are { result.now ≡ chosen job.now.media session.now }
+    ensures few { length result.now ≤ 64 }
+    ensures some { no_choice job.now.media session.now ≡ None → 1 ≤ length result.now }
+{
+    let count = session.media.len();
+    prove!(count <= 64);
+    chosen_media(session, job.media)
+}
+
 /// Counts the media of these results from this number on.
 fn count_from(rows: &mut [Row], first: u32)
     requires few { All (λ row. first + row.key.media < 2 ^ 32) rows.old }
@@ -85,6 +97,7 @@ fn report_chosen(
     session: &Session,
     mut found: Found,
 ) -> Result<Answer, Failure>
+    requires few { length (chosen job.now.media session.now) ≤ 64 }
     requires rows { AreOfSession (chosen job.now.media session.now) found.rows.items }
     ensures text { IfOk result (λ answer. answer.text ≡ printed job.now session.now found.notes.items
         (map (row_from (first_chosen job.now.media)) found.rows.items)) }
@@ -113,7 +126,7 @@ fn answer_alone<H: Shelf>(
     ensures stays { StaysAs H.text H.lacks H.faults shelf.old shelf.new }
 {
     let sources = fetch_captures(alloc, shelf, job.captures.as_slice())?;
-    let media = chosen_media(session, job.media);
+    let media = judged_media(job, session);
     let alone = Alone {
         alloc,
         media,
@@ -179,7 +192,7 @@ where
     ensures stays { StaysAs H.text H.lacks H.faults shelf.old shelf.new }
 {
     let sources = fetch_captures(alloc, shelf, job.captures.as_slice())?;
-    let media = chosen_media(session, job.media);
+    let media = judged_media(job, session);
     let (joined, options, workers) = (job.joined, job.options, job.workers);
     let found = judge_many(
         rt, alloc, shelf, sources, media, joined, options, workers, gate,

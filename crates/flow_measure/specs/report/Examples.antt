@@ -115,8 +115,8 @@ burst_kind = record (kept (bins_within 4 1 []) (bins_within 8 1 (0 ∷ 36 ∷ 1 
 abbrev pub burst_fail : KindVerdict
 burst_fail = fail Bucket 20 24 5 4
 
--- type N with packets 1,000,000 ns apart: all packets of each frame except the first arrive after their gapped reads. The
--- last comes 760,000 ns later against its read than the first, and the ninth 8,764,000 ns after its frame begins.
+-- type N with packets 1,000,000 ns apart: all packets of each frame except the first arrive after their gapped reads.
+-- The last comes 760,000 ns later against its read than the first, and the ninth 8,764,000 ns after its frame begins.
 abbrev pub linear_kind : ToldKind
 linear_kind = record (kept (ones_to 4) (bins_within 8 1 (38 ∷ 2 ∷ zeros 7)) 1524 8764) {
   groups_broken = 2;

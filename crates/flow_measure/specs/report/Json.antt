@@ -1,8 +1,9 @@
 -- The measurements of the flows of a capture, or of several that were taken as one, as JSON (RFC 8259): one value
 -- without spaces, and a line end. The members of each object stand in the byte order of their keys. Numbers are whole,
 -- of any size, and written in decimal. Media, runs and packet records count from 1, packets from 0. Capture timestamps,
--- `first`, `last`, `target`, `slack` and `gap` are nanoseconds. `step`, `offset` and `latency` are ticks of 90 kHz.
--- The ends of `troff` are microseconds. The other numbers are packets, frames or fields, or counts of them. This project's profile: the whole format.
+-- `first`, `last`, `target`, `slack` and `gap` are nanoseconds. `step`, `offset` and `latency` are ticks of 90 kHz. The
+-- ends of `troff` are microseconds. The other numbers are packets, frames or fields, or counts of them. This project's
+-- profile: the whole format.
 use Rattle.std.specs.Prelude.{ℕ, ◌+◌, ◌<◌, Bool, true, false, List, [], ◌∷◌, ◌++◌, length, Option, Some, None, codes}
 use Rattle.std.specs.Prelude.{All, zero, suc, nat_lt}
 use Rattle.std.specs.Fmt.{decimal, signed_decimal}
@@ -124,25 +125,28 @@ breaks_text k =
     member_if (codes "first_bucket") k.first_bucket ++ (member_if (codes "first_empty") k.first_empty
     ++ (member_if (codes "first_over") k.first_over ++ (codes "\"frames_broken\":" ++ decimal k.groups_broken)))
 
--- the members for the ends of a window; an end that is absent has none
-abbrev pub offset_members : (least greatest : Option ℕ) → List ℕ
-offset_members None None = []
-offset_members None (Some greatest) = codes "\"greatest\":" ++ decimal greatest
-offset_members (Some least) None = codes "\"least\":" ++ decimal least
-offset_members (Some least) (Some greatest) =
-    codes "\"greatest\":" ++ (decimal greatest ++ (codes ",\"least\":" ++ decimal least))
+-- the ends of a window; one that is absent has no member
+abbrev pub ends_text : (least greatest : Option ℕ) → List ℕ
+ends_text None None = codes "{}"
+ends_text None (Some greatest) = codes "{\"greatest\":" ++ (decimal greatest ++ codes "}")
+ends_text (Some least) None = codes "{\"least\":" ++ (decimal least ++ codes "}")
+ends_text (Some least) (Some greatest) =
+    codes "{\"greatest\":" ++ (decimal greatest ++ (codes ",\"least\":" ++ (decimal least ++ codes "}")))
 
 -- the offsets with which the buffer would be kept
 abbrev pub troff_text : ToldOffsets → List ℕ
-troff_text t = codes "{" ++ (offset_members t.least t.greatest ++ codes "}")
+troff_text t = ends_text t.least t.greatest
+
+-- whether a type passes, its violation if it fails, and the offsets with which its buffer would be kept
+abbrev pub result_text : KindVerdict → ToldKind → List ℕ
+result_text outcome k = outcome_text outcome k.named ++ (codes ",\"troff\":" ++ troff_text k.troff)
 
 -- a type; its bucket is never below 0
 unfoldable pub kind_text : Kind → KindVerdict → ToldKind → List ℕ
 kind_text kind outcome k =
     codes "{\"bucket\":" ++ (bins_text k.bucket None ++ (codes ",\"buffer\":"
     ++ (bins_text k.buffer (Some k.buffer.below) ++ (codes "," ++ (breaks_text k ++ (codes ","
-    ++ (outcome_text outcome k.named ++ (codes ",\"troff\":" ++ (troff_text k.troff
-    ++ (codes ",\"type\":\"" ++ (kind_name kind ++ codes "\"}")))))))))))
+    ++ (result_text outcome k ++ (codes ",\"type\":\"" ++ (kind_name kind ++ codes "\"}")))))))))
 
 -- the type at this place of N, NL and W, from 0
 abbrev pub kind_at : ℕ → Kind

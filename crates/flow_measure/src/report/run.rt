@@ -2,14 +2,14 @@
 
 ghost use Rattle.std.specs.Prelude.{◌≡◌, ◌++◌, IfOk, map, option_map, string_bytes};
 ghost use Rattle.timing_report.specs.Outcomes.{verdict_on};
-ghost use Rattle.flow_measure.specs.report.Json.{bins_text, breaks_text, gap_member, kind_at, kind_text, kinds_from, kinds_text, run_end, run_front, run_middle, run_rest, run_text, troff_text};
+ghost use Rattle.flow_measure.specs.report.Json.{bins_text, breaks_text, gap_member, kind_at, kind_text, kinds_from, kinds_text, run_end, run_front, run_middle, result_text, run_rest, run_text, troff_text};
 ghost use Rattle.flow_measure.specs.report.Told.{bins_told, gaps_told, kind_told, numbers_told, offsets_told, run_told};
 
 use crate::report::pieces::{Held, Level, NumberIf, Outcome, Steps, Whole, counts_of, flag_name};
 use crate::{Bins, Gaps, KindNumbers, MeasuredRun, RunNumbers, micros_of};
 use offset_window::Window;
 use std::alloc::{AllocError as OutOfMemory, Global};
-use timing_base::{Judged, Kind, Media};
+use timing_base::{Judged, Kind, KindVerdict, Media};
 use timing_report::json_report::comma_if;
 use timing_report::{kind_name, verdict_on};
 
@@ -80,6 +80,22 @@ fn troff_of(alloc: Global, troff: Window) -> Result<String, OutOfMemory>
     }
 }
 
+/// Returns whether a type passes, its violation if it fails, and the offsets with which its buffer would be kept.
+fn result_of(
+    alloc: Global,
+    verdict: KindVerdict,
+    numbers: &KindNumbers,
+) -> Result<String, OutOfMemory>
+    ensures { IfOk result (λ s. string_bytes s ≡ result_text verdict (kind_told numbers.now)) }
+{
+    let outcome = Outcome {
+        verdict,
+        place: numbers.named,
+    };
+    let troff = troff_of(alloc, numbers.troff)?;
+    format!(in alloc; "{outcome},\"troff\":{troff}")
+}
+
 /// Returns a sender type of a judged run as JSON.
 fn kind_of(
     alloc: Global,
@@ -93,14 +109,10 @@ fn kind_of(
     let bucket = bins_of(alloc, &numbers.bucket, None)?;
     let buffer = bins_of(alloc, &numbers.buffer, Some(numbers.buffer.below))?;
     let breaks = breaks_of(alloc, numbers)?;
-    let outcome = Outcome {
-        verdict: verdict_on(judged, kind),
-        place: numbers.named,
-    };
-    let troff = troff_of(alloc, numbers.troff)?;
+    let ending = result_of(alloc, verdict_on(judged, kind), numbers)?;
     let name = kind_name(kind);
     format!(in alloc;
-        "{{\"bucket\":{bucket},\"buffer\":{buffer},{breaks},{outcome},\"troff\":{troff},\"type\":\"{name}\"}}"
+        "{{\"bucket\":{bucket},\"buffer\":{buffer},{breaks},{ending},\"type\":\"{name}\"}}"
     )
 }
 

@@ -1,7 +1,7 @@
 -- The output and status of `page`, by the contents of its inputs: the report of one capture, or of several that are
--- taken as one (`--joined`), as one page (HTML Standard, with SVG 2 inside), over all media of a session or over one that
--- is chosen (`--media`). The SDP is read first, then the captures. Capture timestamps are nanoseconds of TAI, after the
--- shift (`--tai`, `--delay`); media count from 0, and packet records from 1. This project's profile.
+-- taken as one (`--joined`), as one page (HTML Standard, with SVG 2 inside), over all media of a session or over one
+-- that is chosen (`--media`). The SDP is read first, then the captures. Capture timestamps are nanoseconds of TAI,
+-- after the shift (`--tai`, `--delay`); media count from 0, and packet records from 1. This project's profile.
 use Rattle.std.specs.Prelude.{◌≡◌, ◌&&◌, if◌then◌else◌, not, ℕ, Bool, List}
 use Rattle.std.specs.List.{list_any}
 use Rattle.timing_base.specs.Shifts.{FlowOptions, Shift}

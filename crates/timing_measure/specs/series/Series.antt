@@ -1,6 +1,6 @@
 -- The output and status of `series`, by the contents of its inputs: the rows of the judged runs of the flow of one
--- media as comma-separated values (RFC 4180), in one capture or in several that are taken as one (`--joined`). The SDP is
--- read first, then the captures. This project's profile.
+-- media as comma-separated values (RFC 4180), in one capture or in several that are taken as one (`--joined`). The SDP
+-- is read first, then the captures. This project's profile.
 use Rattle.std.specs.Prelude.{◌≡◌, ◌++◌, ℕ, Bool, List, [], ◌∷◌}
 use Rattle.timing_base.specs.Shifts.{FlowOptions}
 use Rattle.timing_base.specs.Captures.{Record}

@@ -6,13 +6,14 @@ ghost use Rattle.timing_steps.specs.Answers.{CaptureRose, OnReadFault, seen_of};
 ghost use Rattle.timing_steps.specs.Queries.{FollowsCaptures, judged_ends};
 ghost use Rattle.timing_measure.specs.page.Pages.{page_query};
 
+use crate::flows::judged_media;
 use crate::page::answer::paged;
 use crate::page::captures::read_pages;
 use std::alloc::{AllocError as OutOfMemory, Global};
 use timing_base::{CaptureJob, FileName, Session};
 use timing_outside::{Shelf, Sink};
 use timing_report::Input;
-use timing_steps::{Answer, Command, Failure, chosen_media, early_of_choice, first_chosen};
+use timing_steps::{Answer, Command, Failure, early_of_choice, first_chosen};
 
 /// Reads the captures of a job, and returns the answer over all media of a session, or over the chosen one.
 fn answer_page<H: Shelf>(
@@ -28,7 +29,7 @@ fn answer_page<H: Shelf>(
         × CaptureRose (H.faults shelf.old) (H.faults shelf.new) job.now.captures number)) }
     ensures stays { StaysAs H.text H.lacks H.faults shelf.old shelf.new }
 {
-    let media = chosen_media(session, job.media);
+    let media = judged_media(job, session);
     let captures = read_pages(alloc, job, shelf, media, first_chosen(job.media))?;
     Ok(paged(alloc, job, session, &captures)?)
 }

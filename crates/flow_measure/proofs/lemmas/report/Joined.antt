@@ -19,15 +19,15 @@ added_ok (Ok s) old new a b h e = h ∙ ap (λ s. old ++ s) e
 added_ok (Err x) old new a b h e = tt
 
 -- a type
-abbrev pub kind_pieces : (bucket buffer breaks outcome troff name : List ℕ) → List ℕ
-kind_pieces bucket buffer breaks outcome troff name =
-    codes "{\"bucket\":" ++ (bucket ++ (codes ",\"buffer\":" ++ (buffer ++ (codes "," ++ (breaks ++ (codes "," ++ (outcome ++ (codes ",\"troff\":"
-    ++ (troff ++ (codes ",\"type\":\"" ++ (name ++ codes "\"}")))))))))))
+abbrev pub kind_pieces : (bucket buffer breaks outcome name : List ℕ) → List ℕ
+kind_pieces bucket buffer breaks outcome name =
+    codes "{\"bucket\":" ++ (bucket ++ (codes ",\"buffer\":" ++ (buffer ++ (codes "," ++ (breaks ++ (codes "," ++ (outcome ++ (codes ",\"type\":\""
+    ++ (name ++ codes "\"}")))))))))
 
-pub kind-is : (a b c d e f g h s t i k : List ℕ) → a ≡ b → c ≡ d → e ≡ f → g ≡ h → s ≡ t → i ≡ k → kind_pieces a c e g s i ≡ kind_pieces b d f h t k
-kind-is a b c d e f g h s t i k bucket buffer breaks outcome troff name =
-    ap (λ x. kind_pieces x c e g s i) bucket ∙ ap (λ x. kind_pieces b x e g s i) buffer ∙ ap (λ x. kind_pieces b d x g s i) breaks
-    ∙ ap (λ x. kind_pieces b d f x s i) outcome ∙ ap (λ x. kind_pieces b d f h x i) troff ∙ ap (λ x. kind_pieces b d f h t x) name
+pub kind-is : (a b c d e f g h i k : List ℕ) → a ≡ b → c ≡ d → e ≡ f → g ≡ h → i ≡ k → kind_pieces a c e g i ≡ kind_pieces b d f h k
+kind-is a b c d e f g h i k bucket buffer breaks outcome name =
+    ap (λ x. kind_pieces x c e g i) bucket ∙ ap (λ x. kind_pieces b x e g i) buffer ∙ ap (λ x. kind_pieces b d x g i) breaks
+    ∙ ap (λ x. kind_pieces b d f x i) outcome ∙ ap (λ x. kind_pieces b d f h x) name
 
 -- the front of a run
 abbrev pub front_pieces : ToldNumbers → (frames : ℕ) (gap : List ℕ) → List ℕ

@@ -179,7 +179,8 @@ stopped-case frames m options items notes gone made waiting count begun waits (i
     inr (begins-some frames m options items notes gone made count begun (rows-held frames gone made waiting waits some))
 
 -- what `series` has written where it stopped is nothing, or a prefix of the answer's text
-pub stopped-begins : (frames : Bool) (m : Media) (number : ℕ) (options : FlowOptions) (items : List Record) (notes : List FileNote) (o : Output) (old : SeriesFlow)
+pub stopped-begins : (frames : Bool) (m : Media) (number : ℕ) (options : FlowOptions) (items : List Record) (notes : List FileNote) (o : Output) (old :
+    SeriesFlow)
     → IsMedia m → StandsFor frames m number options [] old [] → Stopped o old items
     → (front : List ℕ) × Appended o front × ((front ≡ []) ⊎ IsFrontOf (DefinesSeries frames options m items notes) front)
 stopped-begins frames m number options items notes o old is fresh s =

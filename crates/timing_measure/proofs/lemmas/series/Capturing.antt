@@ -1,5 +1,5 @@
 -- Captures were read while rows were written, and what follows where their texts are told.
-use Rattle.std.proofs.Common.{◌≡◌, ◌⊎◌, ◌^◌, ◌++◌, [], ◌∷◌, ℕ, List, length, take, Option, Some, None, inl, inr, refl, sym, subst, append-nil}
+use Rattle.std.proofs.Common.{◌≡◌, ◌⊎◌, ◌^◌, ◌++◌, [], ◌∷◌, ℕ, List, take, Option, Some, None, inl, inr, refl, sym, subst, append-nil}
 use Rattle.std.specs.Prelude.{map}
 use Rattle.std.specs.Io.KnownBytes.{Appends}
 use Rattle.std.proofs.KnownBytes.{Appends-trans}

@@ -96,6 +96,13 @@ stopped-more o old items more s = record {
   appended = s.appended;
 }
 
+-- it stopped before captures that follow
+stopped-before : (o : Output) (old : SeriesFlow) (first second files : List (List Record)) → files ≡ first ++ second → Stopped o old (joined first)
+    → Stopped o old (joined files)
+stopped-before o old first second files whole s =
+    subst (Stopped o old) (sym (ap joined whole ∙ joined-append 0 first second))
+    (stopped-more o old (joined first) (joined_after (0 + length (joined first)) second) s)
+
 -- one capture more
 texts-next : (x y z : Option (List ℕ)) (i j k : ℕ) (texts : List (List ℕ)) (text : List ℕ) (old mid new : SeriesFlow) (before after : TakenCaptures)
     → TakesTexts (Copies (between x y i j)) texts old mid before → TakesNext (Copies (between y z j k)) text mid new before after
@@ -311,6 +318,5 @@ module _ {S : Type 0} (name : S → List ℕ) (left : S → Option (List ℕ)) (
   sources-stopped before now names read rest o old flow done (Err e) files notes failed g told records =
       let names_parts = told-parts texts g.past g.ahead read (subst (λ l. AreTold texts l read) g.whole told) in
       let parts = records-parts names_parts.first names_parts.second files notes (subst (λ l. AreRecords l files notes) names_parts.whole records) in
-      subst (Stopped o old) (sym (ap joined parts.whole ∙ joined-append 0 parts.first parts.second))
-      (stopped-more o old (joined parts.first) (joined_after (0 + length (joined parts.first)) parts.second)
-      (g.stopped names_parts.first parts.first parts.first_notes names_parts.first_told parts.first_records))
+      stopped-before o old parts.first parts.second files parts.whole
+      (g.stopped names_parts.first parts.first parts.first_notes names_parts.first_told parts.first_records)

@@ -8,7 +8,6 @@ use Rattle.timing_steps.specs.Fetched.{AreFetched}
 use Rattle.timing_steps.specs.Queries.{FollowsCaptures}
 use Rattle.timing_steps.proofs.Readings.{fetched-fresh, fetched-length}
 use Rattle.timing_top.specs.Report.{check_query}
-use Rattle.timing_top.proofs.Choosing.{chosen-few}
 use Rattle.timing_top.proofs.Begun.{follows-failed, follows-report, judged-rose}
 use Rattle.timing_top.proofs.check.answer_alone.Goals as goal
 
@@ -23,8 +22,7 @@ judge-requires g c =
         fresh =
             fetched-fresh (name_of g.H.Source.Source.name) (left_of g.H.Source.Source.left) (faults_of g.H.Source.Source.faults) texts
             c.as_slice.result.now c.in_ok-sources.sources.items c.in_ok-sources.ensures.fetched;
-        few_media =
-            omega (arith, chosen-few c.args.job.now.media c.args.session.now, ap length c.chosen_media-media.ensures, c.session.invariant.few);
+        few_media = c.judged_media-media.ensures.few;
       };
     }
 

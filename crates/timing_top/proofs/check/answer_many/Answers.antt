@@ -9,7 +9,7 @@ use Rattle.timing_steps.specs.Fetched.{AreFetched}
 use Rattle.timing_steps.specs.Queries.{FollowsCaptures}
 use Rattle.timing_steps.proofs.Readings.{fetched-fresh, fetched-length}
 use Rattle.timing_top.specs.Report.{check_query}
-use Rattle.timing_top.proofs.Choosing.{chosen-few, chosen-some, chosen-targets}
+use Rattle.timing_top.proofs.Choosing.{chosen-targets}
 use Rattle.timing_top.proofs.Begun.{follows-failed, follows-report, judged-rose}
 use Rattle.timing_top.proofs.check.answer_many.Goals as goal
 
@@ -23,8 +23,7 @@ judge_many-requires-clause-ready g c κs within =
       fresh =
           fetched-fresh (name_of g.H.Source.Source.name) (left_of g.H.Source.Source.left) (faults_of g.H.Source.Source.faults) texts
           c.as_slice.result.now c.in_ok-sources.sources.items c.in_ok-sources.ensures.fetched;
-      few_media =
-          omega (arith, chosen-few c.args.job.now.media c.args.session.now, ap length c.chosen_media-media.ensures, c.session.invariant.few);
+      few_media = c.judged_media-media.ensures.few;
     }
 
 pub judge_many-requires-clause-some : goal.judge_many-requires-clause-some
@@ -35,12 +34,11 @@ judge_many-requires-clause-some g c κs within =
 
 pub judge_many-requires-clause-some_media : goal.judge_many-requires-clause-some_media
 judge_many-requires-clause-some_media g c κs within =
-    let some = chosen-some c.args.job.now.media c.args.session.now c.requires.unsettled c.session.invariant.some in
-    omega (arith, some, ap length c.chosen_media-media.ensures)
+    c.judged_media-media.ensures.some c.requires.unsettled
 
 pub judge_many-requires-clause-targets : goal.judge_many-requires-clause-targets
 judge_many-requires-clause-targets g c κs within =
-    subst HaveOwnTargets (sym c.chosen_media-media.ensures) (chosen-targets c.args.job.now.media c.args.session.now c.requires.targets)
+    subst HaveOwnTargets (sym c.judged_media-media.ensures.are) (chosen-targets c.args.job.now.media c.args.session.now c.requires.targets)
 
 pub returns-in_err-found-clause-follows : goal.returns-in_err-found-clause-follows
 returns-in_err-found-clause-follows g c =

@@ -102,8 +102,12 @@ asked-at : (options : FlowOptions) (claims : List ReportProof) (file number k : 
 asked-at options claims file number k [] rs m h e = cc
 asked-at options claims file number k (l ∷ ms) [] m h e = absurd h
 asked-at options claims file number zero (l ∷ ms) (r ∷ rs) m h e =
-    let same : l ≡ m = cc in
-    (r, refl, subst (λ (x : Media). IsAskedAll options claims file (number + 0) x r) same (subst (λ (n : ℕ). IsAskedAll options claims file n l r) (omega arith) h.0))
+    let same : l ≡ m = cc in (
+      r,
+      refl,
+      subst (λ (x : Media). IsAskedAll options claims file (number + 0) x r) same
+          (subst (λ (n : ℕ). IsAskedAll options claims file n l r) (omega arith) h.0),
+    )
 asked-at options claims file number (suc k) (l ∷ ms) (r ∷ rs) m h e =
     let there = asked-at options claims file (number + 1) k ms rs m h.1 e in
     (there.0, there.1, subst (λ (n : ℕ). IsAskedAll options claims file n m there.0) (omega arith) there.2)

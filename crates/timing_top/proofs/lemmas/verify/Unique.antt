@@ -150,7 +150,8 @@ some-finding media claim options texts =
     let said = some-said media claim.kind claim.proof claim.run (judged (flow (joined all.0) media) media.pt options) in
     (said.0, record { files = all.0; notes = all.1; records = all.2; says = said.1 })
 
-pub only-finding : (media : Media) (claim : ReportProof) (options : FlowOptions) (texts : List (List ℕ)) (a b : Result Bool Unjudged) → Finds media claim options texts a
+pub only-finding : (media : Media) (claim : ReportProof) (options : FlowOptions) (texts : List (List ℕ)) (a b : Result Bool Unjudged)
+    → Finds media claim options texts a
     → Finds media claim options texts b → a ≡ b
 only-finding media claim options texts a b h k =
     only-said media claim.kind claim.proof claim.run (judged (flow (joined k.files) media) media.pt options) a b

@@ -3,8 +3,8 @@ use Rattle.flow_measure.specs.Kinds.{breaks}
 use Rattle.flow_measure.proofs.Named.{named-is}
 use Rattle.flow_measure.proofs.kind.KindMeter.finish.Goals as goal
 
-pub returns : goal.returns
-returns c = λ n c_max full named packets h is.
+pub returns-clause-numbers : goal.returns-clause-numbers
+returns-clause-numbers c = λ n c_max full named packets h is.
     let s = c.args.self.now in
     record {
       groups_broken = c.count.ensures n (breaks packets) s.bucket.seen h.broken_are;

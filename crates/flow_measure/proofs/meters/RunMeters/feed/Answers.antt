@@ -127,3 +127,16 @@ invariant_of-self-else-pass-clause-models_whole c =
 
 pub invariant_of-self-else-pass-clause-groups_are : goal.invariant_of-self-else-pass-clause-groups_are
 invariant_of-self-else-pass-clause-groups_are c = c.begin.new.self.groups_are ∙ sym (c.pass.ensures.within c.if-pass.false).2
+
+pub invariant_of-self-else-pass-clause-settled : goal.invariant_of-self-else-pass-clause-settled
+invariant_of-self-else-pass-clause-settled c = λ none. absurd (omega (arith, none, (c.pass.ensures.within c.if-pass.false).1))
+
+pub invariant_of-self-clause-models_whole : goal.invariant_of-self-clause-models_whole
+invariant_of-self-clause-models_whole c =
+    let over = c.pass.ensures.over c.if-pass.true in
+    omega (arith, c.end_group.ensures.whole, c.feed.ensures.whole, c.begin.new.self.models_whole, over.2)
+
+pub invariant_of-self-clause-groups_are : goal.invariant_of-self-clause-groups_are
+invariant_of-self-clause-groups_are c =
+    let over = c.pass.ensures.over c.if-pass.true in
+    omega (arith, c.feed-then-pass.ensures.seen, c.begin.new.self.groups_are, over.2)

@@ -12,7 +12,8 @@ use Rattle.timing_measure.proofs.flows.take.begin_flows.Goals as goal
 
 pub loop-number-init : goal.loop-number-init
 loop-number-init g c = record {
-  stands = subst (λ (l : List (MediaFlow (FlowMeter _ _))). AreMetered g.M.RunMeter.WANTS_LEVELS g.M.RunMeter.stands g.M.RunMeter.tells c.args.options c.args.first [] [] l)
+  stands = subst (λ (l : List (MediaFlow (FlowMeter _ _))). AreMetered g.M.RunMeter.WANTS_LEVELS g.M.RunMeter.stands g.M.RunMeter.tells c.args.options
+      c.args.first [] [] l)
       (sym c.new-flows.ensures.items) tt;
   room = All-same (λ f. HasRoom (2 ^ 41) f.taker) c.new-flows.result.items [] c.new-flows.ensures.items (All-nil (λ f. HasRoom (2 ^ 41) f.taker));
   awaits = All-same (AwaitsExpected expected_next) c.new-flows.result.items [] c.new-flows.ensures.items (All-nil (AwaitsExpected expected_next));
@@ -20,7 +21,8 @@ loop-number-init g c = record {
 
 pub loop-number-preserved : goal.loop-number-preserved
 loop-number-preserved g c = record {
-  stands = each-more (IsFlowOf g.M.RunMeter.WANTS_LEVELS g.M.RunMeter.stands g.M.RunMeter.tells c.args.options []) c.args.first c.loop-number.number c.args.media.now
+  stands = each-more (IsFlowOf g.M.RunMeter.WANTS_LEVELS g.M.RunMeter.stands g.M.RunMeter.tells c.args.options []) c.args.first c.loop-number.number
+      c.args.media.now
       c.loop-number.flows.items c.push.new.self.items c.index-media-number.result c.new.result (search rules)
       (sym c.index-media-number.is) c.loop-number.invariant.stands
       (new-flow g.M.RunMeter.WANTS_LEVELS g.M.RunMeter.stands g.M.RunMeter.tells c.args.options (c.args.first + c.loop-number.number)
@@ -36,5 +38,6 @@ loop-number-preserved g c = record {
 
 pub returns-clause-stands : goal.returns-clause-stands
 returns-clause-stands g c =
-    subst (λ (l : List Media). AreMetered g.M.RunMeter.WANTS_LEVELS g.M.RunMeter.stands g.M.RunMeter.tells c.args.options c.args.first l [] c.loop-number.flows.items)
+    subst (λ (l : List Media). AreMetered g.M.RunMeter.WANTS_LEVELS g.M.RunMeter.stands g.M.RunMeter.tells c.args.options c.args.first l []
+    c.loop-number.flows.items)
     (take_all c.loop-number.number c.args.media.now c.loop-number-test.false) c.loop-number.invariant.stands

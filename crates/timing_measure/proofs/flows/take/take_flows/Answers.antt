@@ -26,11 +26,13 @@ returns-clause-told g c = λ texts whole.
     let options = c.job.inside.options in
     let same : options ≡ c.args.job.now.options = ap (λ (job : CaptureJob). job.options) c.job.view_is in
     let taken : TakenFlows _ _ _ = record { notes = c.in_ok-taken.taken.notes; flows = c.into_flows.result; beside = c.in_ok-taken.both.second } in
-    subst (λ (x : FlowOptions). AreTakenIn meter.WANTS_LEVELS meter.stands meter.tells g.B.Taker.takes x c.args.first c.args.media.now texts c.args.beside taken)
+    subst (λ (x : FlowOptions). AreTakenIn meter.WANTS_LEVELS meter.stands meter.tells g.B.Taker.takes x c.args.first c.args.media.now texts c.args.beside
+    taken)
     same
     (taken-in meter.WANTS_LEVELS meter.stands meter.tells g.B.Taker.takes options c.args.first c.args.media.now texts
     (record { first = c.in_ok-new.field-0; second = c.args.beside }) c.in_ok-taken.both c.in_ok-taken.taken taken
-    (subst (AreMetered meter.WANTS_LEVELS meter.stands meter.tells options c.args.first c.args.media.now []) (sym c.in_ok-new.ensures.flows) c.in_ok-flows.ensures.stands)
+    (subst (AreMetered meter.WANTS_LEVELS meter.stands meter.tells options c.args.first c.args.media.now []) (sym c.in_ok-new.ensures.flows)
+    c.in_ok-flows.ensures.stands)
     (c.in_ok-taken.ensures.told texts whole) refl c.into_flows.ensures refl)
 
 pub returns-clause-some : goal.returns-clause-some
@@ -42,5 +44,6 @@ returns-clause-some g c =
     subst (λ (x : FlowOptions). AreTakenOf meter.WANTS_LEVELS meter.stands meter.tells x c.args.first c.args.media.now taken) same
     (taken-of meter.WANTS_LEVELS meter.stands meter.tells g.B.Taker.takes options (2 ^ 40) c.args.first c.args.media.now
     (record { first = c.in_ok-new.field-0; second = c.args.beside }) c.in_ok-taken.both taken
-    (subst (AreMetered meter.WANTS_LEVELS meter.stands meter.tells options c.args.first c.args.media.now []) (sym c.in_ok-new.ensures.flows) c.in_ok-flows.ensures.stands)
+    (subst (AreMetered meter.WANTS_LEVELS meter.stands meter.tells options c.args.first c.args.media.now []) (sym c.in_ok-new.ensures.flows)
+    c.in_ok-flows.ensures.stands)
     c.in_ok-taken.ensures.fed c.into_flows.ensures)

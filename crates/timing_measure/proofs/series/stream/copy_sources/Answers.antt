@@ -1,4 +1,4 @@
-use Rattle.std.proofs.Common.{◌≡◌, ◌≤◌, ◌+◌, ◌-◌, ◌*◌, ◌^◌, [], ℕ, List, ap, arith, length, refl, rules, subst, sym}
+use Rattle.std.proofs.Common.{◌≡◌, ◌+◌, [], ℕ, List, ap, arith, length, refl, rules, subst}
 use Rattle.std.specs.Prelude.{IfErr, IfOk}
 use Rattle.pcapng_reader.specs.Classic.{classic_texts}
 use Rattle.pcapng_reader.specs.Sources.{faults_of, left_of, name_of}
@@ -6,7 +6,6 @@ use Rattle.timing_steps.specs.Ran.{Appended, output_of}
 use Rattle.timing_steps.proofs.Readings.{fresh-tail, if_ok-at, none-left}
 use Rattle.timing_steps.proofs.Seeing.{stays-then}
 use Rattle.timing_measure.specs.series.Copies.{CopiesSome}
-use Rattle.timing_measure.specs.series.Stands.{HasRoom}
 use Rattle.timing_measure.proofs.lemmas.series.Copying.{any-err, copies-none}
 use Rattle.timing_measure.proofs.lemmas.series.Going.{front-then, if_ok-some, sources-next, sources-past, sources-start, sources-stopped, sources-whole}
 use Rattle.timing_measure.proofs.series.stream.copy_sources.Goals as goal

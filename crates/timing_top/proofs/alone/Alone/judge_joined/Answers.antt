@@ -7,7 +7,8 @@ returns-clause-judged g c = record {
   told = λ names texts fetched told.
       found-joined texts c.args.self.now.media.now c.args.self.now.options c.in-Ok.bank c.take_sources.new.taker c.in_ok-taken.taken c.finish.new.rows.items
       (c.in_ok-taken.ensures.told names texts fetched told) c.in-Ok.ensures.stands
-      (λ items stands. rows-alone c.args.self.now.options c.args.self.now.media.now items c.new-rows.result.items c.finish.new.rows.items c.new-rows.ensures.items
+      (λ items stands. rows-alone c.args.self.now.options c.args.self.now.media.now items c.new-rows.result.items c.finish.new.rows.items
+      c.new-rows.ensures.items
       (c.in_ok-finish.ensures.rows c.args.self.now.media.now 0 c.args.self.now.options items stands));
   count = c.in_ok-taken.ensures.count;
   of_session =

@@ -11,5 +11,6 @@ returns-in-Ok-clause-follows g c =
     (seen_of g.H.Shelf c.args.shelf.now c.answer_session.new.shelf)
     (seen_of g.H.Shelf c.fetch_session.new.shelf c.answer_session.new.shelf)
     c.args.job.now c.answer_session.result c.as_str.result.now c.in-Ok.session
-    (sees-rest g.H.Shelf.text g.H.Shelf.lacks g.H.Shelf.faults c.args.shelf.now c.fetch_session.new.shelf c.answer_session.new.shelf c.fetch_session.ensures.stays)
+    (sees-rest g.H.Shelf.text g.H.Shelf.lacks g.H.Shelf.faults c.args.shelf.now c.fetch_session.new.shelf c.answer_session.new.shelf
+    c.fetch_session.ensures.stays)
     named c.in_ok-session.ensures.there (λ text t. c.in_ok-session.ensures.told text t ∙ c.in-Ok.is) c.answer_session.ensures.follows
