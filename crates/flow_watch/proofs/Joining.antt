@@ -81,17 +81,17 @@ range-joined m n stamps gapped from mid to x y z first second within few h k bot
     in
     let least =
     IsLeast-joined h.occupancy (IsBetween from mid) (IsBetween mid to) (IsBetween from to) x.least y.least h.least_is
-        (IsLeast-same k.occupancy h.occupancy (IsBetween mid to) y.least same k.least_is)
-        (λ i of. first-part from mid to i second of)
-        (λ i of. last-part from mid to i first of)
-        (λ i of. split from mid to i of)
+    (IsLeast-same k.occupancy h.occupancy (IsBetween mid to) y.least same k.least_is)
+    (λ i of. first-part from mid to i second of)
+    (λ i of. last-part from mid to i first of)
+    (λ i of. split from mid to i of)
     in
     let greatest =
     IsGreatest-joined h.occupancy (IsBetween from mid) (IsBetween mid to) (IsBetween from to) x.greatest y.greatest h.greatest_is
-        (IsGreatest-same k.occupancy h.occupancy (IsBetween mid to) y.greatest same k.greatest_is)
-        (λ i of. first-part from mid to i second of)
-        (λ i of. last-part from mid to i first of)
-        (λ i of. split from mid to i of)
+    (IsGreatest-same k.occupancy h.occupancy (IsBetween mid to) y.greatest same k.greatest_is)
+    (λ i of. first-part from mid to i second of)
+    (λ i of. last-part from mid to i first of)
+    (λ i of. split from mid to i of)
     in
     let all = late-joined late from mid to first second in
     let front = count-most (λ j. late (from + j)) (mid - from) in
@@ -111,9 +111,9 @@ peaks-joined m n stamps from mid to x y z first second within few h k both =
     let most : int_max (pos x.bucket) (pos y.bucket) ≡ pos z.bucket = omega (arith, ints, clamps, both.bucket_is) in
     let greatest =
     IsGreatest-joined buckets (IsBetween from mid) (IsBetween mid to) (IsBetween from to) (pos x.bucket) (pos y.bucket) h.bucket_is k.bucket_is
-        (λ i of. first-part from mid to i second of)
-        (λ i of. last-part from mid to i first of)
-        (λ i of. split from mid to i of)
+    (λ i of. first-part from mid to i second of)
+    (λ i of. last-part from mid to i first of)
+    (λ i of. split from mid to i of)
     in
     record {
       bucket_is = subst (IsGreatest buckets (IsBetween from to)) most greatest;

@@ -1,5 +1,6 @@
 pub mod Adding
 pub mod Existing
+pub mod Feeding
 pub mod Joining
 pub mod Keeping
 pub mod Unique
