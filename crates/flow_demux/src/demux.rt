@@ -230,7 +230,7 @@ impl<F: FlowWriter> Demux<F> {
         ensures moves { IfOk result (λ _. MovesAll F.moves (flows_of self.old) (flows_of self.new)) }
     {
         for flow in self.flows.iter_mut() {
-            flow.taker.move_text(to)?;
+            flow.move_text(to)?;
         }
         Ok(())
     }
