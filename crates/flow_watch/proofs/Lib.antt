@@ -1,6 +1,7 @@
 pub mod Adding
 pub mod Existing
 pub mod Feeding
+pub mod Growing
 pub mod Joining
 pub mod Keeping
 pub mod Unique
