@@ -1,18 +1,13 @@
 -- The packet records of captures have an answer of `watch`.
-use Rattle.std.specs.Prelude.{All, IfSome, slice_index, slice_range}
+use Rattle.std.specs.Prelude.{All, IfSome}
 use Rattle.std.specs.Option.{unwrap_or}
-use Rattle.std.proofs.Common.{◌≡◌, ◌<◌, ◌≤◌, ◌-◌, ◌+◌, ◌*◌, ◌++◌, ◌∷◌, ℕ, zero, suc, Bool, true, false, List, [], length, drop, take, Option, Some, None}
-use Rattle.std.proofs.Common.{◌∙◌, ap, ap₂, sym, subst, refl, arith, length-append}
-use Rattle.std.proofs.Math.Nat.{mul-le-mul_right, mul_comm}
-use Rattle.std.proofs.lemmas.List.{length-drop, length-take-le}
+use Rattle.std.proofs.Common.{◌≡◌, ◌<◌, ◌≤◌, ◌-◌, ◌+◌, ◌++◌, ◌∷◌, ℕ, Bool, true, false, List, [], length, drop, Option, Some, None}
+use Rattle.std.proofs.Common.{refl, arith, length-append}
 use Rattle.std.proofs.lemmas.List.Elements.{All-drop, All-head, All-tail, All-take}
-use Rattle.std.proofs.lemmas.Nat.{le-div}
 use Rattle.timing_base.specs.Captures.{Record, joined}
 use Rattle.timing_base.specs.Choices.{chosen, first_chosen}
-use Rattle.timing_base.specs.Flows.{FirstFault, cuts, earlier_or, fault, first_fault, first_fault_below, is_cut, last_place, markers, packet, run_start}
-use Rattle.timing_base.specs.Grouped.{IsSized}
+use Rattle.timing_base.specs.Flows.{FirstFault, fault, first_fault, first_fault_below, is_cut, packet, run_start}
 use Rattle.timing_base.specs.Jobs.{IsEvery, IsWatchJob, WatchJob}
-use Rattle.timing_base.specs.Judged.{run_outcome}
 use Rattle.timing_base.specs.Media.{IsMedia, Media}
 use Rattle.timing_base.specs.Numbered.{numbered}
 use Rattle.timing_base.specs.Shifts.{FlowOptions, Shift}
@@ -23,10 +18,7 @@ use Rattle.timing_base.proofs.Numberings.{length-numbered}
 use Rattle.udp_rtp.specs.Flow.{flow, flow_packet}
 use Rattle.run_meter.specs.Runs.{OpenPart}
 use Rattle.fail_interval.specs.Current.{unjudged_by}
-use Rattle.fail_interval.specs.Parts.{judged_packets, open_before, open_by, run_by}
-use Rattle.fail_interval.specs.SoFar.{outcome_of, so_far_by}
-use Rattle.fail_interval.proofs.PartsTold.{sized-below}
-use Rattle.fail_interval.proofs.Runs.{outcome-so_far}
+use Rattle.fail_interval.specs.Parts.{open_before}
 use Rattle.flow_watch.specs.Lines.{gap_line, refused_line}
 use Rattle.flow_watch.specs.Watched.{groups_in, open_part, per_second}
 use Rattle.flow_watch.proofs.Existing.{some-left-line, some-line, some-per_second}
@@ -39,73 +31,9 @@ use Rattle.timing_watch.specs.Watched.{Adds, AddsAfter, AddsNext, AddsSound, Add
 use Rattle.timing_watch.specs.Watched.{Watching, completes, gap_at, waiting_text}
 use Rattle.timing_watch.specs.Watches.{AddsIf, AddsRecord, AreLeft, AreLinesAfter, DefinesWatch, end_text, every_of, rows_of_job, watch_query}
 use Rattle.timing_watch.specs.Watches.{watching_of}
-
--- ---- a judged run has a complete frame or field
-
--- the judged packets of a run with these markers
-abbrev judged_by : List FlowPacket → List ℕ → List FlowPacket
-judged_by packets marks = slice_range packets (slice_index marks 0 + 1) (last_place marks + 1)
-
--- the open part of a run with these markers
-abbrev open_marked : (number : ℕ) → FlowPacket → List FlowPacket → (shift : Shift) (from to : ℕ) → List ℕ → Option OpenPart
-open_marked number first packets shift from to marks = open_by number first (judged_by packets marks) (outcome_of (so_far_by packets shift from to marks))
-
-open-marks : (number : ℕ) (first : FlowPacket) (packets : List FlowPacket) (shift : Shift) (from to : ℕ) → to ≤ length packets
-    → open_by number first (judged_packets packets from to) (run_outcome packets shift from to)
-    ≡ open_marked number first packets shift from to (markers packets from to)
-open-marks number first packets shift from to within =
-    ap (open_by number first (judged_packets packets from to)) (outcome-so_far packets shift from to within)
-
-not-both : (o : Option OpenPart) (part : OpenPart) → o ≡ None → o ≡ Some part → ⊥
-not-both o part h k = cc
-
-same-part : (x y : OpenPart) (o : Option OpenPart) → o ≡ Some x → o ≡ Some y → x ≡ y
-same-part x y o h k = cc
-
--- the packets between the first marker and the last one
-judged-count : (packets : List FlowPacket) (a last : ℕ) → a ≤ last → last < length packets → length (slice_range packets (a + 1) (last + 1)) ≡ last - a
-judged-count packets a last order within =
-    let count : (last + 1) - (a + 1) ≡ last - a = omega (arith, order) in
-    let rest = length-drop (a + 1) packets in
-    length-take-le ((last + 1) - (a + 1)) (drop (a + 1) packets) (omega (arith, rest, within, order)) ∙ count
-
-some-marked : (number : ℕ) (first : FlowPacket) (packets : List FlowPacket) (shift : Shift) (from to : ℕ) (marks : List ℕ) (part : OpenPart)
-    → to ≤ length packets → IsSized to marks → open_marked number first packets shift from to marks ≡ Some part → 0 < groups_in (open_part part)
-some-marked number first packets shift from to [] part within sized is = absurd (not-both None part refl is)
-some-marked number first packets shift from to (a ∷ []) part within sized is = absurd (not-both None part refl is)
-some-marked number first packets shift from to (a ∷ b ∷ rest) part within sized is =
-    let marks = a ∷ b ∷ rest in
-    let n = b - a in
-    let groups = length marks - 1 in
-    let two : 2 ≤ length marks = omega arith in
-    let some : a < b = sized.some two in
-    let whole : last_place marks ≡ a + n * groups = sized.whole two in
-    let later : last_place marks < to = sized.later two in
-    let most : 1 * n ≤ groups * n = mul-le-mul_right n (omega arith) in
-    let turned : n * groups ≡ groups * n = mul_comm n groups in
-    let count = judged-count packets a (last_place marks) (omega (arith, whole)) (omega (arith, later, within)) in
-    let made : OpenPart = record { run = run_by number first n; packets = judged_by packets marks } in
-    let one : 0 < groups_in (open_part made) =
-    le-div 1 (length (judged_by packets marks)) n (omega (arith, some)) (omega (arith, count, whole, most, turned)) in
-    subst (λ (p : OpenPart). 0 < groups_in (open_part p)) (same-part made part (Some made) refl is) one
-
-some-whole : (packets : List FlowPacket) (pt : ℕ) (shift : Shift) (to : ℕ) (part : OpenPart) → first_fault_below packets pt to ≡ None
-    → to ≤ length packets → open_before packets shift to ≡ Some part → 0 < groups_in (open_part part)
-some-whole packets pt shift to part none within is =
-    let places = cuts packets to in
-    let from = last_place (0 ∷ places) in
-    let number = length places + 1 in
-    let first = packet packets from in
-    some-marked number first packets shift from to (markers packets from to) part within (sized-below packets pt to to none (omega arith))
-    (sym (open-marks number first packets shift from to within) ∙ is)
+use Rattle.timing_watch.proofs.Runs.{sound-next, whole-part}
 
 -- ---- each packet adds something, be it nothing
-
-sound-next : (packets : List FlowPacket) (pt i : ℕ) → first_fault_below packets pt i ≡ None → fault packets pt i ≡ None
-    → first_fault_below packets pt (i + 1) ≡ None
-sound-next packets pt i before here =
-    let next : first_fault_below packets pt (suc i) ≡ None = ap₂ (λ x y. earlier_or x i y) before here in
-    rw add-one next
 
 module _ (w : Watching) (m : Media) (shift : Shift) (packets : List FlowPacket) (is : IsMedia m) (some : 1 ≤ w.every) where
   some-left-of : (part : Option OpenPart) → (text : List ℕ) × IsLeftOf w m shift part text
@@ -132,7 +60,7 @@ module _ (w : Watching) (m : Media) (shift : Shift) (packets : List FlowPacket) 
       → (text : List ℕ) × AddsSound w m shift packets i cut text
   some-sound i true none few = some-ends i (gap_line w.form (gap_at packets i))
   some-sound i false none few =
-      some-within i (open_before packets shift (i + 1)) (λ part e. some-whole packets m.pt shift (i + 1) part none few e)
+      some-within i (open_before packets shift (i + 1)) (λ part e. (whole-part packets m.pt shift (i + 1) part none few e).whole)
 
   some-next : (i : ℕ) (o : Option PacketFault) → first_fault_below packets m.pt i ≡ None → fault packets m.pt i ≡ o → i < length packets
       → (text : List ℕ) × AddsNext w m shift packets i o text
