@@ -1,4 +1,5 @@
 mod Lines
 mod Runs
 pub mod Some
+mod Taking
 pub mod Unique
