@@ -1,4 +1,5 @@
 mod Lines
+mod Printing
 mod Runs
 pub mod Some
 mod Taking
