@@ -58,10 +58,10 @@ breaks-at m n stamps kind i bucket held is some few same h =
     ∙ ap (λ e. (nat_lt (c_max_of m n kind) bucket || int_lt (pos full) held.occupancy) || e) (sym h.late)
 
 -- the counter of a type took one packet more
-pub counts-more : (m : Media) (n : ℕ) (stamps : List ℕ) (at : ℕ) (kind : Kind) (bucket : ℕ) (held : Held) (old new : TypeMeter) → IsMedia m → 1 ≤ n
+pub counts-more : (m : Media) (n : ℕ) (stamps : List ℕ) (at : ℕ) (kind : Kind) (groups bucket : ℕ) (held : Held) (old new : TypeMeter) → IsMedia m → 1 ≤ n
     → bucket ≡ bucket_of m n (stamps ++ at ∷ []) (length stamps) → IsHeld m n (stamps ++ at ∷ []) (gapped_of kind) (length stamps) held
-    → TakesPacket bucket held old new → CountsType m n stamps kind old → CountsType m n (stamps ++ at ∷ []) kind new
-counts-more m n stamps at kind bucket held old new is some same holds takes h =
+    → TakesPacket bucket held old new → CountsType m n stamps kind groups old → CountsType m n (stamps ++ at ∷ []) kind groups new
+counts-more m n stamps at kind groups bucket held old new is some same holds takes h =
     let all = stamps ++ at ∷ [] in
     let long : length all ≡ length stamps + 1 = length-append stamps (at ∷ []) in
     let before : CountsBroken n old.groups (is_broken m n all kind) (length stamps) =
@@ -73,17 +73,19 @@ counts-more m n stamps at kind bucket held old new is some same holds takes h =
     record {
       c_max_is = takes.limits.c_max_is ∙ h.c_max_is;
       vrx_full_is = takes.limits.vrx_full_is ∙ h.vrx_full_is;
+      whole_is = takes.whole ∙ h.whole_is;
       counts = subst (CountsBroken n new.groups (is_broken m n all kind)) (sym long)
           (takes.stands n (is_broken m n all kind) (length stamps) before broken);
     }
 
 -- it ended a frame or field
-pub counts-over : (m : Media) (n : ℕ) (stamps : List ℕ) (kind : Kind) (old new : TypeMeter) → length stamps ≡ old.groups.whole * n + n
-    → EndsType old new → CountsType m n stamps kind old → CountsType m n stamps kind new
-counts-over m n stamps kind old new whole ends h = record {
+pub counts-over : (m : Media) (n : ℕ) (stamps : List ℕ) (kind : Kind) (groups : ℕ) (old new : TypeMeter) → length stamps ≡ groups * n + n
+    → EndsType old new → CountsType m n stamps kind groups old → CountsType m n stamps kind (groups + 1) new
+counts-over m n stamps kind groups old new whole ends h = record {
   c_max_is = ends.limits.c_max_is ∙ h.c_max_is;
   vrx_full_is = ends.limits.vrx_full_is ∙ h.vrx_full_is;
-  counts = ends.stands n (is_broken m n stamps kind) (length stamps) h.counts whole;
+  whole_is = ends.whole ∙ ap (λ k. k + 1) h.whole_is;
+  counts = ends.stands n (is_broken m n stamps kind) (length stamps) h.counts (whole ∙ ap (λ k. k * n + n) (sym h.whole_is));
 }
 
 -- ---- the peaks
@@ -103,7 +105,7 @@ range-one m n stamps gapped i held is some few h =
     let count : count_of late ((i + 1) - i) ≡ count_of late (0 + 1) = ap (count_of late) one in
     let first = count_of-more late 0 in
     let passes : held.late ≡ late 0 = h.late ∙ ap (is_late m n stamps gapped) (sym start) in
-    let same : cond held.late 1 0 ≡ cond (late 0) 1 0 = ap (λ b. cond b 1 0) passes in
+    let same = ap (λ (b : Bool). cond {A = ℕ} b 1 0) passes in
     record {
       occupancy = at.0;
       are = at.1;

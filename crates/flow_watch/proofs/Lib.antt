@@ -4,4 +4,5 @@ pub mod Feeding
 pub mod Growing
 pub mod Joining
 pub mod Keeping
+mod Passing
 pub mod Unique

@@ -1,6 +1,6 @@
 //! How the lines of a flow are written.
 
-ghost use Rattle.std.specs.Prelude.{◌≡◌, ◌++◌, IfOk, string_bytes};
+ghost use Rattle.std.specs.Prelude.{◌≡◌, ◌+◌, ◌++◌, IfOk, string_bytes};
 ghost use Rattle.flow_watch.specs.Lines.{gap_line, refused_line, stretch_line, waiting_line};
 
 use crate::json::{self, GapObject, StretchObject, WaitingObject};
@@ -41,6 +41,13 @@ pub struct Waiting {
 }
 
 impl LineForm {
+    /// Returns the number of the media, counted from 1.
+    pub(crate) fn number(&self) -> u64
+        ensures { result ≡ self.now.media + 1 }
+    {
+        u64::from(self.media) + 1
+    }
+
     /// Adds the line of a stretch. Returns `Err` if memory runs out.
     pub fn add_stretch(&self, text: &mut String, stretch: &Stretch) -> Result<(), OutOfMemory>
         ensures { IfOk result (λ _. string_bytes text.new

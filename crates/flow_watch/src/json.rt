@@ -159,7 +159,7 @@ impl fmt::Display for StretchObject {
         write!(
             f,
             "{front}{buffer},\"media\":{},\"run\":{},\"stamp\":{},\"to\":{}}}",
-            u64::from(self.form.media) + 1,
+            self.form.number(),
             self.stretch.run,
             self.stretch.stamp,
             self.stretch.to
@@ -185,7 +185,7 @@ impl fmt::Display for GapObject {
         write!(
             f,
             "{{\"event\":\"gap\",\"expected\":{expected},\"got\":{got},\"media\":{},\"record\":{rec}}}",
-            u64::from(self.form.media) + 1
+            self.form.number()
         )
     }
 }
@@ -208,7 +208,7 @@ impl fmt::Display for WaitingObject {
         write!(
             f,
             "{{\"event\":\"waiting\",\"media\":{},\"packets\":{packets},\"record\":{rec}}}",
-            u64::from(self.form.media) + 1
+            self.form.number()
         )
     }
 }

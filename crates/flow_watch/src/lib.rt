@@ -18,7 +18,7 @@ mod stretch;
 mod text;
 
 pub use form::{Gap, LineForm, Waiting};
-pub use lines::{WatchLines, groups_per_second};
+pub use lines::WatchLines;
 pub use meter::WatchMeter;
 pub use peaks::{BufferRange, Peaks};
-pub use stretch::{PerType, Stretch};
+pub use stretch::{PerType, Stretch, groups_per_second};

@@ -1,22 +1,10 @@
 //! The lines of a flow's stretches.
 
 ghost use Rattle.std.specs.Prelude.{◌≡◌, ◌<◌, ◌≤◌, ◌++◌, [], IfOk, None, string_bytes};
-ghost use Rattle.flow_watch.specs.Watched.{per_second};
-ghost use Rattle.flow_watch.specs.making.Lines.{Adds, EndsOpen};
 
 use crate::form::LineForm;
 use crate::stretch::Stretch;
-use sender_params::groups_per_frame;
 use std::alloc::{AllocError as OutOfMemory, Global};
-use timing_base::Media;
-
-/// Returns the number of frames or fields of a video in one second, rounded up.
-pub fn groups_per_second(media: &Media) -> u32
-    ensures value { result ≡ per_second media.now }
-    ensures some { 1 ≤ result }
-{
-    (groups_per_frame(media) * media.p).div_ceil(media.q)
-}
 
 /// The lines of the stretches of a flow's judged runs. The caller may remove lines from the front of the text between
 /// calls.
@@ -34,13 +22,15 @@ pub struct WatchLines {
 }
 
 impl WatchLines {
+    ghost use Rattle.flow_watch.specs.making.Lines.{Adds, AddsEach, EndsOpen};
+
     /// Returns the lines before the first run: none. A stretch has `every` frames or fields.
     pub fn new(alloc: Global, form: LineForm, every: u32) -> WatchLines
         requires { 1 ≤ every }
         ensures text { string_bytes result.text ≡ [] }
         ensures form { result.form ≡ form }
         ensures every { result.every ≡ every }
-        ensures open { result.open ≡ None }
+        ensures none { result.open ≡ None }
     {
         WatchLines {
             text: String::new(alloc),
@@ -56,7 +46,7 @@ impl WatchLines {
         ensures { IfOk result (λ _. Adds group self.old self.new) }
     {
         let stretch = match self.open {
-            Some(open) => open.joined(group),
+            Some(so_far) => so_far.joined(group),
             None => group,
         };
         if stretch.groups() < u64::from(self.every) {
@@ -65,6 +55,16 @@ impl WatchLines {
         }
         self.open = None;
         self.form.add_stretch(&mut self.text, &stretch)
+    }
+
+    /// Adds these frames or fields of a run in turn, each a stretch of its own. Returns `Err` if memory runs out.
+    pub(crate) fn add_each(&mut self, groups: &[Stretch]) -> Result<(), OutOfMemory>
+        ensures { IfOk result (λ _. AddsEach groups.now self.old self.new) }
+    {
+        for group in groups {
+            self.add(*group)?;
+        }
+        Ok(())
     }
 
     /// Adds the line of what is left of a stretch, if anything is: its run ends here, or the flow has a fault. Returns

@@ -1,7 +1,6 @@
 //! The stretches of a judged run, told while the run is judged.
 
 ghost use Rattle.std.specs.Prelude.{◌≡◌, ◌<◌, ◌≤◌, ◌+◌, ◌^◌, ◌++◌, ◌∷◌, [], IfOk, true};
-ghost use Rattle.flow_watch.specs.making.Takes.{EndsGroup, TakesLevel};
 
 use crate::broken::TypeMeter;
 use crate::lines::WatchLines;
@@ -50,12 +49,14 @@ pub struct WatchMeter {
     /// The frames or fields that are complete and not committed yet, each as a stretch of its own. There is room for
     /// one from the start.
     kept: Vec<Stretch>,
-    ghost narrow_is: { narrow.groups.whole ≡ walk.group },
-    ghost narrow_linear_is: { narrow_linear.groups.whole ≡ walk.group },
-    ghost wide_is: { wide.groups.whole ≡ walk.group },
+    ghost narrow_few: { narrow.groups.whole ≤ walk.group },
+    ghost narrow_linear_few: { narrow_linear.groups.whole ≤ walk.group },
+    ghost wide_few: { wide.groups.whole ≤ walk.group },
 }
 
 impl WatchMeter {
+    ghost use Rattle.flow_watch.specs.making.Takes.{EndsGroup, TakesLevel};
+
     /// Takes the levels just after the next packet.
     #[inline(always)]
     fn take(&mut self, level: Level)
@@ -76,7 +77,9 @@ impl WatchMeter {
     #[cold]
     #[inline(never)]
     fn end_group(&mut self, at: u64) -> Result<(), OutOfMemory>
-        requires few { self.old.narrow.groups.whole < 2 ^ 41 }
+        requires narrow { self.old.narrow.groups.whole < self.old.walk.group }
+        requires narrow_linear { self.old.narrow_linear.groups.whole < self.old.walk.group }
+        requires wide { self.old.wide.groups.whole < self.old.walk.group }
         ensures { IfOk result (λ _. EndsGroup at self.old self.new) }
     {
         self.narrow.end_group();
@@ -155,7 +158,7 @@ impl RunMeter for WatchMeter {
     }
 
     fn commit(&mut self, _params: &Params, out: &mut WatchLines) -> Result<(), OutOfMemory> {
-        add_each(self.kept.as_slice(), out)?;
+        out.add_each(self.kept.as_slice())?;
         self.kept.clear();
         Ok(())
     }
@@ -170,16 +173,4 @@ impl RunMeter for WatchMeter {
     }
 
     ghost opens = { begins_open };
-}
-
-ghost use Rattle.flow_watch.specs.making.Lines.{AddsEach};
-
-/// Adds these frames or fields of a run, each as a stretch of its own. Returns `Err` if memory runs out.
-fn add_each(kept: &[Stretch], out: &mut WatchLines) -> Result<(), OutOfMemory>
-    ensures { IfOk result (λ _. AddsEach kept.now out.old out.new) }
-{
-    for one in kept {
-        out.add(*one)?;
-    }
-    Ok(())
 }

@@ -1,9 +1,12 @@
 //! A stretch of the frames or fields of a judged run.
 
-ghost use Rattle.std.specs.Prelude.{◌≡◌};
+ghost use Rattle.std.specs.Prelude.{◌≡◌, ◌≤◌};
+ghost use Rattle.flow_watch.specs.Watched.{per_second};
 ghost use Rattle.flow_watch.specs.making.Stretches.{IsJoinedStretch, groups_of};
 
 use crate::peaks::Peaks;
+use sender_params::groups_per_frame;
+use timing_base::Media;
 
 /// A number for each sender type of SMPTE ST 2110-21.
 #[derive(Clone, Copy, Debug, PartialEq, Eq)]
@@ -57,4 +60,12 @@ impl Stretch {
             broken: next.broken,
         }
     }
+}
+
+/// Returns the number of frames or fields of a video in one second, rounded up.
+pub fn groups_per_second(media: &Media) -> u32
+    ensures value { result ≡ per_second media.now }
+    ensures some { 1 ≤ result }
+{
+    (groups_per_frame(media) * media.p).div_ceil(media.q)
 }

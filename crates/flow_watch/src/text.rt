@@ -163,7 +163,7 @@ impl fmt::Display for PlaceText {
         write!(
             f,
             "{} run {} {group}s {} to {} at {at}",
-            u64::from(self.form.media) + 1,
+            self.form.number(),
             self.stretch.run,
             self.stretch.from,
             self.stretch.to
@@ -218,7 +218,7 @@ impl fmt::Display for GapText {
         write!(
             f,
             "{} gap at record {rec} expected {expected} got {got}",
-            u64::from(self.form.media) + 1
+            self.form.number()
         )
     }
 }
@@ -241,7 +241,7 @@ impl fmt::Display for WaitingText {
         write!(
             f,
             "{} waiting for a marker, {packets} packets since record {rec}",
-            u64::from(self.form.media) + 1
+            self.form.number()
         )
     }
 }

@@ -7,6 +7,7 @@
 //! - `laws`: the contents of the inputs define one output.
 #![tactic(auto)]
 
+mod begin;
 mod command;
 mod flow;
 pub mod laws;

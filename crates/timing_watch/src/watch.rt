@@ -2,17 +2,15 @@
 
 ghost use Rattle.std.specs.Prelude.{◌≡◌, ◌≤◌, ◌+◌, ◌^◌, ◌++◌, ◌∷◌, [], ℕ, List, IfErr, IfOk, length, string_bytes};
 ghost use Rattle.flow_demux.specs.Rooms.{IsReady};
-ghost use Rattle.flow_demux.specs.Awaits.{AwaitsExpected};
 ghost use Rattle.std.specs.Io.KnownBytes.{Appends};
 ghost use Rattle.timing_outside.specs.Causes.{Rose};
 ghost use Rattle.timing_outside.specs.Written.{AppendsFront};
 ghost use Rattle.timing_steps.specs.declared.failure.Failure.TheVariants as failure;
-ghost use Rattle.timing_watch.specs.making.Flows.{HasRoom as FlowHasRoom, expected_next};
-ghost use Rattle.timing_watch.specs.making.Watches.{IsFlowOf};
+ghost use Rattle.timing_watch.specs.making.Flows.{expected_next};
 
+use crate::begin::begin_flow;
 use crate::flow::WatchFlow;
 use flow_demux::{Demux, MediaFlow};
-use flow_watch::{LineForm, groups_per_second};
 use std::alloc::{AllocError as OutOfMemory, Global};
 use timing_base::{Media, Row, WatchJob};
 use timing_outside::{Sink, put_all};
@@ -35,38 +33,6 @@ pub struct Watched {
     pub rows: Vec<Row>,
     /// The lines that aren't printed yet.
     pub text: String,
-}
-
-/// Returns the number of frames or fields of a stretch of this video.
-fn every_of(job: &WatchJob, media: &Media) -> u32
-    ensures value { result ≡ every_of job.now media.now }
-    ensures some { 1 ≤ result }
-{
-    match job.every {
-        Some(every) => every,
-        None => groups_per_second(media),
-    }
-}
-
-ghost use Rattle.timing_watch.specs.Watches.{every_of};
-
-/// Returns the flow of this media before the first packet record. `number` is that of the media, counted from 0.
-fn begin_flow(alloc: Global, job: &WatchJob, media: &Media, number: u32) -> MediaFlow<WatchFlow>
-    ensures media { result.media ≡ media.now }
-    ensures room { FlowHasRoom (2 ^ 41) result.taker }
-    ensures awaits { AwaitsExpected expected_next result }
-    ensures stands { IsFlowOf job.now [] number media.now result }
-{
-    let form = LineForm {
-        media: number,
-        interlaced: media.interlaced,
-        json: job.json,
-    };
-    let every = every_of(job, media);
-    MediaFlow::new(
-        media,
-        WatchFlow::new(alloc, media, job.flows.options, form, every),
-    )
 }
 
 impl Watch {

@@ -13,10 +13,11 @@ use Rattle.flow_watch.specs.declared.broken.TypeMeter.{TypeMeter}
 use Rattle.flow_watch.specs.declared.meter.WatchMeter.{WatchMeter}
 use Rattle.flow_watch.specs.declared.stretch.Stretch.{Stretch}
 
--- the counter of a type was fed packets with these capture timestamps
-pub record CountsType (m : Media) (n : ℕ) (stamps : List ℕ) (kind : Kind) (x : TypeMeter) : Type 0 where
+-- the counter of a type was fed packets with these capture timestamps, and so many frames or fields of them have ended
+pub record CountsType (m : Media) (n : ℕ) (stamps : List ℕ) (kind : Kind) (groups : ℕ) (x : TypeMeter) : Type 0 where
   pub c_max_is : x.c_max ≡ c_max_of m n kind
   pub vrx_full_is : x.vrx_full ≡ vrx_full_of m n kind
+  pub whole_is : x.groups.whole ≡ groups
   pub counts : CountsBroken n x.groups (is_broken m n stamps kind) (length stamps)
 
 -- these are the frames or fields from `from` on, each as a stretch of its own
@@ -31,9 +32,9 @@ pub record StandsFor (x : WatchMeter) (m : Media) (shift : Shift) (r : RunOf) (f
   pub run_is : x.run ≡ r.number
   pub n_is : x.walk.n ≡ r.n
   pub seen : x.walk.seen ≡ length fed
-  pub narrow_is : CountsType m r.n (stamps_of shift fed) N x.narrow
-  pub narrow_linear_is : CountsType m r.n (stamps_of shift fed) NL x.narrow_linear
-  pub wide_is : CountsType m r.n (stamps_of shift fed) W x.wide
+  pub narrow_is : CountsType m r.n (stamps_of shift fed) N x.walk.group x.narrow
+  pub narrow_linear_is : CountsType m r.n (stamps_of shift fed) NL x.walk.group x.narrow_linear
+  pub wide_is : CountsType m r.n (stamps_of shift fed) W x.walk.group x.wide
   pub peaks_are : 0 < x.walk.place → ArePeaks m r.n (stamps_of shift fed) (x.walk.group * r.n) (length fed) x.peaks
   -- the committed packets are complete frames or fields, and those that follow are kept
   pub rest : List FlowPacket
