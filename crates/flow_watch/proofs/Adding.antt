@@ -15,7 +15,7 @@ use Rattle.flow_measure.proofs.Breaks.{end-of-group, within-group}
 use Rattle.flow_watch.specs.Lines.{stretch_line}
 use Rattle.flow_watch.specs.Stretches.{IsStretch}
 use Rattle.flow_watch.specs.Watched.{AreLines, HasLine, IsLeft, IsStretchOf, RunPart, groups_in}
-use Rattle.flow_watch.specs.making.Lines.{Adds, GoesOnWith}
+use Rattle.flow_watch.specs.making.Lines.{Adds, AddsEach, GoesOnWith}
 use Rattle.flow_watch.specs.making.Stretches.{groups_of}
 use Rattle.flow_watch.specs.declared.form.LineForm.{LineForm}
 use Rattle.flow_watch.specs.declared.lines.WatchLines.{WatchLines}
@@ -129,6 +129,12 @@ module _ (form : LineForm) (every : ℕ) (m : Media) (shift : Shift) (part : Run
           | inl less ↦ goes-on less
           | inr full ↦ ends-here (omega (arith, below, full))
         ]
+
+-- one frame or field more
+pub each-more : (groups : List Stretch) (group : Stretch) (old between new : WatchLines) → AddsEach groups old between → Adds group between new
+    → AddsEach (groups ++ group ∷ []) old new
+each-more [] group old between new same adds = (new, subst (λ (x : WatchLines). Adds group x new) same adds, refl)
+each-more (one ∷ groups) group old between new h adds = (h.0, h.1, each-more groups group h.0 between new h.2 adds)
 
 -- ---- more packets
 

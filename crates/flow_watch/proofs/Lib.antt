@@ -1,8 +1,9 @@
 pub mod Adding
 pub mod Existing
-pub mod Feeding
+mod Feeding
 pub mod Growing
-pub mod Joining
-pub mod Keeping
+mod Joining
+mod Keeping
 mod Passing
+mod Telling
 pub mod Unique

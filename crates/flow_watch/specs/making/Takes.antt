@@ -2,6 +2,7 @@
 use Rattle.std.specs.Prelude.{◌≡◌, ◌<◌, ◌+◌, ◌*◌, ℕ, Bool, List, [], ◌∷◌, ◌++◌}
 use Rattle.run_meter.specs.declared.level.Level.{Level}
 use Rattle.vrx_buffer.specs.declared.held.Held.{Held}
+use Rattle.flow_measure.specs.Broken.{broken_groups}
 use Rattle.flow_measure.specs.Stands.{CountsBroken}
 use Rattle.flow_watch.specs.making.Broken.{breaks_by}
 use Rattle.flow_watch.specs.making.Peaks.{IsJoined, IsOfOne}
@@ -45,25 +46,23 @@ pub record TakesLevel (level : Level) (old new : WatchMeter) : Type 0 where
 abbrev pub limits_in : WatchMeter → PerType
 limits_in x = record { narrow = x.narrow.c_max; narrow_linear = x.narrow_linear.c_max; wide = x.wide.c_max }
 
--- the complete frames or fields that break each type
-abbrev pub broken_in : WatchMeter → PerType
-broken_in x = record {
-  narrow = x.narrow.groups.broken;
-  narrow_linear = x.narrow_linear.groups.broken;
-  wide = x.wide.groups.broken;
-}
+-- `count` is the number of the complete frames or fields that break the type, whatever the packets of the counter are
+abbrev pub CountsFor : TypeMeter → (count : ℕ) → Type 0
+CountsFor x count =
+    (n : ℕ) (broken : ℕ → Bool) (seen : ℕ) → CountsBroken n x.groups broken seen
+    → count ≡ broken_groups n broken x.groups.whole
 
--- the last complete frame or field as a stretch of its own; its last packet came at this instant
-abbrev pub group_of : (at : ℕ) → WatchMeter → Stretch
-group_of at x = record {
-  run = x.run;
-  from = x.walk.group;
-  to = x.walk.group;
-  stamp = at;
-  c_max = limits_in x;
-  peaks = x.peaks;
-  broken = broken_in x;
-}
+-- this is the last complete frame or field as a stretch of its own; its last packet came at this instant
+pub record IsLastGroup (at : ℕ) (x : WatchMeter) (s : Stretch) : Type 0 where
+  pub run_is : s.run ≡ x.run
+  pub from_is : s.from ≡ x.walk.group
+  pub to_is : s.to ≡ x.walk.group
+  pub stamp_is : s.stamp ≡ at
+  pub c_max_is : s.c_max ≡ limits_in x
+  pub peaks_is : s.peaks ≡ x.peaks
+  pub narrow_is : CountsFor x.narrow s.broken.narrow
+  pub narrow_linear_is : CountsFor x.narrow_linear s.broken.narrow_linear
+  pub wide_is : CountsFor x.wide s.broken.wide
 
 -- the meter keeps the frame or field of the last packet, which came at this instant, as complete
 pub record EndsGroup (at : ℕ) (old new : WatchMeter) : Type 0 where
@@ -72,4 +71,6 @@ pub record EndsGroup (at : ℕ) (old new : WatchMeter) : Type 0 where
   pub narrow_is : EndsType old.narrow new.narrow
   pub narrow_linear_is : EndsType old.narrow_linear new.narrow_linear
   pub wide_is : EndsType old.wide new.wide
-  pub kept_is : new.kept.items ≡ old.kept.items ++ group_of at new ∷ []
+  pub group : Stretch
+  pub group_is : IsLastGroup at new group
+  pub kept_is : new.kept.items ≡ old.kept.items ++ group ∷ []
