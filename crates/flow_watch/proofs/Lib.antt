@@ -4,6 +4,7 @@ mod Feeding
 pub mod Growing
 mod Joining
 mod Keeping
+mod Metering
 mod Passing
 mod Telling
 pub mod Unique

@@ -71,6 +71,7 @@ pub record EndsGroup (at : ℕ) (old new : WatchMeter) : Type 0 where
   pub narrow_is : EndsType old.narrow new.narrow
   pub narrow_linear_is : EndsType old.narrow_linear new.narrow_linear
   pub wide_is : EndsType old.wide new.wide
+  pub peaks_is : new.peaks ≡ old.peaks
   pub group : Stretch
   pub group_is : IsLastGroup at new group
   pub kept_is : new.kept.items ≡ old.kept.items ++ group ∷ []

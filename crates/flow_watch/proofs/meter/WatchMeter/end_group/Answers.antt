@@ -20,6 +20,7 @@ returns c = record {
     whole = c.end_group-3.ensures.whole;
     stands = c.end_group-3.ensures.stands;
   };
+  peaks_is = refl;
   group = _;
   group_is = record {
     run_is = refl;
