@@ -1,7 +1,7 @@
 -- The lines of a run with one frame or field more, and with more packets.
 use Rattle.std.proofs.Common.{◌≡◌, ◌<◌, ◌≤◌, ◌-◌, ◌+◌, ◌*◌, ◌/◌, ◌%◌, ◌^◌, ◌++◌, ◌∷◌, ℕ, zero, suc, List, [], length, Option, Some, None, inl, inr}
-use Rattle.std.proofs.Common.{◌∙◌, ap, sym, subst, refl, arith, append-nil, append_assoc}
-use Rattle.std.specs.Prelude.{min, string_bytes}
+use Rattle.std.proofs.Common.{◌∙◌, ap, sym, subst, refl, arith, append-nil}
+use Rattle.std.specs.Prelude.{string_bytes}
 use Rattle.std.proofs.Math.Nat.{mul-le-mul_right, suc-mul}
 use Rattle.std.proofs.lemmas.Bool.{cases_lt}
 use Rattle.std.proofs.lemmas.List.{map-append}

@@ -1,6 +1,6 @@
 -- Complete frames or fields of a run are a stretch, which has a line.
 use Rattle.std.specs.Prelude.{◌≤ℤ◌, cond, slice_index}
-use Rattle.std.proofs.Common.{◌≡◌, ◌<◌, ◌≤◌, ◌-◌, ◌+◌, ◌*◌, ◌/◌, ◌%◌, ℕ, ℤ, zero, suc, pos, Bool, true, false, List, [], length, Option, Some, None}
+use Rattle.std.proofs.Common.{◌≡◌, ◌<◌, ◌≤◌, ◌-◌, ◌+◌, ◌*◌, ◌/◌, ℕ, ℤ, zero, suc, pos, Bool, true, false, List, length, Option, Some, None}
 use Rattle.std.proofs.Common.{◌∙◌, ap, sym, subst, refl, arith}
 use Rattle.std.proofs.Math.Nat.{div-zero, mul-le-mul_right, suc-mul}
 use Rattle.std.proofs.lemmas.Nat.{div-add-mod'}

@@ -1,13 +1,12 @@
 -- The state of a `WatchMeter` with one packet more, and at the end of a frame or field.
-use Rattle.std.specs.Prelude.{⊤, int_lt, nat_lt}
+use Rattle.std.specs.Prelude.{int_lt, nat_lt}
 use Rattle.std.specs.Int.{int_max}
 use Rattle.std.proofs.Common.{◌≡◌, ◌<◌, ◌≤◌, ◌-◌, ◌+◌, ◌*◌, ◌^◌, ◌++◌, ◌∷◌, ◌||◌, ℕ, ℤ, pos, negsuc, Bool, true, false, cond, List, [], length}
-use Rattle.std.proofs.Common.{◌∙◌, ap, ap₂, sym, subst, refl, arith, append_assoc, length-append}
+use Rattle.std.proofs.Common.{◌∙◌, ap, ap₂, sym, subst, arith, length-append}
 use Rattle.std.proofs.Math.Nat.{mul-le-mul_right}
 use Rattle.std.proofs.lemmas.Int.{ints}
 use Rattle.timing_base.specs.Media.{IsMedia, Media}
 use Rattle.timing_base.specs.declared.media.Kind.{Kind}
-use Rattle.timing_base.specs.declared.media.Kind.TheVariants.{N, NL, W}
 use Rattle.sender_params.specs.Keeps.{held_at, is_empty, is_over}
 use Rattle.sender_params.specs.Limits.{c_max_of, gapped_of, vrx_full_of}
 use Rattle.drain_bucket.specs.Word.{bucket_of}
@@ -19,7 +18,6 @@ use Rattle.run_meter.specs.declared.level.Level.{Level}
 use Rattle.flow_measure.specs.Counts.{count_of}
 use Rattle.flow_measure.specs.Occupancy.{buckets_of}
 use Rattle.flow_measure.specs.Stands.{CountsBroken}
-use Rattle.flow_measure.specs.Summary.{IsGreatest, IsLeast}
 use Rattle.flow_measure.proofs.Agrees.{broken-agrees}
 use Rattle.flow_measure.proofs.Counted.{count_of-more}
 use Rattle.flow_measure.proofs.Packets.{above-held, occupancies}
@@ -30,7 +28,6 @@ use Rattle.flow_watch.specs.making.Meters.{AreGroups, CountsType}
 use Rattle.flow_watch.specs.making.Peaks.{IsJoined, IsOfOne, range_of}
 use Rattle.flow_watch.specs.making.Takes.{EndsType, TakesPacket}
 use Rattle.flow_watch.specs.declared.broken.TypeMeter.{TypeMeter}
-use Rattle.flow_watch.specs.declared.peaks.BufferRange.{BufferRange}
 use Rattle.flow_watch.specs.declared.peaks.Peaks.{Peaks}
 use Rattle.flow_watch.specs.declared.stretch.Stretch.{Stretch}
 use Rattle.flow_watch.proofs.Joining.{peaks-joined}

@@ -2,7 +2,6 @@
 use Rattle.std.proofs.Common.{◌≡◌, ◌<◌, ◌≤◌, ◌-◌, ◌+◌, ◌*◌, ◌/◌, ◌%◌, ◌++◌, ℕ, zero, suc, Bool, true, false, List, [], length, inl, inr}
 use Rattle.std.proofs.Common.{◌∙◌, ap, sym, subst, refl, arith, append-nil}
 use Rattle.std.specs.Prelude.{◌==◌}
-use Rattle.std.proofs.Math.Nat.{mul-le-mul_right, zero-div}
 use Rattle.std.proofs.lemmas.Bool.{cases_lt, eqb-true}
 use Rattle.std.proofs.lemmas.Nat.{div-add-mod', mod_below}
 use Rattle.timing_base.specs.Media.{IsMedia, Media}

@@ -16,9 +16,7 @@ use Rattle.drain_bucket.proofs.Reich.{count_after-same}
 use Rattle.vrx_buffer.specs.Occupancy.{IsOccupancy, is_late}
 use Rattle.run_meter.specs.Runs.{is_broken}
 use Rattle.flow_measure.specs.Broken.{any_of, broken_groups, group_breaks}
-use Rattle.flow_measure.specs.Counts.{count_of}
-use Rattle.flow_measure.specs.Occupancy.{AreOccupancies, buckets_of}
-use Rattle.flow_measure.specs.Summary.{IsGreatest, IsLeast}
+use Rattle.flow_measure.specs.Occupancy.{buckets_of}
 use Rattle.flow_measure.proofs.Bounds.{IsGreatest-same, IsLeast-same}
 use Rattle.flow_measure.proofs.Counted.{count_of-same}
 use Rattle.flow_measure.proofs.Packets.{occupancies}
@@ -26,7 +24,6 @@ use Rattle.flow_measure.proofs.Passes.{occupancy-once}
 use Rattle.flow_watch.specs.Stretches.{ArePeaks, IsBetween, IsRange, IsStretch, broken_of_types}
 use Rattle.flow_watch.specs.declared.peaks.BufferRange.{BufferRange}
 use Rattle.flow_watch.specs.declared.peaks.Peaks.{Peaks}
-use Rattle.flow_watch.specs.declared.stretch.PerType.{PerType}
 use Rattle.flow_watch.specs.declared.stretch.Stretch.{Stretch}
 
 -- ---- one packet

@@ -1,7 +1,7 @@
 -- A `WatchMeter` takes one packet more, which may be the last one of its frame or field.
-use Rattle.std.proofs.Common.{◌≡◌, ◌<◌, ◌≤◌, ◌-◌, ◌+◌, ◌*◌, ◌/◌, ◌%◌, ◌^◌, ◌++◌, ◌∷◌, ℕ, zero, suc, List, [], length, slice_index}
+use Rattle.std.proofs.Common.{◌≡◌, ◌<◌, ◌≤◌, ◌-◌, ◌+◌, ◌*◌, ◌/◌, ◌^◌, ◌++◌, ◌∷◌, ℕ, zero, suc, List, [], length, slice_index}
 use Rattle.std.proofs.Common.{◌∙◌, add-one, ap, refl, sym, subst, arith, append_assoc, length-append}
-use Rattle.std.proofs.Math.Nat.{mul-le-mul_right, suc-mul}
+use Rattle.std.proofs.Math.Nat.{suc-mul}
 use Rattle.std.proofs.lemmas.Nat.{div-add-mod'}
 use Rattle.timing_base.specs.Judged.{stamp_of}
 use Rattle.timing_base.specs.Media.{IsMedia, Media}
@@ -15,13 +15,11 @@ use Rattle.run_meter.specs.declared.level.Level.{Level}
 use Rattle.flow_measure.specs.Broken.{broken_groups}
 use Rattle.flow_measure.specs.declared.group_walk.GroupWalk.{GroupWalk}
 use Rattle.flow_measure.proofs.Judging.{stamps-long, stamps-more}
-use Rattle.flow_watch.specs.Stretches.{ArePeaks, IsStretch, broken_of_types, c_max_of_types}
+use Rattle.flow_watch.specs.Stretches.{ArePeaks, IsStretch}
 use Rattle.flow_watch.specs.making.Meters.{AreGroups, CountsType, StandsFor}
 use Rattle.flow_watch.specs.making.Takes.{CountsFor, EndsGroup, TakesLevel}
 use Rattle.flow_watch.specs.declared.broken.TypeMeter.{TypeMeter}
 use Rattle.flow_watch.specs.declared.meter.WatchMeter.{WatchMeter}
-use Rattle.flow_watch.specs.declared.peaks.Peaks.{Peaks}
-use Rattle.flow_watch.specs.declared.stretch.Stretch.{Stretch}
 use Rattle.flow_watch.proofs.Feeding.{counts-more, counts-over, groups-after, groups-more, peaks-more, peaks-one}
 
 -- the place of the next packet

@@ -1,5 +1,5 @@
 -- The lines of a flow when frames or fields of its open run are added, and when the run ends.
-use Rattle.std.proofs.Common.{◌≡◌, ◌<◌, ◌≤◌, ◌+◌, ◌*◌, ◌/◌, ◌^◌, ◌++◌, ◌∷◌, ℕ, zero, suc, List, [], length, Option, Some, None}
+use Rattle.std.proofs.Common.{◌≡◌, ◌<◌, ◌≤◌, ◌+◌, ◌*◌, ◌/◌, ◌^◌, ◌++◌, ◌∷◌, ℕ, List, [], length, Some, None}
 use Rattle.std.proofs.Common.{◌∙◌, ap, sym, subst, refl, arith, append-nil, append_assoc}
 use Rattle.std.specs.Prelude.{string_bytes}
 use Rattle.std.proofs.Math.Nat.{mul-div_cancel_left, mul-le-mul_right, mul_comm}

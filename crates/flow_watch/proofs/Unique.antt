@@ -1,5 +1,5 @@
 -- A stretch has one line, and the lines of a flow are one text.
-use Rattle.std.proofs.Common.{◌≡◌, ◌<◌, ◌≤◌, ◌-◌, ◌+◌, ◌*◌, ◌/◌, ◌%◌, ◌++◌, ◌∷◌, ℕ, zero, suc, pos, Bool, true, false, List, [], length, Option, Some, None}
+use Rattle.std.proofs.Common.{◌≡◌, ◌≤◌, ◌-◌, ◌+◌, ◌*◌, ◌/◌, ◌++◌, ◌∷◌, ℕ, zero, suc, pos, Bool, true, false, List, [], length, Option, Some, None}
 use Rattle.std.proofs.Common.{◌∙◌, ap, ap₂, sym, subst, refl, arith}
 use Rattle.std.proofs.Math.Nat.{mul-le-mul_right, suc-mul}
 use Rattle.std.proofs.lemmas.Int.{ints}

@@ -1,7 +1,7 @@
 -- The lines of a flow as JSON objects (RFC 8259), without spaces. The members of each object stand in the byte order of
 -- their keys. Media, runs, frames, fields and packet records count from 1; the media of a `LineForm` counts from 0.
 -- `stamp` is nanoseconds of TAI. The other numbers are packets, frames or fields. This project's profile: all objects.
-use Rattle.std.specs.Prelude.{ℕ, ◌+◌, Bool, true, false, List, [], ◌∷◌, ◌++◌, codes}
+use Rattle.std.specs.Prelude.{ℕ, ◌+◌, Bool, true, false, List, ◌∷◌, ◌++◌, codes}
 use Rattle.std.specs.Fmt.{decimal, signed_decimal}
 use Rattle.serde_json.specs.Data.{string}
 use Rattle.serde_json.specs.Written.{compact_text}

@@ -1,6 +1,6 @@
 -- Stretches and lines worked by hand: of the plain sender at 1080p50 with 20 packets per frame, and of the same sender
 -- with five packets at one instant at the start of its second frame. Capture timestamps are nanoseconds.
-use Rattle.std.specs.Prelude.{ℕ, ℤ, pos, negsuc, Bool, true, false}
+use Rattle.std.specs.Prelude.{ℕ, pos, negsuc, Bool, true, false}
 use Rattle.flow_watch.specs.declared.form.Gap.{Gap}
 use Rattle.flow_watch.specs.declared.form.LineForm.{LineForm}
 use Rattle.flow_watch.specs.declared.form.Waiting.{Waiting}

@@ -1,5 +1,5 @@
 -- The extremes of both models over packets, as they are made: of one packet, and of two parts.
-use Rattle.std.specs.Prelude.{◌≡◌, ◌+◌, ◌-◌, ◌^◌, ℕ, max, min, Bool, cond}
+use Rattle.std.specs.Prelude.{◌≡◌, ◌+◌, ◌-◌, ◌^◌, ℕ, max, min, cond}
 use Rattle.std.specs.Int.{int_max, int_min}
 use Rattle.vrx_buffer.specs.declared.held.Held.{Held}
 use Rattle.run_meter.specs.declared.level.Level.{Level}

@@ -1,5 +1,5 @@
 -- A `WatchMeter` before and after a packet, and before and after the end of a frame or field.
-use Rattle.std.specs.Prelude.{◌≡◌, ◌<◌, ◌+◌, ◌*◌, ℕ, Bool, List, [], ◌∷◌, ◌++◌}
+use Rattle.std.specs.Prelude.{◌≡◌, ◌<◌, ◌+◌, ◌*◌, ℕ, Bool, [], ◌∷◌, ◌++◌}
 use Rattle.run_meter.specs.declared.level.Level.{Level}
 use Rattle.vrx_buffer.specs.declared.held.Held.{Held}
 use Rattle.flow_measure.specs.Broken.{broken_groups}
