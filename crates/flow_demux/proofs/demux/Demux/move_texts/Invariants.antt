@@ -7,6 +7,6 @@ use Rattle.flow_demux.proofs.demux.Demux.move_texts.Given as goal
 
 abbrev pub invariant-loop-flow : goal.invariant-loop-flow
 invariant-loop-flow g l = record {
-  steps : StepUpTo (MovesOn g.F.moves g.F.FlowTaker.room g.F.FlowTaker.expects) l.flow-index l.fn.self.flows.items l.flow-items;
-  text : string_bytes l.to ≡ string_bytes l.fn.to ++ texts_of g.F.text (take l.flow-index l.fn.self.flows.items);
+  steps : StepUpTo (MovesOn g.F.FlowWriter.moves g.F.FlowTaker.room g.F.FlowTaker.expects) l.flow-index l.fn.self.flows.items l.flow-items;
+  text : string_bytes l.to ≡ string_bytes l.fn.to ++ texts_of g.F.FlowWriter.text (take l.flow-index l.fn.self.flows.items);
 }
