@@ -10,7 +10,7 @@ use Rattle.pcap_reader.specs.declared.reader.Step.{Step}
 use Rattle.pcap_reader.specs.declared.records.Taken.{Taken}
 use Rattle.std.proofs.Common.{append-nil, append_assoc, length-append}
 use Rattle.std.proofs.Common.{◌≡◌, ◌+◌, ◌++◌, ◌∷◌, [], ℕ, suc, List, length, take, Option, Some, None, Ok, Bor, inl, inr, refl, ap, ◌∙◌, sym, subst, arith}
-use Rattle.std.proofs.Common.{◌≡◌, ◌⊎◌, ◌^◌, ◌++◌, [], ◌∷◌, ℕ, List, length, take, Option, Some, None, inl, inr, refl, sym, subst, append-nil}
+use Rattle.std.proofs.Common.{◌≡◌, ◌^◌, ◌++◌, [], ◌∷◌, ℕ, List, length, take, Option, Some, None, inl, inr, refl, sym, subst, append-nil}
 use Rattle.std.proofs.KnownBytes.{Appends-trans}
 use Rattle.std.proofs.lemmas.List.{map-append}
 use Rattle.std.specs.Io.KnownBytes.{Appends}
@@ -20,8 +20,6 @@ use Rattle.timing_base.specs.Captures.{Record, raised}
 use Rattle.timing_base.specs.declared.capture.FileNote.{FileNote}
 use Rattle.timing_base.specs.declared.capture.PcapFault.{PcapFault}
 use Rattle.timing_outside.specs.Written.{AppendsFront}
-use Rattle.timing_steps.proofs.Onces.{told-once}
-use Rattle.timing_steps.specs.Answers.{AreTold}
 use Rattle.timing_steps.specs.Ran.{Appended, Output}
 use Rattle.timing_steps.specs.Ran.{Output}
 use Rattle.timing_steps.specs.Taken.{TakesText}
@@ -240,5 +238,5 @@ module _ {X : Type 0} (goes : GoingOn X) (holds : X → Type 0) (waiting : X →
   pub stopped-none : (o : Output) (f : X) (items : List Record) → o.new ≡ o.old → Stopped goes holds waiting o f items
   stopped-none o f items same = stopped-here o f f [] items items refl (copies-none o f same)
 
-  pub front-none : (o : Output) → o.new ≡ o.old → (front : List ℕ) × Appended o front
-  front-none o same = ([], subst (λ n. Appends o.old n []) (sym same) (appends-same o.old))
+pub front-none : (o : Output) → o.new ≡ o.old → (front : List ℕ) × Appended o front
+front-none o same = ([], subst (λ n. Appends o.old n []) (sym same) (appends-same o.old))

@@ -1,6 +1,6 @@
 -- The text that was written while packet records were taken by a `Printer`. `goes` is its relation `goes_on`, `holds`
 -- and `text` are its ghost members of these names.
-use Rattle.std.specs.Prelude.{◌≡◌, ◌⊎◌, ℕ, ⊤, List, [], ◌++◌, length, map, take, Option, Result, IfErr, IfOk}
+use Rattle.std.specs.Prelude.{◌≡◌, ◌⊎◌, ℕ, ⊤, List, ◌++◌, length, map, take, Option, Result, IfErr, IfOk}
 use Rattle.std.specs.Io.KnownBytes.{Appends}
 use Rattle.timing_base.specs.Captures.{Record, joined, raised}
 use Rattle.timing_base.specs.declared.capture.FileNote.{FileNote}
