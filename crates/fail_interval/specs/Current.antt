@@ -1,6 +1,6 @@
 -- What a flow is at after these packets: the run that hasn't ended, or the reason why it isn't judged any more. Packets
 -- count from 0, runs and packet records from 1. This project's profile.
-use Rattle.std.specs.Prelude.{ℕ, ◌+◌, ◌||◌, ◌==◌, if◌then◌else◌, is_some, nat_le, List, [], ◌∷◌, length, Option, Some, None}
+use Rattle.std.specs.Prelude.{ℕ, ◌+◌, ◌==◌, if◌then◌else◌, is_some, nat_le, List, ◌∷◌, length, Option, Some, None}
 use Rattle.std.specs.Prelude.{option_map}
 use Rattle.timing_base.specs.Flows.{FirstFault, cuts, first_fault, last_place, markers, packet, rtp}
 use Rattle.timing_base.specs.Judged.{expected_at}
