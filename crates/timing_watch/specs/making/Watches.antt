@@ -1,5 +1,5 @@
 -- The packet records that a `Watch` has taken, and the lines that were printed meanwhile.
-use Rattle.std.specs.Prelude.{◌≡◌, ◌≤◌, ◌<◌, ◌+◌, ℕ, List, [], ◌∷◌, ◌++◌, length, string_bytes}
+use Rattle.std.specs.Prelude.{◌≡◌, ◌≤◌, ◌<◌, ◌+◌, ℕ, ⊤, List, [], ◌∷◌, ◌++◌, length, string_bytes}
 use Rattle.std.specs.List.{AllZip}
 use Rattle.std.proofs.Common.{append-nil, append_assoc, ap, refl, subst, sym, ◌∙◌}
 use Rattle.timing_base.specs.Captures.{Record}
