@@ -1,7 +1,7 @@
 -- A packet record is taken by the flows of all media, and their lines are moved.
 use Rattle.std.proofs.Common.{◌≡◌, ◌+◌, ◌++◌, ◌∷◌, ℕ, List, [], length, Option, Some, None, refl, ap, ap₂, ◌∙◌, sym, subst, append-nil, append_assoc}
 use Rattle.std.specs.List.{cons_option}
-use Rattle.std.specs.Prelude.{string_bytes}
+use Rattle.std.specs.Prelude.{Err, IfOk, Ok, Result}
 use Rattle.std.proofs.lemmas.List.Elements.{filter_map-append}
 use Rattle.timing_base.specs.Captures.{Record}
 use Rattle.timing_base.specs.Jobs.{WatchJob}
@@ -73,13 +73,22 @@ took-each job items r number (m ∷ media) (o ∷ olds) (d ∷ mids) (n ∷ news
 
 -- ---- the whole
 
+-- what follows from both clauses of a call that returned
+pub both-ok : {T E : Type 0} {P Q R : T → Type 0} (result : Result T E) → ((x : T) → P x → Q x → R x) → IfOk result P → IfOk result Q → IfOk result R
+both-ok (Ok x) next p q = next x p q
+both-ok (Err e) next p q = tt
+
+-- what is so of each value that a call may return
+pub ok-always : {T E : Type 0} {P : T → Type 0} (result : Result T E) → ((x : T) → P x) → IfOk result P
+ok-always (Ok x) h = h x
+ok-always (Err e) h = tt
+
 -- the flows of a `Watch` took a record, and their lines stand behind those that weren't printed yet
-pub took-record : (old mid new : Watch) (r : Record) → TakesAll TakesOn (flows_of old.demux) (flows_of mid.demux) (r ∷ [])
-    → MovesAll MovesText (flows_of mid.demux) (flows_of new.demux) → text_of new ≡ text_of old ++ texts_of text_in (flows_of mid.demux)
-    → GoesOn old new [] (r ∷ [])
-took-record old mid new r takes moves text job first media gone items h =
-    let more = texts_of text_in (flows_of mid.demux) in
-    let took = took-each job items r first media (flows_of old.demux) (flows_of mid.demux) (flows_of new.demux) h.flows_are takes moves in
+pub took-record : (old new : Watch) (mids : List (MediaFlow WatchFlow)) (r : Record) → TakesAll TakesOn (flows_of old.demux) mids (r ∷ [])
+    → MovesAll MovesText mids (flows_of new.demux) → text_of new ≡ text_of old ++ texts_of text_in mids → GoesOn old new [] (r ∷ [])
+took-record old new mids r takes moves text job first media gone items h =
+    let more = texts_of text_in mids in
+    let took = took-each job items r first media (flows_of old.demux) mids (flows_of new.demux) h.flows_are takes moves in
     let one : AreLinesAfter job first media items (r ∷ []) more = (more, [], sym (append-nil more), took.0, refl) in
     let all = lines-joined job first media [] items (r ∷ []) (gone ++ text_of old) more h.lines_are one in
     let same : (gone ++ []) ++ text_of new ≡ (gone ++ text_of old) ++ more =
