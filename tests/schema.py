@@ -39,7 +39,8 @@ MISSING = {
     "ffmpeg.sdp": [("width=", "exactframerate=50; width=")],
 }
 
-# Wrong documents: what is wrong, the arguments that print the right one, where it is changed, and to what. REMOVED takes the key away.
+# Wrong documents: what is wrong, the arguments that print the right one, where it is changed, and to what. REMOVED takes the key away. Of
+# `watch` the lines are a list, in which the first step of the place is the number of the line, from 0.
 REMOVED = object()
 PLAIN = "check --json --sdp plain.sdp plain.pcap"
 BURST = "check --json --sdp plain.sdp burst.pcap"
@@ -53,6 +54,9 @@ MEASURED_GAP = "measure --sdp plain.sdp gap.pcap"
 MEASURED_ABSENT = "measure --sdp plain.sdp any.pcap"
 SCANNED = "scan --json plain.pcap"
 SCANNED_LINES = "scan --json gst_two.pcap"
+WATCHED = "watch --json --every 1 --sdp plain.sdp burst.pcap"
+WATCHED_GAP = "watch --json --sdp plain.sdp gap.pcap"
+WATCHED_FAULT = "watch --json --sdp ffmpeg.sdp ffmpeg_rtcp.pcap"
 DESCRIBED = "sdp --json plain.sdp"
 EXPLAINED = "explain --json --sdp plain.sdp plain.pcap"
 EXPLAINED_BURST = "explain --json --sdp plain.sdp burst.pcap"
@@ -157,6 +161,23 @@ WRONG = [
     ("a line without second_field", SCANNED_LINES, "streams 0 second_field", REMOVED),
     ("a line above 32,767", SCANNED_LINES, "streams 0 line", 32768),
     ("second_field as a number", SCANNED_LINES, "streams 0 second_field", 0),
+    ("a stretch without its run", WATCHED, "0 run", REMOVED),
+    ("a stretch from frame 0", WATCHED, "0 from", 0),
+    ("a bucket that is empty just after a packet", WATCHED, "0 bucket", 0),
+    ("C_MAX of two types", WATCHED, "0 c_max", [4, 4]),
+    ("C_MAX by the names of the types", WATCHED, "0 c_max", {"N": 4, "NL": 4, "W": 16}),
+    ("no count of W", WATCHED, "0 broken W", REMOVED),
+    ("a timestamp in seconds", WATCHED, "0 stamp", 1600000000.5),
+    ("a buffer without its late packets", WATCHED, "0 gapped late", REMOVED),
+    ("an unknown event", WATCHED, "0 event", "fields"),
+    ("a stretch as a gap", WATCHED, "0 event", "gap"),
+    ("an end without the report", WATCHED, "2 report", REMOVED),
+    ("a report as text", WATCHED, "2 report", "status 1"),
+    ("a gap without the expected number", WATCHED_GAP, "1 expected", REMOVED),
+    ("a gap at record 0", WATCHED_GAP, "1 record", 0),
+    ("a packet number beyond 32 bits", WATCHED_GAP, "1 got", 2**32),
+    ("a refused flow without its fault", WATCHED_FAULT, "0 fault", REMOVED),
+    ("a 65th video", WATCHED_FAULT, "0 media", 65),
     ("no video and no fault", DESCRIBED, "media", []),
     ("an unknown key", DESCRIBED, "status", 0),
     ("a video without its times", DESCRIBED, "media 0 frame", REMOVED),
@@ -206,9 +227,14 @@ def count(name, what):
 def schema_of(arguments):
     """Returns the name of the schema for a command line, or None."""
     command = arguments[0]
-    if command == "measure" or command in ("check", "scan", "sdp", "explain") and "--json" in arguments:
+    if command == "measure" or command in ("check", "scan", "sdp", "explain", "watch") and "--json" in arguments:
         return command
     return None
+
+
+def documents_of(schema, text):
+    """Returns the documents of an output: of `watch` each line, and of others the whole."""
+    return text.splitlines() if schema == "watch" else [text]
 
 
 def fault_of(validator, text):
@@ -223,6 +249,17 @@ def fault_of(validator, text):
     return f"{error.json_path}: {error.message[:300]}"
 
 
+def fault_of_output(validators, schema, text):
+    """Returns what is wrong with an output, or None. The report at the end of `watch` also has to be one of `check`."""
+    for document in documents_of(schema, text):
+        what = fault_of(validators[schema], document)
+        if what is None and schema == "watch" and "report" in json.loads(document):
+            what = fault_of(validators["check"], json.dumps(json.loads(document)["report"]))
+        if what is not None:
+            return what
+    return None
+
+
 def validate_cases(validators):
     """Validates the expected output of each case that prints JSON. Of a media that the description lacks there is none."""
     for case in sorted((TOP / "tests" / "cases").iterdir()):
@@ -234,7 +271,7 @@ def validate_cases(validators):
         for line in (case / "args").read_text().splitlines():
             schema = schema_of(line.split())
             if schema and (status in ("0", "1", "4") or status == "3" and schema == "sdp"):
-                count(f"{case.name}: {line}", fault_of(validators[schema], (case / "stdout").read_text()))
+                count(f"{case.name}: {line}", fault_of_output(validators, schema, (case / "stdout").read_text()))
 
 
 def write_descriptions(folder):
@@ -258,6 +295,8 @@ def example_commands():
     commands.append("explain --json --joined --sdp gst_pair.sdp gst_path1.pcap gst_path2.pcap")
     captures = sorted({capture for captures in PAIRS.values() for capture in captures.split()})
     commands += [f"scan --json {capture}" for capture in captures]
+    commands += [f"watch --json --every {every} --sdp {sdp} {captures.split()[0]}" for sdp, captures in PAIRS.items() for every in (1, 2)]
+    commands += [WATCHED, WATCHED_GAP, WATCHED_FAULT]
     commands += [f"sdp --json {sdp}" for sdp in PAIRS]
     return commands + [command for command in (PLAIN, BURST, GAP, FAULT, ABSENT) if command not in commands]
 
@@ -283,7 +322,7 @@ def validate_examples(validators, printed):
         if process.returncode not in (0, 1, 4):
             what = f"exit status {process.returncode}: {process.stderr.strip()}"
         else:
-            what = fault_of(validators[schema], process.stdout)
+            what = fault_of_output(validators, schema, process.stdout)
         if what is None and schema == "check" and json.loads(process.stdout)["status"] != process.returncode:
             what = f"exit status {process.returncode}, and the report has another"
         count(f"examples: {command}", what)
@@ -316,7 +355,9 @@ def refuse_wrong(validators, printed):
     for name, command, path, value in WRONG:
         schema = schema_of(command.split())
         try:
-            document = changed(json.loads(printed[command].stdout), path, value)
+            lines = documents_of(schema, printed[command].stdout)
+            line, _, place = path.partition(" ") if schema == "watch" else ("0", "", path)
+            document = changed(json.loads(lines[int(line)]), place, value)
         except (ValueError, LookupError) as error:
             what = f"it can't be made from `{command}`: {error!r}"
         else:
@@ -326,7 +367,7 @@ def refuse_wrong(validators, printed):
 
 def main():
     validators = {}
-    for name in ("check", "measure", "scan", "sdp", "explain"):
+    for name in ("check", "measure", "scan", "sdp", "explain", "watch"):
         schema = json.loads((TOP / "docs" / "schema" / f"{name}.json").read_text())
         Draft202012Validator.check_schema(schema)
         validators[name] = Draft202012Validator(schema)

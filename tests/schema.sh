@@ -1,5 +1,5 @@
 #!/usr/bin/env bash
-# Validates the JSON of `check --json`, `measure`, `scan --json`, `sdp --json` and `explain --json` against the schemas of docs/schema.
+# Validates the JSON of `check --json`, `measure`, `scan --json`, `sdp --json`, `explain --json` and `watch --json` against the schemas of docs/schema.
 #
 #   tests/schema.sh [PROGRAM]      PROGRAM: dist/st2110_timing, unless another is named
 #

@@ -6,6 +6,7 @@ pub mod PartsTold
 pub mod Runs
 -- of this crate alone
 mod Banks
+mod Currents
 mod Expecting
 mod Feeding
 mod Fit

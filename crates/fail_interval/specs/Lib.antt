@@ -8,6 +8,7 @@ pub mod Measured
 pub mod Meterings
 pub mod Fails
 pub mod Counting
+pub mod Current
 pub mod Stands
 pub mod BankStands
 pub mod Found

@@ -16,6 +16,7 @@ ghost use Rattle.run_meter.specs.Runs.{JudgedPart, told_of};
 ghost use Rattle.fail_interval.specs.Metered.{Heads, TellsOf};
 ghost use Rattle.fail_interval.specs.Parts.{judged_parts};
 
+use crate::current::RunSoFar;
 use crate::run::RunJudge;
 use crate::shift::NanosecondShift;
 use frame_group::Grouper;
@@ -117,6 +118,7 @@ pub struct Flow<M: Drop> {
 impl<M: RunMeter> Flow<M> {
     ghost use Rattle.fail_interval.specs.Flowing.{CanGoOn, ComesNext, EndsBy, HasRoom, StandsFor, Took, TookExpected};
     ghost use Rattle.fail_interval.specs.Flowing.{IsClosed, OpensAt, StartsAt, flow_expects};
+    ghost use Rattle.fail_interval.specs.Current.{last_run};
     ghost use Rattle.fail_interval.specs.Telling.{FlowTells, TellsAt, TellsClosed, TellsExpected, TellsTook};
 
     /// Returns the flow before its first packet.
@@ -143,6 +145,22 @@ impl<M: RunMeter> Flow<M> {
         ensures { (packets : List FlowPacket) → StandsFor self.now packets → result ≡ last_number_of packets }
     {
         self.grouper.last_number()
+    }
+
+    /// Returns the open run; `None` before the first packet.
+    pub fn open_run(&self) -> Option<RunSoFar>
+        ensures { (packets : List FlowPacket) → StandsFor self.now packets → result ≡ last_run packets }
+    {
+        match &self.open {
+            None => None,
+            Some(open) => Some(RunSoFar {
+                run: self.done.len() as u64 + 1,
+                rec: open.rec,
+                number: open.number,
+                expected: open.expected,
+                whole: open.judge.has_groups(),
+            }),
+        }
     }
 
     /// Ends the open run, if there is one. Returns `Err` if memory runs out.

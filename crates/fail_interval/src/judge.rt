@@ -12,6 +12,7 @@ ghost use Rattle.fail_interval.specs.Row.{row};
 ghost use Rattle.fail_interval.specs.States.{IsKnown, IsReading};
 
 use crate::counting::Counting;
+use crate::current::RunSoFar;
 use crate::flow::Flow;
 use run_meter::RunMeter;
 use std::alloc::{AllocError as OutOfMemory, Global};
@@ -32,6 +33,7 @@ impl<M: RunMeter> State<M> {
     ghost use Rattle.fail_interval.specs.Flowing.{CanGoOn};
     ghost use Rattle.fail_interval.specs.Goings.{CountsOn, GoesAsExpected, GoesBy, GoesOn, Refuses, StateTakes};
     ghost use Rattle.fail_interval.specs.Measured.{StateTellsTaken};
+    ghost use Rattle.fail_interval.specs.Current.{open_run_of, refusal_of};
     ghost use Rattle.fail_interval.specs.States.{IsAt};
     ghost use Rattle.fail_interval.specs.Telling.{TellsExpected, TellsTook};
     ghost use Rattle.fail_interval.specs.declared.flow.Flow.{Flow as FlowValue};
@@ -45,6 +47,28 @@ impl<M: RunMeter> State<M> {
     {
         match self {
             State::Going(flow) => flow.last_number(),
+            _ => None,
+        }
+    }
+
+    /// Returns the open run, or `None` before the first packet and after a fault.
+    fn open_run(&self) -> Option<RunSoFar>
+        ensures { (media : MediaValue) (shift : ShiftValue) (packets : List FlowPacket)
+            → IsAt media shift packets self.now → result ≡ open_run_of packets media.pt }
+    {
+        match self {
+            State::Going(flow) => flow.open_run(),
+            _ => None,
+        }
+    }
+
+    /// Returns the reason why the flow isn't judged, or `None` if no packet has a fault.
+    fn refusal(&self) -> Option<Unjudged>
+        ensures { (media : MediaValue) (shift : ShiftValue) (packets : List FlowPacket)
+            → IsAt media shift packets self.now → result ≡ refusal_of packets media.pt }
+    {
+        match self {
+            State::Refused { rec, fault } => Some(unjudged_by(*rec, *fault)),
             _ => None,
         }
     }
@@ -223,6 +247,8 @@ pub struct FlowJudge<M: Drop> {
 impl<M: RunMeter> FlowJudge<M> {
     ghost use Rattle.fail_interval.specs.Stands.{IsSpent, StandsFor, Takes, TakesExpected, count_fed, expected_of};
     ghost use Rattle.fail_interval.specs.Measured.{JudgeTells, TellsGoingOn, TellsOfAll, TellsTaken};
+    ghost use Rattle.fail_interval.specs.Current.{open_run_of, refusal_of};
+    ghost use Rattle.timing_base.specs.Numbered.{numbered};
 
     /// Returns the judge of the flow with this key, this media and these options, before the first packet. The shift
     /// changes the capture timestamps of judged packets, but not those in a reported fault.
@@ -248,6 +274,25 @@ impl<M: RunMeter> FlowJudge<M> {
             → StandsFor media key options self.now packets → result ≡ length packets }
     {
         self.fed
+    }
+
+    /// Returns the run that hasn't ended. Returns `None` before the first packet, and after a fault.
+    pub fn open_run(&self) -> Option<RunSoFar>
+        ensures { (media : MediaValue) (key : KeyValue) (options : FlowOptionsValue) (packets : List FlowPacket)
+            → StandsFor media key options self.now packets
+            → result ≡ open_run_of (numbered options.seq16 packets) media.pt }
+    {
+        self.state.open_run()
+    }
+
+    /// Returns the reason why the flow isn't judged any more, which is the first fault of a packet. Returns `None` if no
+    /// packet has one.
+    pub fn refusal(&self) -> Option<Unjudged>
+        ensures { (media : MediaValue) (key : KeyValue) (options : FlowOptionsValue) (packets : List FlowPacket)
+            → StandsFor media key options self.now packets
+            → result ≡ refusal_of (numbered options.seq16 packets) media.pt }
+    {
+        self.state.refusal()
     }
 
     /// Returns the next packet of the flow if it continues its frame or field, as most do: with the next packet number
@@ -394,14 +439,22 @@ impl<M: RunMeter> FlowJudge<M> {
 }
 
 ghost use Rattle.timing_base.specs.Judged.{refusal};
+ghost use Rattle.fail_interval.specs.Current.{unjudged_by};
 ghost use Rattle.fail_interval.specs.Row.{verdict_of};
 
-/// Returns the verdict for a fault: one gap too many is reported as a gap, each other fault as itself.
+/// Returns the reason for a fault: one gap too many is reported as a gap, each other fault as itself.
+fn unjudged_by(rec: u64, fault: PacketFault) -> Unjudged
+    ensures { result ≡ unjudged_by rec fault }
+{
+    match fault {
+        PacketFault::Number { expected, got } => Unjudged::Gap { rec, expected, got },
+        fault => Unjudged::Refused { rec, fault },
+    }
+}
+
+/// Returns the verdict for a fault.
 fn refusal(rec: u64, fault: PacketFault) -> Verdict
     ensures { (media : MediaValue) → result ≡ verdict_of media (refusal rec fault) }
 {
-    Verdict::Unjudged(match fault {
-        PacketFault::Number { expected, got } => Unjudged::Gap { rec, expected, got },
-        fault => Unjudged::Refused { rec, fault },
-    })
+    Verdict::Unjudged(unjudged_by(rec, fault))
 }

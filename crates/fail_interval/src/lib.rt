@@ -13,6 +13,7 @@
 
 mod bank;
 mod counting;
+mod current;
 mod first;
 mod flow;
 mod judge;
@@ -25,5 +26,6 @@ mod run;
 mod shift;
 
 pub use bank::Bank;
+pub use current::RunSoFar;
 pub use judge::FlowJudge;
 pub use metered::Metered;

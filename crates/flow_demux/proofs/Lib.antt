@@ -1,4 +1,5 @@
 mod Awaiting
+mod Moving
 mod Owning
 mod Readying
 mod Stepping

@@ -1,6 +1,6 @@
 //! The flows of all media of a session.
 
-ghost use Rattle.std.specs.Prelude.{◌≡◌, ◌≤◌, ◌<◌, ◌+◌, ◌∷◌, [], ℕ, All, IfOk, IfSome, Ok, length, true, false};
+ghost use Rattle.std.specs.Prelude.{◌≡◌, ◌≤◌, ◌<◌, ◌+◌, ◌∷◌, [], ℕ, All, IfOk, IfSome, Ok, ◌++◌, length, string_bytes, true, false};
 ghost use Rattle.std.specs.Option.{ForSome};
 ghost use Rattle.timing_base.specs.Captures.{IsStamp};
 ghost use Rattle.timing_base.specs.Targets.{HaveOwnTargets, target_of};
@@ -11,6 +11,7 @@ ghost use Rattle.flow_demux.specs.Takings.{media_in};
 use crate::media_flow::MediaFlow;
 use crate::order::Order;
 use crate::taker::FlowTaker;
+use crate::writer::FlowWriter;
 use pcap_reader::Taker;
 use std::alloc::{AllocError as OutOfMemory, Global};
 use timing_base::Target;
@@ -208,6 +209,29 @@ impl<F: FlowTaker> Demux<F> {
             place += 1;
         }
         Order::learn_in(&mut self.order, came);
+        Ok(())
+    }
+}
+
+impl<F: FlowWriter> Demux<F> {
+    ghost use Rattle.flow_demux.specs.Rooms.{HasRoom, IsReady, flows_of};
+    ghost use Rattle.flow_demux.specs.Texts.{MovesAll, texts_of};
+
+    /// Moves the text that the takers made to the end of `to`, in the order of the media. Returns `Err` if memory runs
+    /// out; what was moved is then unspecified.
+    #[inline(always)]
+    pub fn move_texts(&mut self, to: &mut String) -> Result<(), OutOfMemory>
+        requires ready { IsReady F.FlowTaker.expects self.old }
+        ensures ready { IsReady F.FlowTaker.expects self.new }
+        ensures room { (count : ℕ) → HasRoom F.FlowTaker.room F.FlowTaker.expects count self.old
+            → HasRoom F.FlowTaker.room F.FlowTaker.expects count self.new }
+        ensures text { IfOk result (λ _. string_bytes to.new
+            ≡ string_bytes to.old ++ texts_of F.text (flows_of self.old)) }
+        ensures moves { IfOk result (λ _. MovesAll F.moves (flows_of self.old) (flows_of self.new)) }
+    {
+        for flow in self.flows.iter_mut() {
+            flow.move_text(to)?;
+        }
         Ok(())
     }
 }

@@ -12,7 +12,9 @@ pub mod laws;
 mod media_flow;
 mod order;
 mod taker;
+mod writer;
 
 pub use demux::Demux;
 pub use media_flow::MediaFlow;
 pub use taker::FlowTaker;
+pub use writer::FlowWriter;

@@ -1,6 +1,6 @@
 //! The flow of one media, and its taker.
 
-ghost use Rattle.std.specs.Prelude.{◌≡◌, ◌≤◌, ◌+◌, ◌∷◌, [], ℕ, Some, Ok, IfOk, IfSome, IsOkAnd, length, true, false};
+ghost use Rattle.std.specs.Prelude.{◌≡◌, ◌≤◌, ◌+◌, ◌∷◌, [], ℕ, Some, Ok, IfOk, IfSome, IsOkAnd, ◌++◌, length, string_bytes, true, false};
 ghost use Rattle.timing_base.specs.Captures.{IsStamp, Record};
 ghost use Rattle.timing_base.specs.Targets.{target_of};
 ghost use Rattle.udp_rtp.specs.Flow.{flow_packet, is_same_target};
@@ -8,6 +8,7 @@ ghost use Rattle.udp_rtp.specs.Frames.{datagram_of};
 ghost use Rattle.flow_demux.specs.Readings.{IsReading};
 
 use crate::taker::FlowTaker;
+use crate::writer::FlowWriter;
 use pcap_reader::Taker;
 use std::alloc::AllocError as OutOfMemory;
 use timing_base::{FlowPacket, Media};
@@ -192,6 +193,24 @@ impl<F: FlowTaker> MediaFlow<F> {
         };
         self.take_datagram(number, at, frame, &datagram)?;
         Ok(())
+    }
+}
+
+impl<F: FlowWriter> MediaFlow<F> {
+    ghost use Rattle.flow_demux.specs.Awaits.{AwaitsExpected};
+    ghost use Rattle.flow_demux.specs.Texts.{MovesFlow};
+
+    /// Moves the text that the taker made to the end of `to`. Returns `Err` if memory runs out; what was moved is then
+    /// unspecified.
+    #[inline(always)]
+    pub(crate) fn move_text(&mut self, to: &mut String) -> Result<(), OutOfMemory>
+        ensures media { self.new.media ≡ self.old.media }
+        ensures awaits { AwaitsExpected F.FlowTaker.expects self.old → AwaitsExpected F.FlowTaker.expects self.new }
+        ensures room { (count : ℕ) → F.FlowTaker.room count self.old.taker → F.FlowTaker.room count self.new.taker }
+        ensures text { IfOk result (λ _. string_bytes to.new ≡ string_bytes to.old ++ F.text self.old.taker) }
+        ensures moves { IfOk result (λ _. MovesFlow F.moves self.old self.new) }
+    {
+        self.taker.move_text(to)
     }
 }
 

@@ -132,6 +132,22 @@ pub record ExplainJob : Type 0 where
   pub flows : CaptureJob
   pub json : Bool
 
+-- `watch`: prints a line for each stretch of this many frames, or of those of one second, and then the report
+pub record WatchJob : Type 0 where
+  pub flows : CaptureJob
+  pub every : Option ℕ
+  pub json : Bool
+
+-- a stretch has 1 to 1,000,000 frames or fields
+pub record IsEvery (every : ℕ) : Type 0 where
+  pub some : 1 ≤ every
+  pub few : every ≤ 1000000
+
+-- the quantities of `watch` are within their limits
+pub record IsWatchJob (job : WatchJob) : Type 0 where
+  pub flows_are : IsCaptureJob job.flows
+  pub every_is : IfSome job.every IsEvery
+
 -- `series`: prints the numbers of a flow, by frame or by packet
 pub record SeriesJob : Type 0 where
   pub flow : FlowJob

@@ -257,6 +257,28 @@ impl Model for ExplainJob {
     ghost view = { λ job. record { flows = job.flows; json = job.json } };
 }
 
+/// The command `watch`: prints a line for each stretch of frames while captures are read, and then the report.
+#[derive(Debug, Drop)]
+pub struct WatchJob {
+    /// The flows.
+    pub flows: CaptureJob,
+    /// The number of frames (fields of an interlaced video) in a stretch, 1 to 1,000,000, or `None` for those of one
+    /// second.
+    pub every: Option<u32>,
+    /// Whether the lines and the report are JSON.
+    pub json: bool,
+}
+
+impl Model for WatchJob {
+    ghost use Rattle.timing_base.specs.Jobs.{WatchJob as Seen, IsWatchJob};
+
+    ghost Value = { Seen };
+
+    ghost view = { λ job. record { flows = job.flows; every = job.every; json = job.json } };
+
+    ghost invariant = { λ job. IsWatchJob (view job) };
+}
+
 /// The command `series`: prints the numbers of a flow as CSV.
 #[derive(Debug, Drop)]
 pub struct SeriesJob {

@@ -30,7 +30,7 @@ pub use capture::{FileNote, PcapFault};
 pub use fail::{Broken, FailProof};
 pub use job::{
     CaptureJob, CheckJob, ExplainJob, FlowJob, ReportJob, ScanForm, ScanJob, SdpJob, SelfTestJob,
-    SeriesJob, ShapeJob, SkewJob, VerifyJob,
+    SeriesJob, ShapeJob, SkewJob, VerifyJob, WatchJob,
 };
 pub use key::{FlowKey, route};
 pub use list::Items;

@@ -1,7 +1,8 @@
 //! Names of files.
 
-ghost use Rattle.std.specs.Prelude.{◌≡◌, string_bytes, true};
+ghost use Rattle.std.specs.Prelude.{◌≡◌, IfOk, string_bytes, true};
 
+use std::alloc::{AllocError as OutOfMemory, Global};
 use std::marker::Model;
 
 /// A file name of the command line: 1 to 4,096 bytes without control characters (below 32, or 127).
@@ -31,6 +32,14 @@ impl FileName {
         ensures { result ≡ string_bytes text }
     {
         FileName { text }
+    }
+
+    /// Returns an equal file name. Returns `Err` if memory runs out.
+    pub fn try_copy(&self, alloc: Global) -> Result<FileName, OutOfMemory>
+        ensures { IfOk result (λ copy. copy ≡ self.now) }
+    {
+        let text = String::from_str(alloc, self.text.as_str())?;
+        Ok(FileName { text })
     }
 
     /// Returns the text of the name.

@@ -13,3 +13,6 @@ pub mod Onces
 pub mod Captured
 pub mod Joinings
 pub mod Following
+pub mod Parts
+pub mod Printing
+pub mod Printed

@@ -9,4 +9,5 @@ pub mod Flows
 -- these serve only the proofs
 pub mod Fetched
 pub mod Taken
+pub mod Printings
 pub mod Begun

@@ -16,6 +16,8 @@ mod fetch;
 mod flow;
 pub mod laws;
 mod print;
+mod printer;
+mod stream;
 mod take;
 mod text;
 
@@ -27,5 +29,7 @@ pub use failure::Failure;
 pub use fetch::{fetch_captures, fetch_classic, fetch_session, give_back, give_back_all};
 pub use flow::{chosen_media, early_of_choice, early_of_media, first_chosen, media_of, not_judged};
 pub use print::conclude;
+pub use printer::Printer;
+pub use stream::print_captures;
 pub use take::take_source;
 pub use text::fetch_front;

@@ -31,6 +31,9 @@ use Rattle.timing_measure.proofs.lemmas.page.Some.{some-page}
 use Rattle.timing_measure.proofs.lemmas.page.Unique.{once-page}
 use Rattle.timing_measure.proofs.lemmas.series.Some.{some-series}
 use Rattle.timing_measure.proofs.lemmas.series.Unique.{once-series}
+use Rattle.timing_watch.specs.Watches.{watch_query}
+use Rattle.timing_watch.proofs.Some.{some-watch}
+use Rattle.timing_watch.proofs.Unique.{once-watch}
 use Rattle.timing_top.specs.Asked.{Follows, FollowsAtOnce, FollowsHelp, FollowsSelfTest, InputRose, MeasuresBytes, names_of, page, query_of}
 use Rattle.timing_top.specs.Report.{check_query}
 use Rattle.timing_top.specs.SelfTest.{HasSelfTest}
@@ -105,6 +108,8 @@ some-answer (Some (request.Page job)) i texts there told bytes =
 some-answer (Some (request.Explain job)) i texts there told bytes =
     some-queried (explain_query job) i texts there told
     (λ read are. some-explain job (map classic read) bytes.0 (have-stamps (explain_query job) i texts read bytes.0.inputs.captures_are.few told are bytes.1))
+some-answer (Some (request.Watch job)) i texts there told bytes =
+    some-queried (watch_query job) i texts there told (λ read are. some-watch job (map classic read) bytes)
 
 -- there are not two
 pub only-answer : (asked : Option Request) (i : Inputs) (texts : List (List ℕ)) (a b : Answer) → AreTold i.texts (names_of asked) texts
@@ -125,6 +130,7 @@ only-answer (Some (request.Measure job)) i texts a b told h k = only-queried (me
 only-answer (Some (request.Series job)) i texts a b told h k = only-queried (series_query job) i texts a b (once-series job) told h k
 only-answer (Some (request.Page job)) i texts a b told h k = only-queried (page_query job) i texts a b (once-page job) told h k
 only-answer (Some (request.Explain job)) i texts a b told h k = only-queried (explain_query job) i texts a b (once-explain job) told h k
+only-answer (Some (request.Watch job)) i texts a b told h k = only-queried (watch_query job) i texts a b (once-watch job) told h k
 
 -- what has none has a cause
 pub answer-failed : (asked : Option Request) (i : Inputs) (texts : List (List ℕ)) (e : Failure) → AreTold i.texts (names_of asked) texts

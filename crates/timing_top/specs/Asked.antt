@@ -1,7 +1,7 @@
 -- The output and status that each command line and the contents of its inputs define. Inputs are read in the order in
 -- which they stand here.
 use Rattle.std.specs.Prelude.{◌≡◌, ⊤, Bool, IsTrue, true, false, ℕ, List, [], ◌∷◌, All, Option, Some, None, Result}
-use Rattle.timing_base.specs.Jobs.{IsCaptureJob, IsFlowJob}
+use Rattle.timing_base.specs.Jobs.{IsCaptureJob, IsFlowJob, IsWatchJob}
 use Rattle.pcapng_reader.specs.Bytes.{AreBytes}
 use Rattle.timing_words.specs.Help.{help_text}
 use Rattle.timing_words.specs.declared.command.Command.{Command}
@@ -22,6 +22,7 @@ use Rattle.timing_explain.specs.Explained.{explain_query}
 use Rattle.timing_measure.specs.Measures.{measure_query}
 use Rattle.timing_measure.specs.page.Pages.{page_query}
 use Rattle.timing_measure.specs.series.Series.{series_query}
+use Rattle.timing_watch.specs.Watches.{watch_query}
 use Rattle.timing_top.specs.Report.{check_query}
 use Rattle.timing_top.specs.SelfTest.{HasSelfTest}
 use Rattle.timing_top.specs.verify.Asked.{FollowsReport, ReportInputRose, verify_query}
@@ -62,6 +63,7 @@ query_of (request.Measure job) = measure_query job
 query_of (request.Series job) = series_query job
 query_of (request.Page job) = page_query job
 query_of (request.Explain job) = explain_query job
+query_of (request.Watch job) = watch_query job
 query_of other = record {
   sdp = [];
   captures = [];
@@ -100,13 +102,14 @@ names_of (Some (request.Sdp job)) = job.sdp ∷ []
 names_of (Some (request.Help named)) = []
 names_of (Some command) = inputs_of (query_of command)
 
--- for `measure`, `series`, `page` and `explain`: the job is within its limits, as that of every command line is, and the contents
--- are bytes, as those of every file are
+-- for `measure`, `series`, `page`, `explain` and `watch`: the job is within its limits, as that of every command line is.
+-- For all but `watch` the contents are bytes too, as those of every file are
 abbrev pub MeasuresBytes : Option Request → List (List ℕ) → Type 0
 MeasuresBytes (Some (request.Measure job)) told = IsCaptureJob job × All AreBytes told
 MeasuresBytes (Some (request.Series job)) told = IsFlowJob job.flow × All AreBytes told
 MeasuresBytes (Some (request.Page job)) told = IsCaptureJob job × All AreBytes told
 MeasuresBytes (Some (request.Explain job)) told = IsCaptureJob job.flows × All AreBytes told
+MeasuresBytes (Some (request.Watch job)) told = IsWatchJob job
 MeasuresBytes other told = ⊤
 
 -- the inputs as seen on a shelf that lacks the names for which `lacking` is true; the laws are about such shelves

@@ -30,12 +30,13 @@ abbrev pub reads_captures : Option Request → Bool
 reads_captures (Some (request.Sdp job)) = false
 reads_captures asked = reads_inputs asked
 
--- the request may end with status 1: `check`, `verify`, `verify-report` and `explain`
+-- the request may end with status 1: `check`, `verify`, `verify-report`, `explain` and `watch`
 abbrev pub checks : Option Request → Bool
 checks (Some (request.Check job)) = true
 checks (Some (request.Verify job)) = true
 checks (Some (request.VerifyReport job)) = true
 checks (Some (request.Explain job)) = true
+checks (Some (request.Watch job)) = true
 checks asked = false
 
 -- the request reads a report: `verify-report`
@@ -61,8 +62,8 @@ is_silent_of (Some (request.Sdp job)) ends = is_silent_described ends
 is_silent_of asked ends = is_silent_for (streams_of asked) ends
 
 -- a run of a request by its status and its output: the status is one that it may end with, and if that status is
--- silent, nothing was printed. `series` prints while it reads: if its capture can't be read, or memory runs out, a
--- prefix of its rows may have been printed
+-- silent, nothing was printed. `series` and `watch` print while they read: if a capture can't be read, or memory runs
+-- out, a prefix of their output may have been printed
 pub record Ends (asked : Option Request) (o : Output) (ends : Status) : Type 0 where
   pub status_is : may_end asked ends ≡ true
   pub silent : is_silent_of asked ends ≡ true → Appended o []

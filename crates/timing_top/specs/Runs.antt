@@ -1,5 +1,5 @@
--- The output of a run of a request, and its cause. `series` prints while it reads; every other request prints its
--- answer once it is whole.
+-- The output of a run of a request, and its cause. `series` and `watch` print while they read; every other request
+-- prints its answer once it is whole.
 use Rattle.std.specs.Prelude.{◌≡◌, Bool, true, false, not, ℕ, List, [], Option, Some, None}
 use Rattle.timing_words.specs.declared.request.Request.{Request}
 use Rattle.timing_words.specs.declared.request.Request.TheVariants as request
@@ -10,12 +10,13 @@ use Rattle.timing_steps.specs.Ran.{Output, Ran}
 use Rattle.timing_steps.specs.Streams.{Streams}
 use Rattle.timing_top.specs.Asked.{Follows, InputRose, query_of}
 
--- the request prints while it reads: `series`
+-- the request prints while it reads: `series` and `watch`
 abbrev pub streams_of : Option Request → Bool
 streams_of (Some (request.Series job)) = true
+streams_of (Some (request.Watch job)) = true
 streams_of asked = false
 
--- the request prints its answer once it is whole: all but `series`
+-- the request prints its answer once it is whole: all but `series` and `watch`
 abbrev pub prints_whole : Option Request → Bool
 prints_whole asked = not (streams_of asked)
 

@@ -21,6 +21,7 @@ use timing_outside::{Gate, Shelf, Sink};
 use timing_reach::{ShapeCommand, SkewCommand, WindowCommand, scan_one, sdp_one};
 use timing_report::Status;
 use timing_steps::{Answer, Failure, conclude, run_command};
+use timing_watch::WatchCommand;
 use timing_words::{Request, WordFault, read_words};
 
 /// Runs the command of a request. `check` runs on one thread if the job has 0 workers.
@@ -63,6 +64,7 @@ where
         Request::Series(job) => run_command(alloc, &SeriesCommand { job }, shelf, out, err),
         Request::Page(job) => run_command(alloc, &PageCommand { job }, shelf, out, err),
         Request::Explain(job) => run_command(alloc, &ExplainCommand { job }, shelf, out, err),
+        Request::Watch(job) => run_command(alloc, &WatchCommand { job }, shelf, out, err),
         Request::Help(command) => print_help(alloc, command, out, err),
     }
 }
@@ -70,8 +72,8 @@ where
 /// Runs the command line `words`, without the name of the program, and returns the status.
 ///
 /// The answer is printed on `out`, whole or not at all, except if a write fails: then `out` has a prefix of it. If
-/// there is no answer, `err` has one line with the reason. Only `series` prints while it reads; if that fails, `out`
-/// may have a prefix of its rows.
+/// there is no answer, `err` has one line with the reason. Only `series` and `watch` print while they read; if that
+/// fails, `out` may have a prefix of their output.
 ///
 /// The output depends neither on the number of workers nor on the interleaving of their threads. With workers the call
 /// waits for its threads; its clauses hold if it returns.
@@ -88,16 +90,16 @@ where
     H::Source: Send,
     // The answer that the contents of the inputs define was printed, with its status. Or it wasn't, and the status
     // gives the reason: a read of an input failed and the count of its faults rose, a write failed, or memory ran out.
-    // Then nothing was printed, or a prefix of the answer if a write failed; `series` may also leave a prefix with the
-    // other two. What this means for `check` in the terms of the standard is the law `laws::headline`.
+    // Then nothing was printed, or a prefix of the answer if a write failed; `series` and `watch` may also leave a
+    // prefix with the other two. What this means for `check` in the terms of the standard is the law `laws::headline`.
     ensures ran { RanAs (request (map string_bytes words.now)) (seen_of H.Shelf shelf.old shelf.new)
         (output_of K.Sink out.old out.new)
         (output_of K.Sink err.old err.new)
         result }
 
     // Also for contents that aren't known: the status is one that the request may end with, and with 2, 3, 5, 7 and 9
-    // nothing was printed. For `series` this holds with 3, and with 5 if the status names the SDP; for `sdp` it holds
-    // with all of them but 3.
+    // nothing was printed. For `series` and `watch` this holds with 3, and with 5 if the status names the SDP; for
+    // `sdp` it holds with all of them but 3.
     ensures ends { Ends (request (map string_bytes words.now)) (output_of K.Sink out.old out.new) result }
     ensures stays { StaysAs H.text H.lacks H.faults shelf.old shelf.new }
 {

@@ -1,13 +1,13 @@
 -- The jobs that words ask for are within their limits.
 use Rattle.std.proofs.Common.{◌≡◌, ◌≤◌, ◌<◌, ◌-◌, ◌&&◌, Bool, true, false, refl, subst, List, [], ◌∷◌, length, Some, None, Option, ℕ, arith}
-use Rattle.std.specs.Prelude.{codes, if◌then◌else◌, nat_le, option_map}
+use Rattle.std.specs.Prelude.{codes, if◌then◌else◌, nat_le, option_map, IfSome}
 use Rattle.std.specs.List.{list_all}
 use Rattle.std.specs.Str.{bytes_eq}
 use Rattle.std.proofs.lemmas.Bool.{leb-true}
 use Rattle.timing_base.specs.Shifts.{FlowOptions, AreFlowOptions}
 use Rattle.timing_base.specs.Jobs.{AreInputs, CaptureJob, CheckJob, FlowJob, IsCaptureJob, IsCheckJob, IsChoice, IsFlowJob, IsReportJob, IsSelfTestJob}
-use Rattle.timing_base.specs.Jobs.{ExplainJob, IsSkewJob, IsVerifyJob, ReportJob, SelfTestJob, SeriesJob, ShapeJob}
-use Rattle.timing_base.specs.Jobs.{SkewJob, VerifyJob}
+use Rattle.timing_base.specs.Jobs.{ExplainJob, IsEvery, IsSkewJob, IsVerifyJob, IsWatchJob, ReportJob, SelfTestJob, SeriesJob, ShapeJob}
+use Rattle.timing_base.specs.Jobs.{SkewJob, VerifyJob, WatchJob}
 use Rattle.timing_base.specs.Name.{is_file_name}
 use Rattle.timing_words.specs.declared.request.Request.{Request}
 use Rattle.timing_words.specs.declared.request.Request.TheVariants as asks
@@ -18,7 +18,7 @@ use Rattle.timing_words.specs.Line.{Stands, Text, line, stands}
 use Rattle.timing_words.specs.Request.{asked, asked_by, capture_asked, check_asked, check_workers, command_named, explain_asked, file_name, file_names}
 use Rattle.timing_words.specs.Request.{flow_asked, given, help_asked, kind_named, media, need, number, passing}
 use Rattle.timing_words.specs.Request.{proof_asked, report_asked, request, scan_asked, sdp_asked, self_test_asked, series_asked, shape_asked, skew_asked}
-use Rattle.timing_words.specs.Request.{delay, inputs, only_media, options_asked, sole, sorts, tai, test_workers, verify_asked, written}
+use Rattle.timing_words.specs.Request.{delay, every, inputs, only_media, options_asked, sole, sorts, tai, test_workers, verify_asked, watch_asked, written}
 use Rattle.timing_words.proofs.Checks.{both_true}
 
 -- a step that was needed gave something
@@ -222,6 +222,20 @@ explain-within l job e =
     let a = needed (capture_asked l) _ job e in
     subst (λ (j : ExplainJob). IsCaptureJob j.flows) (same _ job a.rest) (capture-within l a.a a.gave)
 
+every-is : (o : Option Text) (found : Option ℕ) → every o ≡ Some found → IfSome found IsEvery
+every-is None found e = subst (λ x. IfSome x IsEvery) (same None found e) tt
+every-is (Some text) found e =
+    let m = mapped (λ n. Some n) (number 1 1000000 text) found e in
+    let r = within 1 1000000 text m.0 m.1 in
+    subst (λ x. IfSome x IsEvery) m.2 record { some = r.0; few = r.1 }
+
+watch-within : (l : Stands) (job : WatchJob) → watch_asked l ≡ Some job → IsWatchJob job
+watch-within l job e =
+    let a = needed (capture_asked l) _ job e in
+    let b = needed (every (l.value (codes "every"))) _ job a.rest in
+    subst IsWatchJob (same _ job b.rest)
+    record { flows_are = capture-within l a.a a.gave; every_is = every-is (l.value (codes "every")) b.a b.gave }
+
 -- ---- the whole line
 
 asked-within : (c : Command) (l : Stands) (r : Request) → asked c l ≡ Some r → IsWithinLimits r
@@ -264,6 +278,9 @@ asked-within command.Page l r e =
 asked-within command.Explain l r e =
     let m = mapped asks.Explain (explain_asked l) r e in
     subst IsWithinLimits m.2 (explain-within l m.0 m.1)
+asked-within command.Watch l r e =
+    let m = mapped asks.Watch (watch_asked l) r e in
+    subst IsWithinLimits m.2 (watch-within l m.0 m.1)
 
 by-within : (c : Command) (words : List Text) (r : Request) → asked_by c words ≡ Some r → IsWithinLimits r
 by-within c words r e =

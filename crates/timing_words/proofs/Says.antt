@@ -22,6 +22,7 @@ is_told command.Series = (refl, refl)
 is_told command.Sdp = (refl, refl)
 is_told command.Page = (refl, refl)
 is_told command.Explain = (refl, refl)
+is_told command.Watch = (refl, refl)
 
 same_asked : (c : Command) (found : Found) (ps : List Part) → Says (sorts c) found ps → asked c (found_stands found) ≡ asked c (stands ps)
 same_asked command.Check found ps s =
@@ -127,6 +128,18 @@ same_asked command.Explain found ps s =
       s.value (codes "tai") refl,
       s.value (codes "delay") refl,
       s.value (codes "media") refl,
+      s.flag (codes "seq16") refl,
+      s.flag (codes "json") refl,
+      s.flag (codes "joined") refl,
+      s.names,
+    ) refl
+same_asked command.Watch found ps s =
+    rw (
+      s.value (codes "sdp") refl,
+      s.value (codes "tai") refl,
+      s.value (codes "delay") refl,
+      s.value (codes "media") refl,
+      s.value (codes "every") refl,
       s.flag (codes "seq16") refl,
       s.flag (codes "json") refl,
       s.flag (codes "joined") refl,

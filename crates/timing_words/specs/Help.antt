@@ -46,6 +46,7 @@ meaning n =
     else if bytes_eq n (codes "list") then codes "the delays are printed, and no capture"
     else if bytes_eq n (codes "frames") then codes "a row stands for a frame, and not for a packet"
     else if bytes_eq n (codes "seq16") then codes "the extended RTP sequence number is ignored"
+    else if bytes_eq n (codes "every") then codes "a line for every N frames, 1 to 1000000"
     else codes "docs/FORMATS.md says what"
 
 -- the option or flag of this name is optional in every command that takes it
@@ -54,7 +55,7 @@ is_optional n =
     bytes_eq n (codes "workers") || bytes_eq n (codes "tai") || bytes_eq n (codes "delay")
     || bytes_eq n (codes "serial") || bytes_eq n (codes "json") || bytes_eq n (codes "joined")
     || bytes_eq n (codes "list") || bytes_eq n (codes "draft") || bytes_eq n (codes "frames")
-    || bytes_eq n (codes "seq16")
+    || bytes_eq n (codes "seq16") || bytes_eq n (codes "every")
 
 -- the command judges every video of the description, or one that is chosen
 abbrev pub judges_all : Command → Bool
@@ -71,6 +72,7 @@ judges_all command.Series = false
 judges_all command.Sdp = false
 judges_all command.Page = true
 judges_all command.Explain = true
+judges_all command.Watch = true
 
 -- the command's option or flag of this name is optional
 abbrev pub may_be_missing : Command → Text → Bool
@@ -105,6 +107,7 @@ name_of command.Series = codes "series"
 name_of command.Sdp = codes "sdp"
 name_of command.Page = codes "page"
 name_of command.Explain = codes "explain"
+name_of command.Watch = codes "watch"
 
 -- the placeholder for the positional arguments of a command
 abbrev pub names_shape : Command → Text
@@ -121,6 +124,7 @@ names_shape command.Series = codes "CAPTURE.."
 names_shape command.Sdp = codes "FILE"
 names_shape command.Page = codes "CAPTURE.."
 names_shape command.Explain = codes "CAPTURE.."
+names_shape command.Watch = codes "CAPTURE.."
 
 -- what a command does, in words
 abbrev pub about : Command → Text
@@ -137,6 +141,7 @@ about command.Series = codes "lists the numbers of a flow as CSV, packet by pack
 about command.Sdp = codes "prints how a description is read, and what of it is passed over"
 about command.Page = codes "writes the report of a capture as one page with pictures"
 about command.Explain = codes "says what is wrong with each video and what to do, the likeliest cause first"
+about command.Watch = codes "prints a line for every second of each video while the capture is read, then its report"
 
 -- what a command prints, in words
 abbrev pub printed : Command → Text
@@ -171,6 +176,9 @@ printed command.Page =
 printed command.Explain =
     codes "Prints for each video a line with its headline, and for each finding a sentence with its numbers and what to do:\n"
     ++ codes "loss, another frame rate, bursts, packets that come early or late, a drift, clocks; with --json the same as JSON.\n"
+printed command.Watch =
+    codes "Prints for every second, or for every N frames, the peaks of bucket and buffers, and how many frames of the run\n"
+    ++ codes "so far break each type; gaps and refused flows as they come; and at the end the report of check --serial.\n"
 
 -- an example of a command, with files of the repository
 abbrev pub example : Command → Text
@@ -191,6 +199,7 @@ example command.Series = codes "./run series --sdp examples/plain.sdp --media 1 
 example command.Sdp = codes "./run sdp examples/plain.sdp"
 example command.Page = codes "./run page --sdp examples/plain.sdp examples/burst.pcap > burst.html"
 example command.Explain = codes "./run explain --sdp examples/plain.sdp examples/burst.pcap"
+example command.Watch = codes "./run watch --sdp examples/plain.sdp --every 1 examples/burst.pcap"
 
 -- ---- texts
 
@@ -207,7 +216,7 @@ abbrev pub commands : List Command
 commands =
     command.Check ∷ command.Verify ∷ command.VerifyReport ∷ command.SelfTest ∷ command.Window ∷ command.Shape
     ∷ command.Skew ∷ command.Scan ∷ command.Measure ∷ command.Series ∷ command.Sdp ∷ command.Page
-    ∷ command.Explain ∷ []
+    ∷ command.Explain ∷ command.Watch ∷ []
 
 -- the two lines of each command
 abbrev pub summaries : Text

@@ -1,7 +1,7 @@
 -- The limits of every request's job, as `timing_base` defines them.
 use Rattle.std.specs.Prelude.{⊤}
 use Rattle.timing_base.specs.Jobs.{IsCaptureJob, IsCheckJob, IsFlowJob, IsReportJob, IsSelfTestJob, IsSkewJob}
-use Rattle.timing_base.specs.Jobs.{IsVerifyJob}
+use Rattle.timing_base.specs.Jobs.{IsVerifyJob, IsWatchJob}
 use Rattle.timing_words.specs.declared.request.Request.{Request}
 use Rattle.timing_words.specs.declared.request.Request.TheVariants as asks
 
@@ -20,4 +20,5 @@ IsWithinLimits (asks.Series job) = IsFlowJob job.flow
 IsWithinLimits (asks.Sdp job) = ⊤
 IsWithinLimits (asks.Page job) = IsCaptureJob job
 IsWithinLimits (asks.Explain job) = IsCaptureJob job.flows
+IsWithinLimits (asks.Watch job) = IsWatchJob job
 IsWithinLimits (asks.Help named) = ⊤

@@ -9,7 +9,7 @@ use Rattle.std.specs.Str.{bytes_eq}
 use Rattle.std.specs.Str.Parse.{digits_value}
 use Rattle.timing_base.specs.Shifts.{FlowOptions}
 use Rattle.timing_base.specs.Jobs.{CaptureJob, CheckJob, FlowJob, ReportJob, ScanJob, SelfTestJob, ShapeJob, SkewJob}
-use Rattle.timing_base.specs.Jobs.{ExplainJob, SdpJob, SeriesJob, VerifyJob}
+use Rattle.timing_base.specs.Jobs.{ExplainJob, SdpJob, SeriesJob, VerifyJob, WatchJob}
 use Rattle.timing_base.specs.Name.{is_file_name}
 use Rattle.timing_base.specs.declared.fail.Broken.{Broken}
 use Rattle.timing_base.specs.declared.fail.Broken.TheVariants as broken
@@ -94,6 +94,11 @@ delay (Some text) = number 0 999999999 text
 abbrev pub only_media : Option Text → Option (Option ℕ)
 only_media None = Some None
 only_media (Some text) = option_map (λ n. Some n) (media text)
+
+-- the frames or fields of a stretch, if the option is given
+abbrev pub every : Option Text → Option (Option ℕ)
+every None = Some None
+every (Some text) = option_map (λ n. Some n) (number 1 1000000 text)
 
 -- the number of workers of `check`: 4 without an option, and 0, for one thread, with `--serial`; `--workers` and
 -- `--serial` exclude each other
@@ -301,7 +306,7 @@ capture_sorts = takes
     (codes "sdp" ∷ codes "tai" ∷ codes "delay" ∷ codes "media" ∷ [])
     (codes "joined" ∷ codes "seq16" ∷ [])
 
--- the job of `measure` or `page`, and the flows of `explain`
+-- the job of `measure` or `page`, and the flows of `explain` or `watch`
 abbrev pub capture_asked : Stands → Option CaptureJob
 capture_asked l =
     need (given (codes "sdp") l file_name) (λ sdp.
@@ -326,6 +331,19 @@ explain_sorts = takes
 abbrev pub explain_asked : Stands → Option ExplainJob
 explain_asked l =
     need (capture_asked l) (λ flows. Some (record { flows = flows; json = l.flag (codes "json") }))
+
+-- the options and flags of `watch`
+abbrev pub watch_sorts : List Sort
+watch_sorts = takes
+    (codes "sdp" ∷ codes "tai" ∷ codes "delay" ∷ codes "media" ∷ codes "every" ∷ [])
+    (codes "joined" ∷ codes "seq16" ∷ codes "json" ∷ [])
+
+-- the job of `watch`
+abbrev pub watch_asked : Stands → Option WatchJob
+watch_asked l =
+    need (capture_asked l) (λ flows.
+    need (every (l.value (codes "every"))) (λ frames.
+    Some (record { flows = flows; every = frames; json = l.flag (codes "json") })))
 
 -- the options and flags of `series`
 abbrev pub series_sorts : List Sort
@@ -362,6 +380,7 @@ command_named = chosen (
     ∷ (codes "sdp", command.Sdp)
     ∷ (codes "page", command.Page)
     ∷ (codes "explain", command.Explain)
+    ∷ (codes "watch", command.Watch)
     ∷ [])
 
 -- the options and flags of a command
@@ -379,6 +398,7 @@ sorts command.Series = series_sorts
 sorts command.Sdp = sdp_sorts
 sorts command.Page = capture_sorts
 sorts command.Explain = explain_sorts
+sorts command.Watch = watch_sorts
 
 -- the request of a command, from the contents of the command line
 abbrev pub asked : Command → Stands → Option Request
@@ -395,6 +415,7 @@ asked command.Series l = option_map asks.Series (series_asked l)
 asked command.Sdp l = option_map asks.Sdp (sdp_asked l)
 asked command.Page l = option_map asks.Page (capture_asked l)
 asked command.Explain l = option_map asks.Explain (explain_asked l)
+asked command.Watch l = option_map asks.Watch (watch_asked l)
 
 -- the request of the arguments after a command
 abbrev pub asked_by : Command → List Text → Option Request

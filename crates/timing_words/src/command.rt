@@ -41,6 +41,8 @@ pub enum Command {
     Page,
     /// `explain`: prints what is wrong with the flows of a capture, and what to do.
     Explain,
+    /// `watch`: prints a line for each stretch of frames while captures are read.
+    Watch,
 }
 
 impl Command {
@@ -64,6 +66,7 @@ impl Command {
             "sdp" => Some(Command::Sdp),
             "page" => Some(Command::Page),
             "explain" => Some(Command::Explain),
+            "watch" => Some(Command::Watch),
             _ => None,
         }
     }
@@ -124,6 +127,11 @@ impl Command {
                 alloc,
                 &["sdp", "tai", "delay", "media"],
                 &["json", "joined", "seq16"],
+            ),
+            Command::Watch => parser_of(
+                alloc,
+                &["sdp", "tai", "delay", "media", "every"],
+                &["joined", "seq16", "json"],
             ),
         }
     }

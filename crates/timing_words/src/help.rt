@@ -51,6 +51,7 @@ fn meaning(name: &str) -> &'static str
         "list" => "the delays are printed, and no capture",
         "frames" => "a row stands for a frame, and not for a packet",
         "seq16" => "the extended RTP sequence number is ignored",
+        "every" => "a line for every N frames, 1 to 1000000",
         _ => "docs/FORMATS.md says what",
     }
 }
@@ -71,6 +72,7 @@ fn is_optional(name: &str) -> bool
             | "draft"
             | "frames"
             | "seq16"
+            | "every"
     )
 }
 
@@ -194,6 +196,7 @@ impl Command {
             Command::Sdp => "sdp",
             Command::Page => "page",
             Command::Explain => "explain",
+            Command::Watch => "watch",
         }
     }
 
@@ -208,6 +211,7 @@ impl Command {
                 | Command::Measure
                 | Command::Page
                 | Command::Explain
+                | Command::Watch
         )
     }
 
@@ -221,7 +225,11 @@ impl Command {
             Command::Window | Command::Shape => "CAPTURE..",
             Command::Skew => "CAPTURE [CAPTURE]",
             Command::Scan => "CAPTURE",
-            Command::Measure | Command::Series | Command::Page | Command::Explain => "CAPTURE..",
+            Command::Measure
+            | Command::Series
+            | Command::Page
+            | Command::Explain
+            | Command::Watch => "CAPTURE..",
             Command::Sdp => "FILE",
         }
     }
@@ -259,6 +267,9 @@ impl Command {
             Command::Page => "writes the report of a capture as one page with pictures",
             Command::Explain => {
                 "says what is wrong with each video and what to do, the likeliest cause first"
+            }
+            Command::Watch => {
+                "prints a line for every second of each video while the capture is read, then its report"
             }
         }
     }
@@ -305,6 +316,9 @@ impl Command {
             Command::Explain => {
                 "Prints for each video a line with its headline, and for each finding a sentence with its numbers and what to do:\nloss, another frame rate, bursts, packets that come early or late, a drift, clocks; with --json the same as JSON.\n"
             }
+            Command::Watch => {
+                "Prints for every second, or for every N frames, the peaks of bucket and buffers, and how many frames of the run\nso far break each type; gaps and refused flows as they come; and at the end the report of check --serial.\n"
+            }
         }
     }
 
@@ -338,6 +352,9 @@ impl Command {
             Command::Sdp => "./run sdp examples/plain.sdp",
             Command::Page => "./run page --sdp examples/plain.sdp examples/burst.pcap > burst.html",
             Command::Explain => "./run explain --sdp examples/plain.sdp examples/burst.pcap",
+            Command::Watch => {
+                "./run watch --sdp examples/plain.sdp --every 1 examples/burst.pcap"
+            }
         }
     }
 }
@@ -392,6 +409,7 @@ fn summaries(alloc: Global) -> Result<String, OutOfMemory>
             Command::Sdp,
             Command::Page,
             Command::Explain,
+            Command::Watch,
         ],
     )
 }

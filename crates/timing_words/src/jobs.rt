@@ -11,14 +11,14 @@ ghost use Rattle.timing_words.specs.Request as words;
 use crate::command::NAMES;
 use crate::line::WordFault;
 use crate::values::{
-    check_workers, count, delay, file_name, file_names, inputs, kind_named, media, model_named,
-    number, only_media, scan_form, sole, tai, test_workers,
+    check_workers, count, delay, every, file_name, file_names, inputs, kind_named, media,
+    model_named, number, only_media, scan_form, sole, tai, test_workers,
 };
 use clap::ArgMatches;
 use std::alloc::Global;
 use timing_base::{
     CaptureJob, CheckJob, ExplainJob, FailProof, FileName, FlowJob, FlowOptions, Items, ReportJob,
-    ScanJob, SdpJob, SelfTestJob, SeriesJob, ShapeJob, Shift, SkewJob, VerifyJob,
+    ScanJob, SdpJob, SelfTestJob, SeriesJob, ShapeJob, Shift, SkewJob, VerifyJob, WatchJob,
 };
 
 /// Returns the value of a required option.
@@ -244,7 +244,7 @@ pub(crate) fn scan_job(alloc: Global, matches: &ArgMatches<'_>) -> Result<ScanJo
     Ok(ScanJob { capture, form })
 }
 
-/// Returns the job of `measure` or `page`, and the flows of `explain`.
+/// Returns the job of `measure` or `page`, and the flows of `explain` or `watch`.
 pub(crate) fn capture_job(alloc: Global, matches: &ArgMatches<'_>) -> Result<CaptureJob, WordFault>
     ensures { Gives (words.capture_asked (found_stands (found_of matches.now))) result }
 {
@@ -269,6 +269,16 @@ pub(crate) fn explain_job(alloc: Global, matches: &ArgMatches<'_>) -> Result<Exp
     let flows = capture_job(alloc, matches)?;
     let json = matches.contains_id("json");
     Ok(ExplainJob { flows, json })
+}
+
+/// Returns the job of `watch`.
+pub(crate) fn watch_job(alloc: Global, matches: &ArgMatches<'_>) -> Result<WatchJob, WordFault>
+    ensures { Gives (words.watch_asked (found_stands (found_of matches.now))) result }
+{
+    let flows = capture_job(alloc, matches)?;
+    let every = every(matches.get_str("every"))?;
+    let json = matches.contains_id("json");
+    Ok(WatchJob { flows, every, json })
 }
 
 /// Returns the job of `series`.

@@ -396,6 +396,34 @@ pub fn explains_by_hand()
     ensures valued { IsRefused (codes "explain --sdp p --json=1 c") }
 {}
 
+/// Worked by hand: command lines of `watch`.
+pub fn watches_by_hand()
+    ensures plain { Asks (codes "watch --sdp p c")
+        (asks.Watch (record { flows = plain_capture; every = None; json = false })) }
+    ensures every { Asks (codes "watch --every=1 --json --sdp=p c")
+        (asks.Watch (record { flows = plain_capture; every = Some 1; json = true })) }
+    ensures every_most { Asks (codes "watch --sdp p --every 1000000 c")
+        (asks.Watch (record { flows = plain_capture; every = Some 1000000; json = false })) }
+    ensures chosen { Asks (codes "watch --joined c --media=64 d --sdp=p --tai 1000")
+        (asks.Watch (record {
+          flows = record plain_capture {
+            options = seconds_added 1000;
+            captures = halves;
+            joined = true;
+            media = Some 63;
+          };
+          every = None;
+          json = false;
+        })) }
+    ensures every_none { IsRefused (codes "watch --sdp p --every 0 c") }
+    ensures every_over { IsRefused (codes "watch --sdp p --every 1000001 c") }
+    ensures no_sdp { IsRefused (codes "watch c") }
+    ensures no_capture { IsRefused (codes "watch --sdp p") }
+    ensures two_captures { IsRefused (codes "watch --sdp p c d") }
+    ensures serial { IsRefused (codes "watch --sdp p --serial c") }
+    ensures elsewhere { IsRefused (codes "page --sdp p --every 1 c") }
+{}
+
 /// Worked by hand: first arguments that are no command.
 pub fn no_commands_by_hand()
     ensures nothing { request [] ≡ None }
@@ -432,6 +460,9 @@ pub fn help_texts_by_hand()
     ensures explain { usage command.Explain
         ≡ codes "explain --sdp FILE [--tai SECONDS] [--delay NANOSECONDS] [--media N] [--json] [--joined] "
         ++ codes "[--seq16] CAPTURE.." }
+    ensures watch { usage command.Watch
+        ≡ codes "watch --sdp FILE [--tai SECONDS] [--delay NANOSECONDS] [--media N] [--every N] [--joined] [--seq16] "
+        ++ codes "[--json] CAPTURE.." }
     ensures skew { usage command.Skew ≡ codes "skew --sdp FILE --media N --pair N CAPTURE [CAPTURE]" }
     ensures whole { help_text (Some command.SelfTest)
         ≡ codes "selftest [--workers N] FRAMES\n"

@@ -22,5 +22,5 @@ pub use line::WordFault;
 pub use read::read_words;
 pub use request::Request;
 pub use values::{
-    check_workers, count, delay, file_name, kind_named, media, model_named, number, tai,
+    check_workers, count, delay, every, file_name, kind_named, media, model_named, number, tai,
 };

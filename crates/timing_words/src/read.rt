@@ -9,7 +9,7 @@ ghost use Rattle.timing_words.specs.Request.{asked, asked_by, help_asked, reques
 use crate::command::Command;
 use crate::jobs::{
     capture_job, check_job, explain_job, flow_job, report_job, scan_job, sdp_job, self_test_job,
-    series_job, shape_job, skew_job, verify_job,
+    series_job, shape_job, skew_job, verify_job, watch_job,
 };
 use crate::line::{WordFault, cut};
 use crate::request::Request;
@@ -38,6 +38,7 @@ fn request_of(
         Command::Sdp => Ok(Request::Sdp(sdp_job(alloc, matches)?)),
         Command::Page => Ok(Request::Page(capture_job(alloc, matches)?)),
         Command::Explain => Ok(Request::Explain(explain_job(alloc, matches)?)),
+        Command::Watch => Ok(Request::Watch(watch_job(alloc, matches)?)),
     }
 }
 

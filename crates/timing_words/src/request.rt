@@ -3,7 +3,7 @@
 use crate::command::Command;
 use timing_base::{
     CaptureJob, CheckJob, ExplainJob, FlowJob, ReportJob, ScanJob, SdpJob, SelfTestJob, SeriesJob,
-    ShapeJob, SkewJob, VerifyJob,
+    ShapeJob, SkewJob, VerifyJob, WatchJob,
 };
 
 /// The request of a command line.
@@ -35,6 +35,8 @@ pub enum Request {
     Page(CaptureJob),
     /// The command `explain`.
     Explain(ExplainJob),
+    /// The command `watch`.
+    Watch(WatchJob),
     /// The command `help`: the arguments of all commands, or more of this one.
     Help(Option<Command>),
 }

@@ -1,11 +1,11 @@
 //! The values of options and positional arguments. Each function returns `Usage` if the text isn't
 //! a value of its kind.
 
-ghost use Rattle.std.specs.Prelude.{◌≡◌, ◌≤◌, ◌<◌, IfErr, IfOk, None, Some, length, map};
+ghost use Rattle.std.specs.Prelude.{◌≡◌, ◌≤◌, ◌<◌, IfErr, IfOk, IfSome, None, Some, length, map};
 ghost use Rattle.std.specs.Option.{option_map};
 ghost use Rattle.std.specs.Char.{is_ascii_digit};
 ghost use Rattle.std.specs.List.{list_all};
-ghost use Rattle.timing_base.specs.Jobs.{AreInputs, IsChoice};
+ghost use Rattle.timing_base.specs.Jobs.{AreInputs, IsChoice, IsEvery};
 ghost use Rattle.timing_base.specs.Name.{is_file_name, is_name_byte};
 ghost use Rattle.timing_words.specs.Answers.{Gives};
 ghost use Rattle.timing_words.specs.Request as words;
@@ -122,6 +122,17 @@ pub(crate) fn only_media(text: Option<&str>) -> Result<Option<u32>, WordFault>
 {
     match text {
         Some(text) => Ok(Some(media(text)?)),
+        None => Ok(None),
+    }
+}
+
+/// Returns the number of frames or fields in a stretch, 1 to 1,000,000, or `None` without the option.
+pub fn every(text: Option<&str>) -> Result<Option<u32>, WordFault>
+    ensures value { Gives (words.every (option_map (λ s. s.now) text.entry)) result }
+    ensures is { IfOk result (λ e. IfSome e IsEvery) }
+{
+    match text {
+        Some(text) => Ok(Some(number(text, 1, 1_000_000)? as u32)),
         None => Ok(None),
     }
 }

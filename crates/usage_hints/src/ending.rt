@@ -48,6 +48,7 @@ fn description_of(request: &Request) -> Option<&FileName> {
         Request::Sdp(job) => Some(&job.sdp),
         Request::Page(job) => Some(&job.sdp),
         Request::Explain(job) => Some(&job.flows.sdp),
+        Request::Watch(job) => Some(&job.flows.sdp),
         Request::SelfTest(_) | Request::Scan(_) | Request::Help(_) => None,
     }
 }
@@ -74,6 +75,7 @@ fn capture_of(request: &Request, file: u32) -> Option<&FileName> {
         Request::Series(job) => job.flow.captures.as_slice().get(file as usize),
         Request::Page(job) => job.captures.as_slice().get(file as usize),
         Request::Explain(job) => job.flows.captures.as_slice().get(file as usize),
+        Request::Watch(job) => job.flows.captures.as_slice().get(file as usize),
         Request::SelfTest(_) | Request::Sdp(_) | Request::Help(_) => None,
     }
 }

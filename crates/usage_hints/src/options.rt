@@ -64,7 +64,7 @@ pub(crate) fn choice_named(choices: &[Choice], name: &str) -> Option<Choice> {
 }
 
 /// Returns all commands, in the order of `help`.
-pub(crate) fn commands() -> [Command; 13] {
+pub(crate) fn commands() -> [Command; 14] {
     [
         Command::Check,
         Command::Verify,
@@ -79,5 +79,6 @@ pub(crate) fn commands() -> [Command; 13] {
         Command::Sdp,
         Command::Page,
         Command::Explain,
+        Command::Watch,
     ]
 }

@@ -2,7 +2,7 @@
 
 use std::alloc::{AllocError as OutOfMemory, Global};
 use timing_words::{
-    WordFault, check_workers, count, delay, file_name, kind_named, media, model_named, tai,
+    WordFault, check_workers, count, delay, every, file_name, kind_named, media, model_named, tai,
 };
 
 /// Returns whether this can be a file name. Returns `Err` if memory runs out.
@@ -22,6 +22,7 @@ pub(crate) fn is_valid(alloc: Global, name: &str, value: &str) -> Result<bool, O
         "tai" => Ok(tai(Some(value)).is_ok()),
         "delay" => Ok(delay(Some(value)).is_ok()),
         "media" | "pair" => Ok(media(value).is_ok()),
+        "every" => Ok(every(Some(value)).is_ok()),
         "type" => Ok(kind_named(value).is_ok()),
         "model" => Ok(model_named(value).is_ok()),
         _ => Ok(count(value).is_ok()),
@@ -37,6 +38,7 @@ pub(crate) fn range(name: &str) -> &'static str {
         "tai" => "0 to 1000",
         "delay" => "0 to 999999999",
         "media" | "pair" => "1 to 64",
+        "every" => "1 to 1000000",
         "type" => "N, NL or W",
         "model" => "Bucket, Over or Empty",
         _ => "0 to 18446744073709551615",

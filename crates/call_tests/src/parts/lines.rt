@@ -6,7 +6,7 @@ use std::process::Abort;
 use std::test::Fail;
 use timing_base::{
     CaptureJob, CheckJob, ExplainJob, FailProof, FileName, FlowJob, FlowOptions, Items, ReportJob,
-    ScanJob, SdpJob, SelfTestJob, SeriesJob, ShapeJob, SkewJob, VerifyJob,
+    ScanJob, SdpJob, SelfTestJob, SeriesJob, ShapeJob, SkewJob, VerifyJob, WatchJob,
 };
 use timing_words::{Command, Request, WordFault, read_words};
 
@@ -161,6 +161,13 @@ fn shown_explain(alloc: Global, job: &ExplainJob) -> Result<String, AllocError> 
     }
 }
 
+/// The fields of a `watch`.
+fn shown_watch(alloc: Global, job: &WatchJob) -> Result<String, AllocError> {
+    let flows = shown_capture(alloc, "watch", &job.flows)?;
+    let (every, json) = (job.every, job.json);
+    format!(in alloc; "{flows} every {every:?} {json}")
+}
+
 /// The fields of an `sdp`.
 fn shown_sdp(alloc: Global, job: &SdpJob) -> Result<String, AllocError> {
     let (sdp, json) = (job.sdp.as_str(), job.json);
@@ -188,6 +195,7 @@ fn shown(alloc: Global, request: &Request) -> Result<String, AllocError> {
         Request::Sdp(job) => shown_sdp(alloc, job),
         Request::Page(job) => shown_capture(alloc, "page", job),
         Request::Explain(job) => shown_explain(alloc, job),
+        Request::Watch(job) => shown_watch(alloc, job),
         Request::Help(command) => shown_help(alloc, *command),
     }
 }
@@ -384,6 +392,13 @@ static ROWS: &str = concat!(
     "page|--sdp|p|--media=2|--joined|c|d => page p 0 media 1 joined: c d\n",
     "page|--sdp|p|--media|0|c => Usage\n",
     "page|--sdp|p|--joined=1|c => Usage\n",
+    // watch
+    "watch|--sdp|p|c => watch p 0: c every None false\n",
+    "watch|c|--tai=37|--every|25|--sdp=p|--json => watch p 37: c every Some(25) true\n",
+    "watch|--sdp|p|--joined|--media=2|c|d => watch p 0 media 1 joined: c d every None false\n",
+    "watch|--sdp|p|--every|0|c => Usage\n",
+    "watch|--sdp|p|--every|1000001|c => Usage\n",
+    "watch|--sdp|p|c|d => Usage\n",
 );
 
 // File names with a line end.
@@ -511,6 +526,7 @@ static OTHER_ROWS: &str = concat!(
     "help|series => help Some(Series)\n",
     "help|page => help Some(Page)\n",
     "help|explain => help Some(Explain)\n",
+    "help|watch => help Some(Watch)\n",
     "help|nothing => Usage\n",
     "help|help => Usage\n",
     "help| => Usage\n",

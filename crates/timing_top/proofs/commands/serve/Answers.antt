@@ -33,6 +33,9 @@ returns-in-Page-clause-ran g c = serves _ _ _ _ _ _ c.in-Page.is c.run_command-i
 pub returns-in-Explain-clause-ran : goal.returns-in-Explain-clause-ran
 returns-in-Explain-clause-ran g c = serves _ _ _ _ _ _ c.in-Explain.is c.run_command-in-Explain.ensures.ran
 
+pub returns-in-Watch-clause-ran : goal.returns-in-Watch-clause-ran
+returns-in-Watch-clause-ran g c = serves _ _ _ _ _ _ c.in-Watch.is c.run_command-in-Watch.ensures.ran
+
 pub returns-in-VerifyReport-clause-ran : goal.returns-in-VerifyReport-clause-ran
 returns-in-VerifyReport-clause-ran g c = serves _ _ _ _ _ _ c.in-VerifyReport.is c.verify_all.ensures.ran
 
@@ -71,6 +74,9 @@ returns-in-Page-clause-ends g c = ends-command _ _ _ _ c.in-Page.is refl c.run_c
 
 pub returns-in-Explain-clause-ends : goal.returns-in-Explain-clause-ends
 returns-in-Explain-clause-ends g c = ends-command _ _ _ _ c.in-Explain.is refl c.run_command-in-Explain.ensures.ends
+
+pub returns-in-Watch-clause-ends : goal.returns-in-Watch-clause-ends
+returns-in-Watch-clause-ends g c = ends-command _ _ _ _ c.in-Watch.is refl c.run_command-in-Watch.ensures.ends
 
 pub returns-in-VerifyReport-clause-ends : goal.returns-in-VerifyReport-clause-ends
 returns-in-VerifyReport-clause-ends g c = ends-report _ _ _ _ c.in-VerifyReport.is c.verify_all.ensures.ends

@@ -23,11 +23,12 @@ returns-clause-read c = go
     go command.Sdp = refl
     go command.Page = refl
     go command.Explain = refl
+    go command.Watch = refl
 
 pub returns-clause-all : goal.returns-clause-all
 returns-clause-all c = go
   where
-    size : length commands ≡ 13
+    size : length commands ≡ 14
     size = refl
 
     go : (told : Command) → Contains commands told
@@ -44,3 +45,4 @@ returns-clause-all c = go
     go command.Sdp = (10, omega (arith, size), refl)
     go command.Page = (11, omega (arith, size), refl)
     go command.Explain = (12, omega (arith, size), refl)
+    go command.Watch = (13, omega (arith, size), refl)
