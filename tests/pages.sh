@@ -20,6 +20,7 @@ not_run=(
     'dumpcap -i|a network card'
     'editcap -r in.pcapng|a capture of your own'
     'curl -o|a node on the network'
+    'parallel --line-buffer|a network card'
     'gst-launch-1.0|a network to send into'
     './run check --sdp gst_1080.sdp|a capture of 1.4 MB that does not ship'
     'sbatch|a cluster'
