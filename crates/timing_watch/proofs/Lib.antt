@@ -1,6 +1,13 @@
+mod Ahead
+mod Answering
+mod Ends
+mod Fronts
 mod Lines
+mod Packets
 mod Printing
 mod Runs
 pub mod Some
+mod Stretches
 mod Taking
 pub mod Unique
+mod Waits
