@@ -7,6 +7,7 @@ mod Packets
 mod Printing
 mod Runs
 pub mod Some
+mod Steps
 mod Stretches
 mod Taking
 pub mod Unique

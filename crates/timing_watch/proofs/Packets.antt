@@ -256,13 +256,13 @@ module _ (w : Watching) (m : Media) (options : FlowOptions) (x : WatchFlow) (pac
 
     stands-after : (mid new : WatchFlow) → MovesStretches x mid → KeepsMetered mid new → new.refused ≡ is_some (first_fault_below counted m.pt (place + 1))
         → (new.refused ≡ false → IsAtOpen counted (place + 1) new) → StandsFor w m options new (packets ++ p ∷ [])
-    stands-after mid new moves keeps refused open = record {
+    stands-after mid new moves keeps refused at_run = record {
       media_is = keeps.media_is ∙ moves.media_is ∙ h.media_is;
       gone = h.gone ++ stretches_in x;
       fed = moved-fed mid new moves keeps;
       moved = ap (λ (y : Metered WatchMeter WatchLines). string_bytes y.out.text) keeps.metered_is ∙ moves.none;
       refused_is = refused ∙ ap (λ n. is_some (first_fault_below counted m.pt n)) (sym long);
-      open_is = λ going. subst (λ n. IsAtOpen counted n new) (sym one-longer) (open going);
+      open_is = λ going. subst (λ n. IsAtOpen counted n new) (sym one-longer) (at_run going);
     }
 
     -- ---- a packet before had a fault
@@ -434,8 +434,8 @@ module _ (w : Watching) (m : Media) (options : FlowOptions) (x : WatchFlow) (pac
                   whole = nat_le 2 (length (markers counted place (place + 1)));
                 }) (if first then None else Some (expected_number counted place))
                 ≡ gap_line w.form (gap_at counted place)
-            gap-case true no = cc
-            gap-case false no = refl
+            gap-case true other = cc
+            gap-case false other = refl
 
         -- the first one of the flow
         begins-first : is_cut counted place ≡ false → place ≡ 0 → BeginsRun run at mid new → TookPacket w m options x new packets p
@@ -562,29 +562,30 @@ module _ (w : Watching) (m : Media) (options : FlowOptions) (x : WatchFlow) (pac
         goes-case : (part : Option OpenPart) (line : List ℕ) → open_before counted options.shift (place + 1) ≡ part → is_cut counted place ≡ false
             → run.run ≡ mid.run → stretches_in x ≡ line → AddsLine w m options.shift (completes w counted place) part line → AddsWaiting run at mid new
             → TookPacket w m options x new packets p
-        goes-case None line open no_cut same line_is adds_line adds =
+        goes-case None line is_open no_cut same line_is adds_line adds =
             let from = last_place (0 ∷ cuts counted (place + 1)) in
             let whole : run.whole ≡ false =
             ap (λ (r : RunSoFar). r.whole) run-is
             ∙ waits (length (cuts counted (place + 1)) + 1) (packet counted from) (judged_packets counted from (place + 1)) counted options.shift from
-            (place + 1) open in
+            (place + 1) is_open in
             record {
               more = waiting_text w counted (run_start counted place) place;
               text_is = text-goes adds [] _ (line_is ∙ adds_line) (waits-now no_cut same whole);
-              adds = adds-sound false _ e none no_cut (subst (λ o. AddsWithin w m options.shift counted place o _) (sym open) refl);
+              adds = adds-sound false (waiting_text w counted (run_start counted place) place) e none no_cut
+                  (subst (λ o. AddsWithin w m options.shift counted place o (waiting_text w counted (run_start counted place) place)) (sym is_open) refl);
               stands = stands-after mid new moves adds.metered (still adds.refused_is) (λ _. goes-at no_cut same adds);
             }
-        goes-case (Some part) line open no_cut same line_is adds_line adds =
+        goes-case (Some part) line is_open no_cut same line_is adds_line adds =
             let from = last_place (0 ∷ cuts counted (place + 1)) in
             let whole : run.whole ≡ true =
             ap (λ (r : RunSoFar). r.whole) run-is
             ∙ has-one (length (cuts counted (place + 1)) + 1) (packet counted from) (judged_packets counted from (place + 1)) counted options.shift from
-            (place + 1) part open in
+            (place + 1) part is_open in
             let none_waits : waiting_now ≡ [] = quiet-whole run.whole _ _ whole in
             record {
               more = line;
               text_is = text-goes adds line [] line_is none_waits ∙ ap (λ s. text_in x ++ s) (append-nil line);
-              adds = adds-sound false line e none no_cut (subst (λ o. AddsWithin w m options.shift counted place o line) (sym open) adds_line);
+              adds = adds-sound false line e none no_cut (subst (λ o. AddsWithin w m options.shift counted place o line) (sym is_open) adds_line);
               stands = stands-after mid new moves adds.metered (still adds.refused_is) (λ _. goes-at no_cut same adds);
             }
 

@@ -78,6 +78,11 @@ pub both-ok : {T E : Type 0} {P Q R : T → Type 0} (result : Result T E) → ((
 both-ok (Ok x) next p q = next x p q
 both-ok (Err e) next p q = tt
 
+-- what follows from a clause of a call that returned
+pub if-ok : {T E : Type 0} {P Q : T → Type 0} (result : Result T E) → ((x : T) → P x → Q x) → IfOk result P → IfOk result Q
+if-ok (Ok x) next p = next x p
+if-ok (Err e) next p = tt
+
 -- what is so of each value that a call may return
 pub ok-always : {T E : Type 0} {P : T → Type 0} (result : Result T E) → ((x : T) → P x) → IfOk result P
 ok-always (Ok x) h = h x

@@ -26,15 +26,15 @@ few-many k e = grind (arith, nat_tests)
 many-few : (k : ℕ) → nat_lt k 2 ≡ false → nat_le 2 k ≡ true
 many-few k e = grind (arith, nat_tests)
 
-none-few : (number : ℕ) (first : FlowPacket) (judged : List FlowPacket) (few : Bool) (no yes : RunOutcome) (part : OpenPart)
-    → open_by number first judged yes ≡ Some part → open_by number first judged (if few then no else yes) ≡ None → few ≡ true
-none-few number first judged true no yes part some e = refl
-none-few number first judged false no yes part some e = cc
+none-few : (number : ℕ) (first : FlowPacket) (judged : List FlowPacket) (few : Bool) (without with_one : RunOutcome) (part : OpenPart)
+    → open_by number first judged with_one ≡ Some part → open_by number first judged (if few then without else with_one) ≡ None → few ≡ true
+none-few number first judged true without with_one part some e = refl
+none-few number first judged false without with_one part some e = cc
 
-some-many : (number : ℕ) (first : FlowPacket) (judged : List FlowPacket) (few : Bool) (no yes : RunOutcome) (part : OpenPart)
-    → open_by number first judged no ≡ None → open_by number first judged (if few then no else yes) ≡ Some part → few ≡ false
-some-many number first judged true no yes part none e = cc
-some-many number first judged false no yes part none e = refl
+some-many : (number : ℕ) (first : FlowPacket) (judged : List FlowPacket) (few : Bool) (without with_one : RunOutcome) (part : OpenPart)
+    → open_by number first judged without ≡ None → open_by number first judged (if few then without else with_one) ≡ Some part → few ≡ false
+some-many number first judged true without with_one part none e = cc
+some-many number first judged false without with_one part none e = refl
 
 -- it has none
 pub waits : (number : ℕ) (first : FlowPacket) (judged packets : List FlowPacket) (shift : Shift) (from to : ℕ)
@@ -112,8 +112,8 @@ line-case true a b same = same
 line-case false a b same = refl
 
 quiet-case : (whole before later : Bool) → whole ≡ false → before ≡ not later → (whole || before) ≡ not later
-quiet-case true before later no is = cc
-quiet-case false before later no is = is
+quiet-case true before later none is = cc
+quiet-case false before later none is = is
 
 module _ (w : Watching) (packets : List FlowPacket) (from n since at : ℕ) (run : RunSoFar) (form : LineForm) (count : ℕ) (some : from < n)
     (since_is : since ≡ (packet packets (last_told packets from (n - (from + 1)))).at) (at_is : (packet packets n).at ≡ at) (low : at < 2 ^ 64 - 1)

@@ -43,23 +43,32 @@ impl WatchFlow {
     ghost use Rattle.timing_base.specs.Keys.{key_of};
     ghost use Rattle.fail_interval.specs.Row.{row};
 
-    /// Returns the taker of the flow of a media before the first packet, without a line. `form` has the number of the
-    /// media, and a complete stretch has `every` frames or fields.
+    /// Returns the taker of the flow of a media before the first packet, without a line. `number` is that of the media,
+    /// counted from 0. A complete stretch has `every` frames or fields. With `json` each line is a JSON object.
     pub fn new(
         alloc: Global,
         media: &Media,
+        number: u32,
         options: FlowOptions,
-        form: LineForm,
         every: u32,
+        json: bool,
     ) -> WatchFlow
         requires { 1 ≤ every }
         ensures room { HasRoom (2 ^ 41) result }
         ensures text { string_bytes result.text ≡ [] }
-        ensures stands { StandsFor (record { form = form; every = every }) media.now options result [] }
+        ensures stands { StandsFor (record {
+          form = record { media = number; interlaced = media.now.interlaced; json = json };
+          every = every;
+        }) media.now options result [] }
     {
         let key = FlowKey {
             file: 0,
-            media: form.media,
+            media: number,
+        };
+        let form = LineForm {
+            media: number,
+            interlaced: media.interlaced,
+            json,
         };
         let lines = WatchLines::new(alloc, form, every);
         WatchFlow {
