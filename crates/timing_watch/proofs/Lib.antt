@@ -1,5 +1,6 @@
 mod Ahead
 mod Answering
+mod Beginning
 mod Ends
 mod Fronts
 mod Lines
