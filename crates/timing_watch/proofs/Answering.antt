@@ -12,6 +12,8 @@ use Rattle.timing_base.specs.Media.{IsMedia, Media}
 use Rattle.timing_base.specs.Shifts.{FlowOptions}
 use Rattle.timing_base.specs.declared.capture.FileNote.{FileNote}
 use Rattle.timing_base.specs.declared.row.Row.{Row}
+use Rattle.flow_demux.specs.Rooms.{flows_of}
+use Rattle.flow_demux.specs.declared.media_flow.MediaFlow.{MediaFlow}
 use Rattle.fail_interval.specs.Rows.{rows_from}
 use Rattle.pcap_reader.specs.Records.{AreRecords}
 use Rattle.pcap_reader.proofs.Captures.{some-records}
@@ -32,15 +34,25 @@ use Rattle.timing_steps.proofs.Capturing.{media_within, reads-all}
 use Rattle.timing_steps.proofs.Classics.{told-classic}
 use Rattle.timing_steps.proofs.Onces.{told-once}
 use Rattle.timing_watch.specs.Watches.{AreLinesAfter, DefinesWatch, end_text, rows_of_job, watch_query}
-use Rattle.timing_watch.specs.making.Watches.{EndsWatch, GoesOn, HoldsText, StandsFor, rest_of, text_of}
+use Rattle.timing_watch.specs.making.Watches.{AreFlows, EndsWatch, GoesOn, HoldsText, StandsFor, rest_of, text_of}
+use Rattle.timing_watch.specs.declared.flow.WatchFlow.{WatchFlow}
 use Rattle.timing_watch.specs.declared.watch.Watch.{Watch}
 use Rattle.timing_watch.specs.declared.watch.Watched.{Watched}
 use Rattle.timing_watch.proofs.Lines.{lines-joined}
-use Rattle.timing_watch.proofs.Some.{chosen-all, some-left, some-lines}
+use Rattle.timing_watch.proofs.Some.{some-left, some-lines}
 
 -- ---- the media and the results
 
--- the chosen media are media of the session
+-- the chosen media are not more than those of the session
+one-few : (rest : List Media) → length (take 1 rest) ≤ length rest
+one-few [] = omega arith
+one-few (m ∷ rest) = omega arith
+
+pub chosen-few : (only : Option ℕ) (session : List Media) → length (chosen only session) ≤ length session
+chosen-few None session = omega arith
+chosen-few (Some number) session = omega (arith, one-few (drop number session), length-drop number session)
+
+-- they are media of the session
 pub chosen-fits : (only : Option ℕ) (session : List Media) → no_choice only session ≡ None → first_chosen only + length (chosen only session) ≤ length session
 chosen-fits None session e = omega arith
 chosen-fits (Some number) session e =
@@ -69,6 +81,15 @@ has-watch : (job : WatchJob) (session : List Media) (texts : List (List ℕ)) (f
     → AreRecords texts files notes → DefinesWatch job session (joined files) notes answer → HasAnswer (watch_query job) session texts answer
 has-watch job session texts files notes answer records defined = record { files = files; notes = notes; records = records; defined = defined }
 
+-- the media of flows are within their limits
+flows-media : (job : WatchJob) (items : List Record) (number : ℕ) (media : List Media) (flows : List (MediaFlow WatchFlow))
+    → AreFlows job items number media flows → All IsMedia media
+flows-media job items number [] [] h = All-nil IsMedia
+flows-media job items number [] (f ∷ flows) h = absurd h
+flows-media job items number (m ∷ media) [] h = absurd h
+flows-media job items number (m ∷ media) (f ∷ flows) h =
+    All-cons IsMedia m media (subst IsMedia h.0.stands.media_is f.taker.media_is) (flows-media job items (number + 1) media flows h.1)
+
 -- nothing was taken yet
 abbrev pub IsFresh : WatchJob → List Media → Watch → Type 0
 IsFresh job session x = StandsFor job (first_chosen job.flows.media) (chosen job.flows.media session) [] x []
@@ -87,20 +108,20 @@ pieces written made more end count =
 
 -- it stopped among the packet records of the captures
 stopped-at : (job : WatchJob) (session : List Media) (o : Output) (old : Watch) (texts : List (List ℕ)) (files : List (List Record)) (notes : List FileNote)
-    → IsWatchJob job → All IsMedia session → IsFresh job session old → AreRecords texts files notes → Stopped GoesOn HoldsText text_of o old (joined files)
+    → IsWatchJob job → IsFresh job session old → AreRecords texts files notes → Stopped GoesOn HoldsText text_of o old (joined files)
     → HasBegun o (BeginsOr job session texts)
-stopped-at job session o old texts files notes limits are fresh records s =
+stopped-at job session o old texts files notes limits fresh records s =
     let first = first_chosen job.flows.media in
     let watched = chosen job.flows.media session in
-    let all = chosen-all IsMedia job.flows.media session are in
     let items = joined files in
+    let are = flows-media job [] first watched (flows_of old.demux) fresh.flows_are in
     let stands : StandsFor job first watched s.written s.stood s.taken = s.goes_on job first watched [] [] fresh in
     let made = text_of s.stood in
-    let more = some-lines job first watched s.taken s.rest limits all in
+    let more = some-lines job first watched s.taken s.rest limits are in
     let lines : AreLinesAfter job first watched [] items ((s.written ++ made) ++ more.0) =
     subst (λ l. AreLinesAfter job first watched [] l ((s.written ++ made) ++ more.0)) (sym s.whole)
     (lines-joined job first watched [] s.taken s.rest (s.written ++ made) more.0 stands.lines_are more.1) in
-    let left = some-left job first watched items limits all in
+    let left = some-left job first watched items limits are in
     let rows = rows_of_job job session items in
     let end = left.0 ++ end_text job session notes rows in
     let answer : Answer = record { text = ((s.written ++ made) ++ more.0) ++ end; status = status_of session notes rows } in
@@ -123,13 +144,13 @@ stopped-at job session o old texts files notes limits are fresh records s =
     )
 
 -- it stopped while the captures were read
-pub begun-stopped : (job : WatchJob) (session : List Media) (o : Output) (old : Watch) (texts : List (List ℕ)) → IsWatchJob job → All IsMedia session
+pub begun-stopped : (job : WatchJob) (session : List Media) (o : Output) (old : Watch) (texts : List (List ℕ)) → IsWatchJob job
     → IsFresh job session old
     → ((files : List (List Record)) (notes : List FileNote) → AreRecords texts files notes → Stopped GoesOn HoldsText text_of o old (joined files))
     → HasBegun o (BeginsOr job session texts)
-begun-stopped job session o old texts limits are fresh stopped =
+begun-stopped job session o old texts limits fresh stopped =
     let all = some-records texts in
-    stopped-at job session o old texts all.0 all.1 limits are fresh all.2 (stopped all.0 all.1 all.2)
+    stopped-at job session o old texts all.0 all.1 limits fresh all.2 (stopped all.0 all.1 all.2)
 
 stopped-whole : (o : Output) (old new : Watch) (items : List Record) → Copies GoesOn o old new items → Stopped GoesOn HoldsText text_of o old items
 stopped-whole o old new items c = record {
@@ -146,9 +167,9 @@ stopped-whole o old new items c = record {
 
 -- it stopped at their end
 pub begun-whole : (job : WatchJob) (session : List Media) (o : Output) (old new : Watch) (texts : List (List ℕ)) (taken : TakenCaptures) → IsWatchJob job
-    → All IsMedia session → IsFresh job session old → TakesTexts (Copies GoesOn o) texts old new taken → HasBegun o (BeginsOr job session texts)
-begun-whole job session o old new texts taken limits are fresh t =
-    stopped-at job session o old texts t.files taken.notes.items limits are fresh t.records (stopped-whole o old new (joined t.files) t.fed)
+    → IsFresh job session old → TakesTexts (Copies GoesOn o) texts old new taken → HasBegun o (BeginsOr job session texts)
+begun-whole job session o old new texts taken limits fresh t =
+    stopped-at job session o old texts t.files taken.notes.items limits fresh t.records (stopped-whole o old new (joined t.files) t.fed)
 
 -- they were read to their end: what was printed and the rest are the answer
 pub rest-of-watch : (job : WatchJob) (session : List Media) (o : Output) (old new : Watch) (texts : List (List ℕ)) (taken : TakenCaptures) (y : Watched)
