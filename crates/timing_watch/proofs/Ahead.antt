@@ -2,7 +2,7 @@
 use Rattle.std.specs.Prelude.{is_some, string_bytes}
 use Rattle.std.proofs.Common.{◌≡◌, ◌<◌, ◌-◌, ◌+◌, ◌++◌, ◌∷◌, ℕ, zero, suc, Bool, true, false, List, [], length, Option, Some, None}
 use Rattle.std.proofs.Common.{◌∙◌, ap, sym, subst, refl, arith, append-nil}
-use Rattle.timing_base.specs.Flows.{first_fault, first_fault_below, markers, packet}
+use Rattle.timing_base.specs.Flows.{FirstFault, first_fault, first_fault_below, markers, packet}
 use Rattle.timing_base.specs.Keys.{key_of}
 use Rattle.timing_base.specs.Media.{Media}
 use Rattle.timing_base.specs.Numbered.{counted_packet, last_counted, numbered}
@@ -77,7 +77,8 @@ state-before past m shift packets q (Going flow) out is t =
     }
 state-before past m shift packets q (Refused rec fault) out is t =
     let n = length packets in
-    let here = subst (λ (l : List FlowPacket). first_fault_below l m.pt n ≡ Some (record { index = is.index; fault = fault })) (append-nil packets) (is.first []) in
+    let first : FirstFault = record { index = is.index; fault = fault } in
+    let here = subst (λ (l : List FlowPacket). first_fault_below l m.pt n ≡ Some first) (append-nil packets) (is.first []) in
     record { fault_is = ap is_some here ∙ sym (ap is_some (is.first (q ∷ []))); told = t (q ∷ []) }
 state-before past m shift packets q Spent out is t = absurd is
 

@@ -1,6 +1,6 @@
 -- The answer of `watch`: what was printed while the captures were read, and the rest.
-use Rattle.std.specs.Prelude.{All, IfErr, Result, is_ok, map, slice_get, string_bytes, ◌⊎◌}
-use Rattle.std.proofs.Common.{◌≡◌, ◌<◌, ◌≤◌, ◌-◌, ◌+◌, ◌++◌, ◌∷◌, ℕ, false, List, [], length, drop, take, Option, Some, None, Ok, Err, inl, inr}
+use Rattle.std.specs.Prelude.{All, IfErr, Result, is_ok, map, string_bytes, ◌⊎◌}
+use Rattle.std.proofs.Common.{◌≡◌, ◌<◌, ◌≤◌, ◌+◌, ◌++◌, ◌∷◌, ℕ, false, List, [], length, drop, take, Option, Some, None, Ok, Err, inl, inr}
 use Rattle.std.proofs.Common.{◌∙◌, ap, sym, subst, refl, arith, append-nil, append_assoc, length-drop}
 use Rattle.std.proofs.lemmas.Bool.{false≢true}
 use Rattle.std.proofs.lemmas.List.{length-take-le, take-append-drop}

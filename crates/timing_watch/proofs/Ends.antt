@@ -1,10 +1,10 @@
 -- What the end of the captures adds to the lines of a flow, and what is left of all flows.
 use Rattle.std.specs.Prelude.{string_bytes}
-use Rattle.std.proofs.Common.{◌≡◌, ◌<◌, ◌+◌, ◌++◌, ◌∷◌, ℕ, zero, suc, List, [], length, Option, Some, None}
-use Rattle.std.proofs.Common.{◌∙◌, ap, ap₂, sym, subst, refl, arith, append-nil, append_assoc}
+use Rattle.std.proofs.Common.{◌≡◌, ◌+◌, ◌++◌, ◌∷◌, ℕ, zero, suc, List, [], length, Option, Some, None}
+use Rattle.std.proofs.Common.{◌∙◌, ap, sym, subst, refl, arith, append-nil, append_assoc}
 use Rattle.std.proofs.lemmas.List.{append_cancel_left}
 use Rattle.timing_base.specs.Captures.{Record}
-use Rattle.timing_base.specs.Flows.{FirstFault, cuts, first_fault, first_fault_below, last_place}
+use Rattle.timing_base.specs.Flows.{FirstFault, cuts, first_fault, last_place}
 use Rattle.timing_base.specs.Jobs.{WatchJob}
 use Rattle.timing_base.specs.Keys.{key_of}
 use Rattle.timing_base.specs.Media.{Media}

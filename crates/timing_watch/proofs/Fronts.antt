@@ -3,7 +3,8 @@ use Rattle.std.specs.Prelude.{nat_lt, nat_le, not, ◌&&◌, ◌==◌, if◌then
 use Rattle.std.proofs.Common.{◌≡◌, ◌<◌, ◌≤◌, ◌-◌, ◌+◌, ◌^◌, ◌++◌, ◌∷◌, ℕ, zero, suc, Bool, true, false, List, [], length}
 use Rattle.std.proofs.Common.{◌∙◌, ap, ap₂, sym, subst, refl, arith}
 use Rattle.std.proofs.lemmas.List.{get_or_append_left}
-use Rattle.timing_base.specs.Flows.{cuts, expected_number, has_marker, is_cut, last_place, markers, next_number, no_packet, packet, places, read_or_zeros, rtp, run_start}
+use Rattle.timing_base.specs.Flows.{cuts, expected_number, has_marker, is_cut, last_place, markers, next_number, no_packet, packet, places, read_or_zeros, rtp}
+use Rattle.timing_base.specs.Flows.{run_start}
 use Rattle.timing_base.specs.declared.packet.FlowPacket.{FlowPacket}
 use Rattle.timing_base.proofs.Places.{run_start-le}
 use Rattle.timing_watch.specs.Watched.{is_second_later, last_told}
@@ -26,7 +27,8 @@ marker-front packets more i few = ap (λ (p : FlowPacket). (read_or_zeros p.rtp)
 places-same : (test other : ℕ → Bool) (from n : ℕ) → ((i : ℕ) → i < n → test i ≡ other i) → places test from n ≡ places other from n
 places-same test other from zero same = refl
 places-same test other from (suc n) same =
-    ap₂ (λ xs b. xs ++ (if nat_le from n && b then n ∷ [] else [])) (places-same test other from n (λ i few. same i (omega (arith, few)))) (same n (omega arith))
+    let before = places-same test other from n (λ i few. same i (omega (arith, few))) in
+    ap₂ (λ xs b. xs ++ (if nat_le from n && b then n ∷ [] else [])) before (same n (omega arith))
 
 cuts-front : (packets more : List FlowPacket) (n : ℕ) → n ≤ length packets → cuts (packets ++ more) n ≡ cuts packets n
 cuts-front packets more n few =

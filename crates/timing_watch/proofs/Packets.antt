@@ -8,9 +8,10 @@ use Rattle.std.proofs.lemmas.Bool.Decides.{nat_tests}
 use Rattle.std.proofs.lemmas.List.{append_cancel_left}
 use Rattle.std.proofs.lemmas.List.Elements.{All-head, All-tail}
 use Rattle.timing_base.specs.Captures.{IsStamp}
-use Rattle.timing_base.specs.Flows.{AreStamped, FirstFault, cuts, earlier_or, expected_number, fault, first_fault, first_fault_below, has_marker, is_cut, last_place}
+use Rattle.timing_base.specs.Flows.{AreStamped, FirstFault, cuts, earlier_or, expected_number, fault, first_fault, first_fault_below, has_marker, is_cut}
+use Rattle.timing_base.specs.Flows.{last_place}
 use Rattle.timing_base.specs.Flows.{markers, no_packet, packet, rtp, run_start}
-use Rattle.timing_base.specs.Judged.{expected_at, run_outcome}
+use Rattle.timing_base.specs.Judged.{expected_at}
 use Rattle.timing_base.specs.Keys.{key_of}
 use Rattle.timing_base.specs.Media.{IsMedia, Media}
 use Rattle.timing_base.specs.Numbered.{numbered}
@@ -21,9 +22,9 @@ use Rattle.timing_base.specs.declared.row.Unjudged.{Unjudged}
 use Rattle.timing_base.proofs.Between.{start-cut}
 use Rattle.timing_base.proofs.FirstFaults.{fault-kept, no_fault-at}
 use Rattle.timing_base.proofs.Numberings.{length-numbered}
-use Rattle.timing_base.proofs.Places.{cuts-here, cuts-other, last_place-le, places-here, places-other}
+use Rattle.timing_base.proofs.Places.{cuts-here, cuts-other, places-here, places-other}
 use Rattle.run_meter.specs.Runs.{JudgedPart, OpenPart}
-use Rattle.fail_interval.specs.Current.{open_run_of, refusal_of, run_from, unjudged_by}
+use Rattle.fail_interval.specs.Current.{open_run_of, refusal_of, unjudged_by}
 use Rattle.fail_interval.specs.Measured.{JudgeTells, TellsSoFar}
 use Rattle.fail_interval.specs.Meterings.{IsFed}
 use Rattle.fail_interval.specs.Parts.{judged_packets, open_before, parts_before, sound_before}
@@ -41,9 +42,9 @@ use Rattle.flow_watch.specs.declared.meter.WatchMeter.{WatchMeter}
 use Rattle.flow_watch.specs.declared.stretch.Stretch.{Stretch}
 use Rattle.flow_watch.specs.making.Meters.{StandsFor as MeterStandsFor}
 use Rattle.flow_watch.proofs.Unique.{so-far-once}
-use Rattle.timing_watch.specs.Watched.{AddsAfter, AddsNext, AddsPacket, AddsSound, AddsStretch, AddsWithin, IsLeftOf, Watching, completes, gap_at, last_told}
+use Rattle.timing_watch.specs.Watched.{AddsAfter, AddsNext, AddsPacket, AddsSound, AddsWithin, IsLeftOf, Watching, completes, gap_at, last_told}
 use Rattle.timing_watch.specs.Watched.{waiting_at, waiting_text}
-use Rattle.timing_watch.specs.making.Flows.{IsAtOpen, IsAtRun, StandsFor, past_of, text_in}
+use Rattle.timing_watch.specs.making.Flows.{IsAtOpen, StandsFor, past_of, text_in}
 use Rattle.timing_watch.specs.making.Steps.{AddsRefusal, AddsWaiting, BeginsRun, HasTaken, KeepsMetered, MovesStretches, TookPacket, gap_before, is_quiet}
 use Rattle.timing_watch.specs.making.Steps.{stretches_in, waiting_in}
 use Rattle.timing_watch.specs.declared.flow.WatchFlow.{WatchFlow}
@@ -86,8 +87,8 @@ next-case n None None first none e = cc
 next-case n None (Some f) first none e = (f, refl, cc)
 next-case n (Some x) here first none e = cc
 
-next-fault : (packets : List FlowPacket) (pt n : ℕ) (first : FirstFault) → first_fault_below packets pt n ≡ None → first_fault_below packets pt (n + 1) ≡ Some first
-    → (f : PacketFault) × (fault packets pt n ≡ Some f) × (first ≡ record { index = n; fault = f })
+next-fault : (packets : List FlowPacket) (pt n : ℕ) (first : FirstFault) → first_fault_below packets pt n ≡ None
+    → first_fault_below packets pt (n + 1) ≡ Some first → (f : PacketFault) × (fault packets pt n ≡ Some f) × (first ≡ record { index = n; fault = f })
 next-fault packets pt n first none e =
     let there : first_fault_below packets pt (suc n) ≡ Some first = ap (first_fault_below packets pt) (sym (add-one n)) ∙ e in
     next-case n (first_fault_below packets pt n) (fault packets pt n) first none there
@@ -136,7 +137,8 @@ no-fault-case (Some first) run e = cc
 some-length : (n : ℕ) → (n + 1 == 0) ≡ false
 some-length n = grind (arith, nat_tests)
 
-open-now : (packets : List FlowPacket) (pt n : ℕ) → length packets ≡ n + 1 → first_fault packets pt ≡ None → open_run_of packets pt ≡ Some (run_now packets (n + 1))
+open-now : (packets : List FlowPacket) (pt n : ℕ) → length packets ≡ n + 1 → first_fault packets pt ≡ None
+    → open_run_of packets pt ≡ Some (run_now packets (n + 1))
 open-now packets pt n long none =
     no-fault-case (first_fault packets pt) _ none
     ∙ ap (λ k. if k == 0 then None else Some (run_now packets k)) long

@@ -1,7 +1,7 @@
 -- What a packet adds to the lines of stretches: what is left of the open run, if it ends its run; else the line of the
 -- stretch that it completes.
 use Rattle.std.specs.Prelude.{nat_lt, ◌==◌, ◌&&◌, if◌then◌else◌}
-use Rattle.std.proofs.Common.{◌≡◌, ◌<◌, ◌≤◌, ◌-◌, ◌+◌, ◌*◌, ◌/◌, ◌++◌, ◌∷◌, ℕ, Bool, true, false, List, [], length, Option, Some, None}
+use Rattle.std.proofs.Common.{◌≡◌, ◌<◌, ◌≤◌, ◌+◌, ◌/◌, ◌++◌, ◌∷◌, ℕ, Bool, true, false, List, [], length, Option, Some, None}
 use Rattle.std.proofs.Common.{◌∙◌, ap, ap₂, sym, subst, refl, arith, append-nil, append_assoc}
 use Rattle.std.proofs.Math.Nat.{zero-div}
 use Rattle.timing_base.specs.Flows.{cuts, first_fault_below, has_marker, is_cut, last_place, markers, packet}
@@ -12,7 +12,7 @@ use Rattle.timing_base.specs.declared.packet.FlowPacket.{FlowPacket}
 use Rattle.timing_base.proofs.Between.{start-cut}
 use Rattle.timing_base.proofs.Places.{cuts-here, cuts-other, places-here, places-none, places-other}
 use Rattle.run_meter.specs.Runs.{JudgedPart, OpenPart}
-use Rattle.fail_interval.specs.Parts.{judged_packets, open_before, open_by, part_between, part_by, parts_before, parts_over, run_by}
+use Rattle.fail_interval.specs.Parts.{judged_packets, open_before, open_by, part_between, part_by, parts_before, parts_over}
 use Rattle.fail_interval.specs.Row.{judged_values}
 use Rattle.fail_interval.proofs.PartsTold.{parts_over-push}
 use Rattle.flow_watch.specs.Watched.{AreAllLines, AreLines, AreLinesOf, AreLinesSoFar, RunPart, ended_part, groups_in, left_of, open_part}
@@ -21,7 +21,7 @@ use Rattle.flow_watch.specs.declared.stretch.Stretch.{Stretch}
 use Rattle.flow_watch.proofs.Adding.{longer}
 use Rattle.flow_watch.proofs.Growing.{IsLineIf, one-more}
 use Rattle.flow_watch.proofs.Unique.{complete, ended-once, lines-once, so-far-once}
-use Rattle.timing_watch.specs.Watched.{AddsStretch, IsLeftBefore, IsLeftOf, Watching, completes}
+use Rattle.timing_watch.specs.Watched.{AddsStretch, IsLeftOf, Watching, completes}
 use Rattle.timing_watch.proofs.Runs.{HasOneMore, open-marked, open-plain}
 
 -- ---- the run ends
@@ -83,7 +83,8 @@ flow-ends w m shift packets n gone put left h k =
 open-few : (number : ℕ) (first : FlowPacket) (judged packets : List FlowPacket) (shift : Shift) (from to : ℕ) (marks : List ℕ)
     → markers packets from to ≡ marks → nat_lt (length marks) 2 ≡ true → open_by number first judged (run_outcome packets shift from to) ≡ None
 open-few number first judged packets shift from to marks are few =
-    ap (λ b. open_by number first judged (if b then no_whole_frame (head_len (markers packets from to) from to) else whole_frames (judged_run packets shift from to)))
+    let none = no_whole_frame (head_len (markers packets from to) from to) in
+    ap (λ b. open_by number first judged (if b then none else whole_frames (judged_run packets shift from to)))
     (ap (λ l. nat_lt (length l) 2) are ∙ few)
 
 one-marker : (number : ℕ) (first : FlowPacket) (judged packets : List FlowPacket) (shift : Shift) (i : ℕ) (is : Bool) → has_marker packets i ≡ is
@@ -133,8 +134,8 @@ adds-none : (w : Watching) (m : Media) (shift : Shift) (completes : OpenPart →
 adds-none w m shift completes None none = refl
 adds-none w m shift completes (Some part) none = subst (λ b. AddsStretch w m shift part b []) (sym (none part)) refl
 
-line-if : (w : Watching) (m : Media) (shift : Shift) (part : OpenPart) (full : Bool) (line : List ℕ) → IsLineIf w.form w.every m shift (open_part part) full line
-    → AddsStretch w m shift part full line
+line-if : (w : Watching) (m : Media) (shift : Shift) (part : OpenPart) (full : Bool) (line : List ℕ)
+    → IsLineIf w.form w.every m shift (open_part part) full line → AddsStretch w m shift part full line
 line-if w m shift part true line h = h
 line-if w m shift part false line h = h
 

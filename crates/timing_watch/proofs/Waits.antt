@@ -1,6 +1,6 @@
 -- A run without a complete frame or field: whether a packet comes a second or more after the last one that was told of.
 use Rattle.std.specs.Prelude.{nat_le, nat_lt, not, min, ◌&&◌, ◌||◌, ◌==◌, if◌then◌else◌}
-use Rattle.std.proofs.Common.{◌≡◌, ◌<◌, ◌≤◌, ◌-◌, ◌+◌, ◌^◌, ℕ, suc, Bool, true, false, List, [], length, Option, Some, None, inl, inr}
+use Rattle.std.proofs.Common.{◌≡◌, ◌<◌, ◌≤◌, ◌-◌, ◌+◌, ◌^◌, ℕ, suc, Bool, true, false, List, [], length, Some, None, inl, inr}
 use Rattle.std.proofs.Common.{◌∙◌, ap, ap₂, sym, refl, arith}
 use Rattle.std.proofs.lemmas.Bool.{cases_lt, eq-eqb, le-ltb, lt-ltb}
 use Rattle.std.proofs.lemmas.Bool.Decides.{nat_tests}
@@ -13,7 +13,6 @@ use Rattle.fail_interval.specs.Parts.{open_by}
 use Rattle.fail_interval.specs.declared.current.RunSoFar.{RunSoFar}
 use Rattle.flow_watch.specs.Lines.{waiting_line}
 use Rattle.flow_watch.specs.declared.form.LineForm.{LineForm}
-use Rattle.flow_watch.specs.declared.form.Waiting.{Waiting}
 use Rattle.timing_watch.specs.Watched.{Watching, is_due, is_second_later, last_told, waiting_at, waiting_text}
 use Rattle.timing_watch.specs.making.Steps.{is_quiet}
 use Rattle.timing_watch.proofs.Fronts.{last_told-le}

@@ -93,7 +93,8 @@ abbrev pub AreLinesBefore : Watching → Media → Shift → List FlowPacket →
     → Type 0
 AreLinesBefore w m shift packets n text left =
     let sound = sound_before (first_fault_below packets m.pt n) n in
-    AreLinesSoFar w.form w.every m shift (parts_before m packets shift sound) (open_before packets shift sound) text left
+    AreLinesSoFar w.form w.every m shift (parts_before m packets shift sound) (open_before packets shift sound)
+    text left
 
 -- the meters took packet n, the last one of these, and the flow's own numbers are still those before it
 pub record IsAhead (w : Watching) (m : Media) (shift : Shift) (x : WatchFlow) (packets : List FlowPacket) (n : ℕ)

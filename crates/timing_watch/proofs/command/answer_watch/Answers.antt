@@ -38,8 +38,8 @@ rest_of-requires g c =
     let media = c.args.session.now in
     let o = output_of g.K.Sink c.args.out.now c.print_captures.new.out in
     let fresh : IsFresh job media c.in_ok-watch.watch = search (rules, c.in_ok-watch.ensures.stands) in
-    left-of-session job media o c.in_ok-watch.watch c.print_captures.new.printer c.in_ok-watched.watched fresh c.in_ok-taken.ensures.some c.in_ok-watched.ensures
-    c.requires
+    left-of-session job media o c.in_ok-watch.watch c.print_captures.new.printer c.in_ok-watched.watched fresh c.in_ok-taken.ensures.some
+    c.in_ok-watched.ensures c.requires
 
 pub returns-in_err-rest_of-clause-rests : goal.returns-in_err-rest_of-clause-rests
 returns-in_err-rest_of-clause-rests g c =

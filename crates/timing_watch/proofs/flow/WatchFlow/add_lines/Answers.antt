@@ -1,4 +1,4 @@
-use Rattle.std.proofs.Common.{◌≡◌, ◌++◌, ◌∷◌, [], List, Option, Some, None, sym, ◌∙◌, subst}
+use Rattle.std.proofs.Common.{◌≡◌, ◌++◌, ◌∷◌, [], List, Option, sym, ◌∙◌, subst}
 use Rattle.timing_base.specs.Keys.{key_of}
 use Rattle.timing_base.specs.Numbered.{numbered}
 use Rattle.timing_base.specs.Media.{Media}
@@ -19,7 +19,8 @@ use Rattle.timing_watch.proofs.Taking.{if-ok}
 use Rattle.timing_watch.proofs.flow.WatchFlow.add_lines.Goals as goal
 
 -- the judge was fed the packets, also after the lines of the meters were moved
-judge-moved : (w : Watching) (m : Media) (options : FlowOptions) (old mid : WatchFlow) (packets : List FlowPacket) (p : FlowPacket) → HasTaken w m options old packets p
+judge-moved : (w : Watching) (m : Media) (options : FlowOptions) (old mid : WatchFlow) (packets : List FlowPacket) (p : FlowPacket)
+    → HasTaken w m options old packets p
     → MovesStretches old mid → JudgeStandsFor m (key_of 0 w.form.media) options mid.metered.judge (packets ++ p ∷ [])
 judge-moved w m options old mid packets p h moves =
     subst (λ (j : FlowJudge WatchMeter). JudgeStandsFor m (key_of 0 w.form.media) options j (packets ++ p ∷ [])) (sym moves.judge_is) h.fed.judge_is

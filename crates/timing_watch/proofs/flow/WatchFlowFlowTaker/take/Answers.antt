@@ -1,5 +1,4 @@
 use Rattle.std.proofs.Common.{refl}
-use Rattle.timing_watch.proofs.Ahead.{KeepsNumbers}
 use Rattle.timing_watch.proofs.Steps.{takes-record}
 use Rattle.timing_watch.proofs.Taking.{if-ok}
 use Rattle.timing_watch.proofs.flow.WatchFlowFlowTaker.take.Goals as goal

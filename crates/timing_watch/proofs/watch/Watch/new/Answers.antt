@@ -1,9 +1,8 @@
-use Rattle.std.proofs.Common.{◌≡◌, ◌^◌, ◌∷◌, ◌++◌, [], subst, sym, rules}
+use Rattle.std.proofs.Common.{◌^◌, ◌∷◌, ◌++◌, [], sym, rules}
 use Rattle.std.proofs.lemmas.List.Elements.{All-push, All-same}
 use Rattle.flow_demux.specs.Awaits.{AwaitsExpected}
 use Rattle.flow_demux.specs.declared.media_flow.MediaFlow.{MediaFlow}
 use Rattle.timing_watch.specs.making.Flows.{HasRoom, expected_next}
-use Rattle.timing_watch.specs.making.Watches.{IsFlowOf}
 use Rattle.timing_watch.specs.declared.flow.WatchFlow.{WatchFlow}
 use Rattle.timing_watch.proofs.Beginning.{flows-more}
 use Rattle.timing_watch.proofs.watch.Watch.new.Goals as goal
