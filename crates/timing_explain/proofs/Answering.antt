@@ -3,7 +3,7 @@ use Rattle.std.specs.Prelude.{◌<◌, All}
 use Rattle.std.proofs.Common.{◌≡◌, ◌+◌, ℕ, List, [], ◌∷◌, length, Option, ap, ◌∙◌, arith}
 use Rattle.std.proofs.lemmas.List.Elements.{All-cons, All-nil, All-weaker}
 use Rattle.timing_base.specs.Shifts.{FlowOptions}
-use Rattle.timing_base.specs.Captures.{Record, joined}
+use Rattle.timing_base.specs.Captures.{Record}
 use Rattle.timing_base.specs.Choices.{chosen, first_chosen}
 use Rattle.timing_base.specs.Jobs.{ExplainJob}
 use Rattle.timing_base.specs.Media.{Media}

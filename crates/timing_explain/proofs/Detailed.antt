@@ -1,6 +1,6 @@
 -- The details of the packets of a run: with one packet more, with those that are committed, and when all packets came.
-use Rattle.std.proofs.Common.{◌≡◌, ◌<◌, ◌≤◌, ◌+◌, ◌-◌, ◌*◌, ◌/◌, ◌%◌, ◌++◌, ◌∷◌, ◌==◌, [], ℕ, zero, suc, Bool, true, false, List, length, slice_index}
-use Rattle.std.proofs.Common.{ℤ, ◌⊎◌, inl, inr, refl, ap, ◌∙◌, sym, subst, arith, length-append}
+use Rattle.std.proofs.Common.{◌≡◌, ◌<◌, ◌≤◌, ◌+◌, ◌*◌, ◌/◌, ◌%◌, ◌++◌, ◌∷◌, ◌==◌, [], ℕ, false, List, length, slice_index}
+use Rattle.std.proofs.Common.{ℤ, ◌⊎◌, inl, inr, ap, ◌∙◌, sym, subst, arith, length-append}
 use Rattle.std.proofs.lemmas.Bool.{cases_eq, ne_eqb}
 use Rattle.std.proofs.lemmas.Nat.{div-add-mod', le-div}
 use Rattle.timing_base.specs.Media.{Media}
@@ -19,7 +19,7 @@ use Rattle.flow_measure.proofs.Packets.{listed-front}
 use Rattle.flow_findings.specs.Details.{AreOverfull, IsOverfull, greatest_of, span_at}
 use Rattle.flow_findings.specs.declared.inputs.Overfull.{Overfull}
 use Rattle.flow_page.proofs.lemmas.drawing.Feeding.{curve-none}
-use Rattle.flow_page.proofs.lemmas.drawing.Keeping.{front-of, listed-before}
+use Rattle.flow_page.proofs.lemmas.drawing.Keeping.{front-of}
 use Rattle.timing_explain.specs.details.Groups.{TimesGroups}
 use Rattle.timing_explain.specs.details.Overfull.{FindAll, FindsOverfull}
 use Rattle.timing_explain.specs.details.Packets.{Details, MayBegin}

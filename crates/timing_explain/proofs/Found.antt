@@ -1,5 +1,5 @@
 -- The longest of the judged runs of a flow, with one run more; and the details of a run, with one packet more.
-use Rattle.std.proofs.Common.{◌≡◌, ◌<◌, ◌≤◌, ◌*◌, ◌++◌, ◌∷◌, [], ℕ, zero, suc, true, false, nat_lt, List, length, Option, Some, None}
+use Rattle.std.proofs.Common.{◌≡◌, ◌<◌, ◌≤◌, ◌*◌, ◌++◌, ◌∷◌, [], ℕ, zero, suc, nat_lt, List, length, Option, Some, None}
 use Rattle.std.proofs.Common.{Bool, inl, inr, refl, ap, ◌∙◌, sym, subst, arith, append_assoc}
 use Rattle.std.specs.Prelude.{All, if◌then◌else◌}
 use Rattle.std.proofs.lemmas.Bool.{cases_Bool, ltb-false, ltb-true}

@@ -1,9 +1,8 @@
 -- What is known of captures as a whole is what their packet records define.
-use Rattle.std.proofs.Common.{◌≡◌, Bool, List, ap, ap₂, ◌∙◌}
+use Rattle.std.proofs.Common.{◌≡◌, Bool, List, ap₂, ◌∙◌}
 use Rattle.timing_base.specs.Captures.{Record}
 use Rattle.capture_scan.specs.Scans.{IsFound}
 use Rattle.capture_scan.specs.declared.found.Found.{Found}
-use Rattle.capture_scan.specs.report.Contents.{contents, contents_of}
 use Rattle.capture_scan.proofs.lemmas.report.Founds.{found-contents}
 use Rattle.flow_findings.specs.declared.inputs.KnownCaptures.{KnownCaptures}
 use Rattle.timing_explain.specs.Captures.{known_of}

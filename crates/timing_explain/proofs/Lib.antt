@@ -2,7 +2,10 @@ pub mod Answering
 pub mod Detailed
 pub mod Found
 pub mod Known
+pub mod OfVerdict
+pub mod Parts
 pub mod Placed
 pub mod Showing
 pub mod Some
+pub mod Spans
 pub mod Unique

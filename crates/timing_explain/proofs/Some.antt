@@ -15,7 +15,7 @@ use Rattle.timing_base.specs.declared.media.Kind.TheVariants.{N, NL, W}
 use Rattle.pcap_reader.specs.Records.{AreRecords}
 use Rattle.run_meter.specs.Runs.{JudgedPart, stamps_of}
 use Rattle.fail_interval.specs.Parts.{judged_parts}
-use Rattle.flow_findings.specs.Details.{AreDetails, AreOverfull, IsOverfull, greatest_of, span_at}
+use Rattle.flow_findings.specs.Details.{AreDetails, IsOverfull, greatest_of, span_at}
 use Rattle.flow_findings.specs.declared.inputs.KnownFlow.{KnownFlow}
 use Rattle.flow_findings.specs.declared.inputs.Overfull.{Overfull}
 use Rattle.flow_findings.specs.declared.inputs.RunDetails.{RunDetails}

@@ -1,17 +1,18 @@
 //! Laws of the definitions. Each function is a theorem: it does nothing, and its clauses are proved.
 
-ghost use Rattle.std.specs.Prelude.{◌≡◌, ◌<◌, ◌^◌, ◌∷◌, [], ℕ, All, List, Some, false, length, true};
+ghost use Rattle.std.specs.Prelude.{◌≡◌, ◌≤◌, ◌<◌, ◌^◌, ◌∷◌, [], ◌+ℤ◌, ℕ, ℤ, All, List, Some, false, length, pos, true};
 ghost use Rattle.timing_base.specs.Captures.{IsStamp, Record, joined};
-ghost use Rattle.timing_base.specs.Flows.{AreStamped};
 ghost use Rattle.timing_base.specs.Jobs.{ExplainJob, IsCaptureJob};
 ghost use Rattle.timing_base.specs.Media.{IsMedia, Media};
-ghost use Rattle.timing_base.specs.Shifts.{AreFlowOptions, FlowOptions};
+ghost use Rattle.timing_base.specs.Shifts.{FlowOptions};
 ghost use Rattle.timing_base.specs.declared.capture.FileNote.{FileNote};
 ghost use Rattle.timing_base.specs.declared.packet.FlowPacket.{FlowPacket};
+ghost use Rattle.flow_findings.specs.Details.{span_at};
 ghost use Rattle.flow_findings.specs.Lists.{AreOfVerdict};
 ghost use Rattle.flow_findings.specs.Numbers.{numbers_of};
 ghost use Rattle.flow_findings.specs.declared.inputs.KnownFlow.{KnownFlow};
 ghost use Rattle.flow_findings.specs.declared.inputs.ShownRun.{ShownRun};
+ghost use Rattle.flow_measure.specs.Groups.{firsts_of, lasts_of, since_at};
 ghost use Rattle.pcap_reader.specs.Records.{AreRecords};
 ghost use Rattle.timing_steps.specs.Answers.{Answer};
 ghost use Rattle.timing_steps.specs.Queries.{HasAnswer};
@@ -36,12 +37,20 @@ pub fn one_explain_answer()
 {}
 
 /// The numbers of a run that is shown are those of its verdict: the sender type that its findings are about passes
-/// exactly if the bucket never exceeds C_MAX and no packet breaks the buffer. So the laws of `flow_findings` on lists hold
-/// for each flow that is explained.
+/// exactly if the bucket never exceeds C_MAX and no packet breaks the buffer. So the laws of `flow_findings` on lists
+/// hold for each flow that is explained.
 pub fn numbers_are_of_the_verdict()
     ensures { (m : Media) (number : ℕ) (options : FlowOptions) (packets : List FlowPacket) (flow : KnownFlow)
-        (s : ShownRun) → IsMedia m → AreFlowOptions options → length packets < 2 ^ 41 → AreStamped packets
-        → IsKnownFlow m number options packets flow → flow.shown ≡ Some s → AreOfVerdict (numbers_of m s) }
+        (s : ShownRun) → IsKnownFlow m number options packets flow → flow.shown ≡ Some s
+        → AreOfVerdict (numbers_of m s) }
+{}
+
+/// The time from the first packet of a frame or field to its last, of which `span` is the greatest, is the difference
+/// of these packets' times since the instant at which the frame or field begins, although both are rounded down.
+pub fn span_is_a_difference()
+    ensures { (m : Media) (anchor : ℤ) (n k : ℕ) (stamp : ℕ → ℕ)
+        → IsMedia m → firsts_of n stamp k ≤ lasts_of n stamp k
+        → since_at m anchor (lasts_of n stamp) k ≡ since_at m anchor (firsts_of n stamp) k +ℤ pos (span_at n stamp k) }
 {}
 
 /// 1,600,000,000.000764 s is a whole number of microseconds, and 444 ns later isn't one.

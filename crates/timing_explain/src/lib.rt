@@ -5,7 +5,7 @@
 //! the captures, and for timestamps that aren't whole microseconds (`micros`).
 //!
 //! - `details`: what the findings on a run need beside its measurements.
-//! - `laws`: contents have one answer; examples that are worked by hand.
+//! - `laws`: contents have one answer; the numbers of a run are those of its verdict; examples that are worked by hand.
 //!
 //! Captures, media, packets and frames or fields count from 0, runs and packet records from 1; capture timestamps are
 //! nanoseconds.

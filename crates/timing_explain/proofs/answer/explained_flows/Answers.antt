@@ -1,4 +1,4 @@
-use Rattle.std.proofs.Common.{◌<◌, ◌∙◌, ap, length, map, take, take_all}
+use Rattle.std.proofs.Common.{◌<◌, ◌∙◌, ap, length, map, take_all}
 use Rattle.std.proofs.lemmas.List.Elements.{All-map, All-same}
 use Rattle.flow_findings.specs.Findings.{explained}
 use Rattle.flow_findings.specs.declared.explained.Explained.{Explained}

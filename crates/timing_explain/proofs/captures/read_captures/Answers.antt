@@ -1,4 +1,4 @@
-use Rattle.std.proofs.Common.{◌≡◌, [], refl, subst, true}
+use Rattle.std.proofs.Common.{◌≡◌, [], subst, true}
 use Rattle.timing_base.specs.Captures.{joined}
 use Rattle.timing_measure.proofs.Taken.{flows-end}
 use Rattle.timing_explain.specs.Captures.{known_of}

@@ -34,12 +34,14 @@ returns-clause-follows g c =
     let same : inside ≡ flows = ap (λ (j : ExplainJob). j.flows) c.job.view_is in
     let number = c.first_chosen.ensures ∙ ap (λ (f : CaptureJob). first_chosen f.media) c.flows.view_is in
     reads-all (explain_query job) session (seen_of g.H.Shelf c.args.shelf.now c.read_captures.new.shelf)
-    (Ok c.in_ok-explained_answer.field-0) (subst (λ (f : CaptureJob). AreThere (g.H.Shelf.lacks c.args.shelf.now) f.captures) same c.in_ok-captures.ensures.there)
+    (Ok c.in_ok-explained_answer.field-0)
+    (subst (λ (f : CaptureJob). AreThere (g.H.Shelf.lacks c.args.shelf.now) f.captures) same c.in_ok-captures.ensures.there)
     (λ texts whole. has-explained job session texts read c.in_ok-explained_answer.field-0
     (subst (λ (f : CaptureJob). IsExplainIn f.options (first_chosen f.media) (chosen f.media session) texts read) same
     (subst (λ (l : List Media). IsExplainIn inside.options (first_chosen inside.media) l texts read) c.judged_media-media.ensures.are
     (subst (λ n. IsExplainIn inside.options n c.judged_media-media.result.now texts read) number
-    (c.in_ok-captures.ensures.told texts (subst (λ (f : CaptureJob). AreTold (classic_texts (g.H.Shelf.text c.args.shelf.now)) f.captures texts) (sym same) whole)))))
+    (c.in_ok-captures.ensures.told texts
+    (subst (λ (f : CaptureJob). AreTold (classic_texts (g.H.Shelf.text c.args.shelf.now)) f.captures texts) (sym same) whole)))))
     c.in_ok-explained_answer.ensures.answers) tt
 
 pub returns-in_err-captures-clause-follows : goal.returns-in_err-captures-clause-follows

@@ -1,7 +1,7 @@
 use Rattle.std.proofs.Common.{◌≡◌, ◌-◌, ◌+◌, ℕ, suc, max, ap, ap₂, ◌∙◌, refl, sym, rules, arith}
 use Rattle.std.proofs.lemmas.Int.{to_z-of_z}
 use Rattle.std.specs.Int.{w128}
-use Rattle.flow_measure.specs.Groups.{firsts_of, lasts_of, since_at}
+use Rattle.flow_measure.specs.Groups.{firsts_of, since_at}
 use Rattle.flow_measure.proofs.Grouped.{since-first}
 use Rattle.flow_findings.specs.Details.{greatest_of, span_at}
 use Rattle.timing_explain.proofs.details.groups.GroupTimes.end.Goals as goal

@@ -1,4 +1,4 @@
-use Rattle.std.proofs.Common.{◌≡◌, FitsSigned, inl, inr, ap, ◌∙◌, sym, subst, rules}
+use Rattle.std.proofs.Common.{FitsSigned, inl, inr, ap, ◌∙◌, sym, subst, rules}
 use Rattle.std.proofs.lemmas.Int.{to_z-of_z}
 use Rattle.std.specs.Int.{w128}
 use Rattle.flow_measure.specs.Groups.{firsts_of, since_at}

@@ -1,7 +1,6 @@
-use Rattle.std.proofs.Common.{◌≤◌, ◌++◌, ◌∷◌, [], ap, sym, subst}
+use Rattle.std.proofs.Common.{◌≤◌, ◌++◌, ◌∷◌, [], sym, subst}
 use Rattle.run_meter.specs.Runs.{part_of}
 use Rattle.timing_explain.specs.details.Told.{Finds, IsFoundRun}
-use Rattle.timing_explain.specs.declared.details.longest.FoundRun.{FoundRun}
 use Rattle.timing_explain.proofs.Found.{found-more, found-part}
 use Rattle.timing_explain.proofs.details.meter.DetailsMeterRunMeter.close.Goals as goal
 

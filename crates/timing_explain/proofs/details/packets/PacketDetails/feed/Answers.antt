@@ -1,4 +1,4 @@
-use Rattle.std.proofs.Common.{◌≡◌, ◌<◌, ◌+◌, ◌-◌, ◌*◌, ◌++◌, ◌∷◌, [], ℕ, length, slice_index, refl, ap, ◌∙◌, sym, subst, arith, length-append}
+use Rattle.std.proofs.Common.{◌≡◌, ◌+◌, ◌-◌, ◌*◌, ◌++◌, ◌∷◌, [], length, slice_index, refl, ap, ◌∙◌, sym, subst, arith, length-append}
 use Rattle.flow_measure.specs.Groups.{firsts_of, lasts_of}
 use Rattle.flow_measure.specs.declared.group_walk.GroupWalk.{GroupWalk}
 use Rattle.flow_measure.proofs.Packets.{listed-front, listed-last}

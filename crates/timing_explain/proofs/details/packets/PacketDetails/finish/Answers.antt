@@ -1,8 +1,7 @@
-use Rattle.std.proofs.Common.{◌≡◌, ◌<◌, ◌≤◌, ◌-◌, ◌*◌, ◌%◌, ◌/◌, length, slice_index, refl, ap, ◌∙◌, sym, subst, arith}
+use Rattle.std.proofs.Common.{◌≡◌, ◌<◌, ◌≤◌, ◌-◌, ◌*◌, length, slice_index, refl, ap, ◌∙◌, subst, arith}
 use Rattle.std.proofs.Math.Nat.{mul-le-mul_left}
 use Rattle.flow_measure.specs.Groups.{firsts_of, since_at}
 use Rattle.flow_measure.specs.Occupancy.{buckets_of}
-use Rattle.flow_measure.specs.Run.{anchor_in}
 use Rattle.flow_measure.specs.Slope.{IsSlope}
 use Rattle.flow_measure.proofs.Grouped.{groups-are, none-left}
 use Rattle.flow_findings.specs.Details.{greatest_of, span_at}
