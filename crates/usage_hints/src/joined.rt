@@ -35,7 +35,7 @@ pub struct JoinedFlows<'a> {
 }
 
 /// A packet record from which on a flow of joined captures isn't judged.
-#[derive(Clone, Copy, Debug, PartialEq, Eq)]
+#[derive(Clone, Copy)]
 pub struct Refusal<'a> {
     /// The capture that has the record.
     pub capture: &'a str,
