@@ -1,6 +1,5 @@
 -- The lines of a `Watch` that are ready are printed.
-use Rattle.std.proofs.Common.{◌≡◌, ◌++◌, ℕ, List, [], ap, ◌∙◌, sym, subst, append-nil}
-use Rattle.timing_base.specs.Captures.{Record}
+use Rattle.std.proofs.Common.{◌≡◌, ◌++◌, [], ap, ◌∙◌, sym, subst, append-nil}
 use Rattle.flow_demux.specs.Rooms.{flows_of}
 use Rattle.flow_demux.specs.declared.demux.Demux.{Demux}
 use Rattle.timing_watch.specs.Watches.{AreLines}

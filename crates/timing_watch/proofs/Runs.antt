@@ -1,7 +1,7 @@
 -- The complete frames or fields of the run that is open before a packet, and of the one that is open after it.
 use Rattle.std.specs.Prelude.{⊤, slice_index, slice_range}
-use Rattle.std.proofs.Common.{◌≡◌, ◌<◌, ◌≤◌, ◌-◌, ◌+◌, ◌*◌, ◌/◌, ◌++◌, ◌∷◌, ℕ, suc, Bool, true, false, List, [], length, drop, take, Option, Some, None}
-use Rattle.std.proofs.Common.{◌∙◌, ap, ap₂, sym, subst, refl, arith, append-nil, length-append, take-add, add-one}
+use Rattle.std.proofs.Common.{◌≡◌, ◌<◌, ◌≤◌, ◌-◌, ◌+◌, ◌*◌, ◌/◌, ◌++◌, ◌∷◌, ℕ, suc, true, false, List, [], length, drop, take, Option, Some, None}
+use Rattle.std.proofs.Common.{◌∙◌, ap, ap₂, sym, subst, refl, arith, length-append, take-add, add-one}
 use Rattle.std.proofs.Math.Nat.{mul-div_cancel_left}
 use Rattle.std.proofs.lemmas.List.{length-drop, length-take-le}
 use Rattle.timing_base.specs.Flows.{cuts, earlier_or, fault, first_fault_below, has_marker, is_cut, last_place, markers, packet}

@@ -10,7 +10,7 @@ use Rattle.timing_base.specs.Flows.{FirstFault, fault, first_fault, first_fault_
 use Rattle.timing_base.specs.Jobs.{IsEvery, IsWatchJob, WatchJob}
 use Rattle.timing_base.specs.Media.{IsMedia, Media}
 use Rattle.timing_base.specs.Numbered.{numbered}
-use Rattle.timing_base.specs.Shifts.{FlowOptions, Shift}
+use Rattle.timing_base.specs.Shifts.{Shift}
 use Rattle.timing_base.specs.declared.capture.FileNote.{FileNote}
 use Rattle.timing_base.specs.declared.packet.FlowPacket.{FlowPacket}
 use Rattle.timing_base.specs.declared.packet.PacketFault.{PacketFault}

@@ -1,5 +1,5 @@
 -- A packet record is taken by the flows of all media, and their lines are moved.
-use Rattle.std.proofs.Common.{◌≡◌, ◌+◌, ◌++◌, ◌∷◌, ℕ, List, [], length, Option, Some, None, refl, ap, ap₂, ◌∙◌, sym, subst, append-nil, append_assoc}
+use Rattle.std.proofs.Common.{◌≡◌, ◌+◌, ◌++◌, ◌∷◌, ℕ, List, [], Option, Some, None, refl, ap, ap₂, ◌∙◌, sym, subst, append-nil, append_assoc}
 use Rattle.std.specs.List.{cons_option}
 use Rattle.std.specs.Prelude.{Err, IfOk, Ok, Result}
 use Rattle.std.proofs.lemmas.List.Elements.{filter_map-append}
@@ -15,7 +15,7 @@ use Rattle.flow_demux.specs.declared.media_flow.MediaFlow.{MediaFlow}
 use Rattle.timing_watch.specs.Watched.{AddsPacket, AreFlowLines}
 use Rattle.timing_watch.specs.Watches.{AddsIf, AddsRecord, AreLinesAfter, watching_of}
 use Rattle.timing_watch.specs.making.Flows.{MovesText, StandsFor as FlowStandsFor, TakesOn, text_in}
-use Rattle.timing_watch.specs.making.Watches.{AreFlows, GoesOn, IsFlowOf, StandsFor, text_of}
+use Rattle.timing_watch.specs.making.Watches.{AreFlows, GoesOn, IsFlowOf, text_of}
 use Rattle.timing_watch.specs.declared.flow.WatchFlow.{WatchFlow}
 use Rattle.timing_watch.specs.declared.watch.Watch.{Watch}
 use Rattle.timing_watch.proofs.Lines.{lines-joined}
@@ -77,6 +77,11 @@ took-each job items r number (m ∷ media) (o ∷ olds) (d ∷ mids) (n ∷ news
 pub both-ok : {T E : Type 0} {P Q R : T → Type 0} (result : Result T E) → ((x : T) → P x → Q x → R x) → IfOk result P → IfOk result Q → IfOk result R
 both-ok (Ok x) next p q = next x p q
 both-ok (Err e) next p q = tt
+
+-- what follows from a clause of a call that returned
+pub if-ok : {T E : Type 0} {P Q : T → Type 0} (result : Result T E) → ((x : T) → P x → Q x) → IfOk result P → IfOk result Q
+if-ok (Ok x) next p = next x p
+if-ok (Err e) next p = tt
 
 -- what is so of each value that a call may return
 pub ok-always : {T E : Type 0} {P : T → Type 0} (result : Result T E) → ((x : T) → P x) → IfOk result P

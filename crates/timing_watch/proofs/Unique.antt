@@ -11,9 +11,8 @@ use Rattle.timing_base.specs.declared.packet.FlowPacket.{FlowPacket}
 use Rattle.timing_base.specs.declared.packet.PacketFault.{PacketFault}
 use Rattle.udp_rtp.specs.Flow.{flow, flow_packet}
 use Rattle.run_meter.specs.Runs.{OpenPart}
-use Rattle.fail_interval.specs.Current.{unjudged_by}
 use Rattle.fail_interval.specs.Parts.{open_before}
-use Rattle.flow_watch.specs.Lines.{gap_line, refused_line}
+use Rattle.flow_watch.specs.Lines.{gap_line}
 use Rattle.flow_watch.specs.Watched.{groups_in, open_part}
 use Rattle.flow_watch.proofs.Unique.{left-line-once, line-once}
 use Rattle.timing_steps.specs.Answers.{Answer}

@@ -1,10 +1,11 @@
 -- What each packet of a flow adds to the lines of the flow, and what the end of the capture adds. So the lines of some
--- packets are the first part of the lines of these and more. m is the media, and `shift` that of the capture timestamps.
--- Packets count from 0, packet records from 1. This project's profile: which lines there are.
-use Rattle.std.specs.Prelude.{◌≡◌, ◌+◌, ◌-◌, ◌*◌, ◌^◌, ◌&&◌, ◌==◌, ℕ, zero, suc, Bool, true, false, if◌then◌else◌, nat_le}
-use Rattle.std.specs.Prelude.{nat_lt}
+-- packets are the first part of the lines of these and more. m is the media, and `shift` that of the capture
+-- timestamps. Packets count from 0, packet records from 1. This project's profile: which lines there are.
+use Rattle.std.specs.Prelude.{◌≡◌, ◌+◌, ◌-◌, ◌^◌, ◌&&◌, ◌==◌, ℕ, zero, suc, Bool, true, false, if◌then◌else◌}
+use Rattle.std.specs.Prelude.{nat_le, nat_lt}
 use Rattle.std.specs.Prelude.{List, [], ◌∷◌, ◌++◌, length, Option, Some, None}
-use Rattle.timing_base.specs.Flows.{FirstFault, expected_number, fault, first_fault, first_fault_below, has_marker, is_cut}
+use Rattle.timing_base.specs.Flows.{FirstFault, expected_number, fault, first_fault, first_fault_below, has_marker}
+use Rattle.timing_base.specs.Flows.{is_cut}
 use Rattle.timing_base.specs.Flows.{packet, rtp, run_start}
 use Rattle.timing_base.specs.Media.{Media}
 use Rattle.timing_base.specs.Numbered.{numbered}

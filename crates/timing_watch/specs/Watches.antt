@@ -1,7 +1,7 @@
 -- The output and status of `watch`, by the contents of its inputs, which are the SDP and then the captures, as one: the
 -- lines that each packet record adds, those that the end adds, and the report of `check`. Media count from 0. This
 -- project's profile.
-use Rattle.std.specs.Prelude.{◌≡◌, ◌+◌, ℕ, Bool, true, if◌then◌else◌, List, [], ◌∷◌, ◌++◌, codes, Option, Some, None}
+use Rattle.std.specs.Prelude.{◌≡◌, ◌+◌, ℕ, true, if◌then◌else◌, List, [], ◌∷◌, ◌++◌, codes, Option, Some, None}
 use Rattle.std.specs.Option.{unwrap_or}
 use Rattle.timing_base.specs.Captures.{Record, joined}
 use Rattle.timing_base.specs.Choices.{chosen, first_chosen}
@@ -84,8 +84,8 @@ check_of job = record {
 -- the line `end` and the report of `check`, or the object of both
 abbrev pub end_text : WatchJob → List Media → List FileNote → List Row → List ℕ
 end_text job session notes rows =
-    if job.json then codes "{\"event\":\"end\",\"report\":" ++ (compact_text (report_data (check_of job) session notes rows)
-    ++ codes "}\n")
+    let object = compact_text (report_data (check_of job) session notes rows) in
+    if job.json then codes "{\"event\":\"end\",\"report\":" ++ (object ++ codes "}\n")
     else codes "end\n" ++ report_text (check_of job) session notes rows
 
 -- the results of the media that are judged, over the packet records of all captures as one
@@ -95,8 +95,8 @@ rows_of_job job session items =
 
 -- ---- the whole
 
--- the answer of `watch` over the media of an SDP, and over the packet records of all captures as one, which end in these
--- ways
+-- the answer of `watch` over the media of an SDP, and over the packet records of all captures as one, which end in
+-- these ways
 pub record DefinesWatch (job : WatchJob) (session : List Media) (items : List Record) (notes : List FileNote)
     (answer : Answer) : Type 0 where
   pub lines : List ℕ

@@ -8,7 +8,7 @@ ghost use Rattle.timing_watch.specs.making.Watches.{IsFlowOf};
 
 use crate::flow::WatchFlow;
 use flow_demux::MediaFlow;
-use flow_watch::{LineForm, groups_per_second};
+use flow_watch::groups_per_second;
 use std::alloc::Global;
 use timing_base::{Media, WatchJob};
 
@@ -35,14 +35,9 @@ pub(crate) fn begin_flow(
     ensures awaits { AwaitsExpected expected_next result }
     ensures stands { IsFlowOf job.now [] number media.now result }
 {
-    let form = LineForm {
-        media: number,
-        interlaced: media.interlaced,
-        json: job.json,
-    };
     let every = every_of(job, media);
     MediaFlow::new(
         media,
-        WatchFlow::new(alloc, media, job.flows.options, form, every),
+        WatchFlow::new(alloc, media, number, job.flows.options, every, job.json),
     )
 }

@@ -1,6 +1,7 @@
 //! `watch`: prints the lines of the flows of a job while captures are read, and then the report.
 
-ghost use Rattle.std.specs.Prelude.{◌≡◌, ◌≤◌, ℕ, IfErr, IfOk, None, true};
+ghost use Rattle.std.specs.Prelude.{◌≡◌, ◌≤◌, ℕ, IfErr, IfOk, None, length, true};
+ghost use Rattle.timing_base.specs.Choices.{chosen};
 ghost use Rattle.timing_outside.specs.Shelves.{StaysAs};
 ghost use Rattle.timing_steps.specs.Answers.{CaptureRose, seen_of};
 ghost use Rattle.timing_steps.specs.Flows.{no_choice};
@@ -12,7 +13,7 @@ ghost use Rattle.timing_watch.specs.Watches.{watch_query};
 use crate::report::end_of;
 use crate::watch::{Watch, Watched};
 use std::alloc::{AllocError as OutOfMemory, Global};
-use timing_base::{FileName, FileNote, Session, WatchJob};
+use timing_base::{FileName, FileNote, Media, Session, WatchJob};
 use timing_outside::{Shelf, Sink};
 use timing_report::{Input, status_of};
 use timing_steps::{
@@ -44,6 +45,16 @@ fn rest_of(
 ghost use Rattle.timing_report.specs.Outcomes.{AreOfSession};
 ghost use Rattle.timing_watch.specs.making.Watches.{rest_of};
 
+/// Returns the media of a session that a job watches: all, or the chosen one. They are at most 64.
+fn watched_media<'a>(job: &WatchJob, session: &'a Session) -> &'a [Media]
+    ensures are { result.now ≡ chosen job.now.flows.media session.now }
+    ensures few { length result.now ≤ 64 }
+{
+    let count = session.media.len();
+    prove!(count <= 64);
+    chosen_media(session, job.flows.media)
+}
+
 /// Reads the captures of a job, and prints the lines of its flows meanwhile. Returns the rest of the answer that isn't
 /// printed yet, or the reason why there is no answer, or not the whole.
 fn answer_watch<H: Shelf, K: Sink>(
@@ -65,7 +76,7 @@ fn answer_watch<H: Shelf, K: Sink>(
     ensures stays { StaysAs H.text H.lacks H.faults shelf.old shelf.new }
 {
     let flows = &job.flows;
-    let media = chosen_media(session, flows.media);
+    let media = watched_media(job, session);
     let mut watch = Watch::new(alloc, job, media, first_chosen(flows.media))?;
     let taken = print_captures(alloc, shelf, flows.captures.as_slice(), &mut watch, out)?;
     let watched = watch.finish()?;

@@ -2,7 +2,7 @@
 
 ghost use Rattle.std.specs.Prelude.{◌≡◌, ◌≤◌, ◌+◌, ◌^◌, ◌++◌, [], ℕ, List, IfOk, string_bytes, true};
 ghost use Rattle.timing_base.specs.Shifts.{FlowOptions as FlowOptionsValue};
-ghost use Rattle.timing_base.specs.Media.{Media as MediaValue};
+ghost use Rattle.timing_base.specs.Media.{IsMedia, Media as MediaValue};
 ghost use Rattle.timing_base.specs.declared.packet.FlowPacket.{FlowPacket as PacketValue};
 
 use fail_interval::{Metered, RunSoFar};
@@ -33,6 +33,7 @@ pub struct WatchFlow {
     since: u64,
     /// Whether a packet had a fault. No line follows then.
     refused: bool,
+    ghost media_is: { IsMedia media },
 }
 
 impl WatchFlow {
@@ -42,23 +43,32 @@ impl WatchFlow {
     ghost use Rattle.timing_base.specs.Keys.{key_of};
     ghost use Rattle.fail_interval.specs.Row.{row};
 
-    /// Returns the taker of the flow of a media before the first packet, without a line. `form` has the number of the
-    /// media, and a complete stretch has `every` frames or fields.
+    /// Returns the taker of the flow of a media before the first packet, without a line. `number` is that of the media,
+    /// counted from 0. A complete stretch has `every` frames or fields. With `json` each line is a JSON object.
     pub fn new(
         alloc: Global,
         media: &Media,
+        number: u32,
         options: FlowOptions,
-        form: LineForm,
         every: u32,
+        json: bool,
     ) -> WatchFlow
         requires { 1 ≤ every }
         ensures room { HasRoom (2 ^ 41) result }
         ensures text { string_bytes result.text ≡ [] }
-        ensures stands { StandsFor (record { form = form; every = every }) media.now options result [] }
+        ensures stands { StandsFor (record {
+          form = record { media = number; interlaced = media.now.interlaced; json = json };
+          every = every;
+        }) media.now options result [] }
     {
         let key = FlowKey {
             file: 0,
-            media: form.media,
+            media: number,
+        };
+        let form = LineForm {
+            media: number,
+            interlaced: media.interlaced,
+            json,
         };
         let lines = WatchLines::new(alloc, form, every);
         WatchFlow {
@@ -86,14 +96,16 @@ impl WatchFlow {
         Ok(())
     }
 
-    /// Adds the lines of a flow that isn't judged any more, for this reason.
+    /// Adds the line of what is left of the last stretch, and that of a flow that isn't judged any more, for this
+    /// reason.
     fn add_refusal(&mut self, reason: Unjudged) -> Result<(), OutOfMemory>
         ensures { IfOk result (λ _. AddsRefusal reason self.old self.new) }
     {
         self.refused = true;
-        self.metered.out.end()?;
-        self.add_stretches()?;
         let form = self.metered.out.form;
+        if let Some(left) = self.metered.out.open {
+            form.add_stretch(&mut self.text, &left)?;
+        }
         form.add_refused(self.alloc, &mut self.text, &self.media, reason)
     }
 
@@ -135,8 +147,6 @@ impl WatchFlow {
     }
 
     /// Adds the lines of a packet that was taken, and came at `at`.
-    #[cold]
-    #[inline(never)]
     fn add_lines(&mut self, at: u64) -> Result<(), OutOfMemory>
         ensures expects { IfOk result (λ _. expected_next self.new ≡ expected_next self.old) }
         ensures room { (count : ℕ) → IfOk result (λ _. HasRoom count self.old → HasRoom count self.new) }
@@ -144,6 +154,9 @@ impl WatchFlow {
             (packets : List PacketValue) (p : PacketValue) → p.at ≡ at → HasTaken w m options self.old packets p
             → TookPacket w m options self.old self.new packets p) }
     {
+        if self.refused {
+            return Ok(());
+        }
         self.add_stretches()?;
         if let Some(reason) = self.metered.judge.refusal() {
             return self.add_refusal(reason);
@@ -201,15 +214,16 @@ impl FlowTaker for WatchFlow {
 
     #[inline(always)]
     fn take_next(&mut self, packet: &FlowPacket, frame: &[u8]) -> Result<bool, OutOfMemory> {
-        self.metered.take_next(packet, frame)
+        if !self.metered.take_next(packet, frame)? {
+            return Ok(false);
+        }
+        self.add_lines(packet.at)?;
+        Ok(true)
     }
 
     #[inline(always)]
     fn take(&mut self, packet: &FlowPacket, frame: &[u8]) -> Result<(), OutOfMemory> {
         self.metered.take(packet, frame)?;
-        if self.refused {
-            return Ok(());
-        }
         self.add_lines(packet.at)
     }
 }

@@ -1,11 +1,11 @@
 -- The packets of a flow that a `WatchFlow` has taken, and its lines that weren't moved yet.
-use Rattle.std.specs.Prelude.{◌≡◌, ◌≤◌, ◌+◌, ◌-◌, ℕ, Bool, true, false, is_some, List, [], ◌∷◌, ◌++◌, length, Option, Some, None}
-use Rattle.std.specs.Prelude.{string_bytes}
+use Rattle.std.specs.Prelude.{◌≡◌, ◌≤◌, ◌<◌, ◌+◌, ◌-◌, ℕ, true, false, is_some, List, [], ◌∷◌, ◌++◌, length, Option}
+use Rattle.std.specs.Prelude.{None, string_bytes}
 use Rattle.std.specs.List.{cons_option}
 use Rattle.std.proofs.Common.{append-nil, append_assoc, ap, refl, subst, sym, ◌∙◌}
 use Rattle.std.proofs.lemmas.List.Elements.{filter_map-append}
 use Rattle.timing_base.specs.Captures.{Record}
-use Rattle.timing_base.specs.Flows.{first_fault, packet}
+use Rattle.timing_base.specs.Flows.{cuts, first_fault, last_place, markers, packet}
 use Rattle.timing_base.specs.Keys.{key_of}
 use Rattle.timing_base.specs.Media.{Media}
 use Rattle.timing_base.specs.Numbered.{numbered}
@@ -13,11 +13,8 @@ use Rattle.timing_base.specs.Shifts.{FlowOptions}
 use Rattle.timing_base.specs.declared.packet.FlowPacket.{FlowPacket}
 use Rattle.timing_base.specs.declared.packet.Rtp.{Rtp}
 use Rattle.udp_rtp.specs.Flow.{flow, flow_packet}
-use Rattle.fail_interval.specs.Current.{open_run_of}
 use Rattle.fail_interval.specs.Meterings.{HasRoom as MeteredHasRoom, IsFed, expected_next as metered_next}
 use Rattle.fail_interval.specs.Meterings.{room_less as metered_less}
-use Rattle.fail_interval.specs.Stands.{StandsFor as JudgeStandsFor}
-use Rattle.fail_interval.specs.declared.current.RunSoFar.{RunSoFar}
 use Rattle.flow_watch.specs.Watched.{PastLines, Tells}
 use Rattle.flow_watch.specs.making.Meters.{StandsFor as MeterStandsFor}
 use Rattle.timing_watch.specs.Watched.{AreFlowLines, Watching, last_told}
@@ -27,39 +24,32 @@ use Rattle.timing_watch.specs.declared.flow.WatchFlow.{WatchFlow}
 abbrev pub text_in : WatchFlow → List ℕ
 text_in x = string_bytes x.text
 
--- the first packet of the open run; packet 0 before the first one
-abbrev pub first_of_run : WatchFlow → ℕ
-first_of_run x = x.before
+-- the flow's own numbers are those of the run that is open before packet n
+pub record IsAtRun (packets : List FlowPacket) (n : ℕ) (x : WatchFlow) : Type 0 where
+  pub run_is : x.run ≡ length (cuts packets n) + 1
+  pub before_is : x.before ≡ last_place (0 ∷ cuts packets n)
+  pub since_is : length (markers packets x.before n) < 2
+      → x.since ≡ (packet packets (last_told packets x.before (n - (x.before + 1)))).at
 
--- the flow's own numbers are those of its open run, the last of these packets
-pub record IsAtRun (packets : List FlowPacket) (x : WatchFlow) (now : RunSoFar) : Type 0 where
-  pub run_is : x.run ≡ now.run
-  pub first_is : (packet packets x.before).rec ≡ now.rec
-  pub since_is : now.whole ≡ false
-      → x.since ≡ (packet packets (last_told packets x.before (length packets - (x.before + 1)))).at
+-- before packet 0 there is no run
+pub record IsAtOpen (packets : List FlowPacket) (n : ℕ) (x : WatchFlow) : Type 0 where
+  pub none : n ≡ 0 → x.run ≡ 0
+  pub run : 0 < n → IsAtRun packets n x
 
--- before the first packet there is no run
-abbrev pub IsAtOpen : List FlowPacket → WatchFlow → Option RunSoFar → Type 0
-IsAtOpen packets x None = x.run ≡ 0
-IsAtOpen packets x (Some now) = IsAtRun packets x now
+-- what the output of the meters contains if lines were moved out of it, `gone`
+abbrev pub past_of : Watching → (gone : List ℕ) → PastLines
+past_of w gone = record { form = w.form; every = w.every; gone = gone }
 
--- the meters' part of the state, as long as no packet has a fault: the lines of complete stretches were moved out
-pub record IsGoing (w : Watching) (m : Media) (options : FlowOptions) (x : WatchFlow) (packets : List FlowPacket)
-    : Type 0 where
-  pub gone : List ℕ
-  pub fed : IsFed true MeterStandsFor Tells (record { form = w.form; every = w.every; gone = gone }) m
-      (key_of 0 w.form.media) options x.metered packets
-  pub open_is : IsAtOpen (numbered options.seq16 packets) x (open_run_of (numbered options.seq16 packets) m.pt)
-
--- exactly these packets of the flow of a media were taken, but for the lines that weren't moved yet
+-- exactly these packets of the flow of a media were taken, and the lines of complete stretches were moved
 pub record StandsFor (w : Watching) (m : Media) (options : FlowOptions) (x : WatchFlow) (packets : List FlowPacket)
     : Type 0 where
   pub media_is : x.media ≡ m
-  pub form_is : x.metered.out.form ≡ w.form
+  -- the lines that were moved
+  pub gone : List ℕ
+  pub fed : IsFed true MeterStandsFor Tells (past_of w gone) m (key_of 0 w.form.media) options x.metered packets
   pub moved : string_bytes x.metered.out.text ≡ []
-  pub judge_is : JudgeStandsFor m (key_of 0 w.form.media) options x.metered.judge packets
   pub refused_is : x.refused ≡ is_some (first_fault (numbered options.seq16 packets) m.pt)
-  pub going : x.refused ≡ false → IsGoing w m options x packets
+  pub open_is : x.refused ≡ false → IsAtOpen (numbered options.seq16 packets) (length packets) x
 
 -- these packet records were taken after those before, and the lines that they added were appended
 pub record Took (w : Watching) (m : Media) (options : FlowOptions) (old new : WatchFlow) (packets : List FlowPacket)

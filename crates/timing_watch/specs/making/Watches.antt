@@ -1,7 +1,6 @@
 -- The packet records that a `Watch` has taken, and the lines that were printed meanwhile.
 use Rattle.std.specs.Prelude.{◌≡◌, ◌≤◌, ◌<◌, ◌+◌, ℕ, ⊤, List, [], ◌∷◌, ◌++◌, length, string_bytes}
-use Rattle.std.specs.List.{AllZip}
-use Rattle.std.proofs.Common.{append-nil, append_assoc, ap, refl, subst, sym, ◌∙◌}
+use Rattle.std.proofs.Common.{append-nil, append_assoc, subst, sym}
 use Rattle.timing_base.specs.Captures.{Record}
 use Rattle.timing_base.specs.Jobs.{WatchJob}
 use Rattle.timing_base.specs.Media.{Media}
