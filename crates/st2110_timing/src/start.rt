@@ -62,6 +62,7 @@ pub(crate) fn start<
     G: Gate,
 >(rt: &R, shelf: &mut H, out: &mut K, err: &mut K, gate: &G) -> ExitCode
 where
+    R::File: Send,
     H::Source: Send,
     ensures started { IsStarted (seen_of H.Shelf shelf.old shelf.new)
         (output_of K.Sink out.old out.new)

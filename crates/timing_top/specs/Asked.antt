@@ -102,8 +102,8 @@ names_of (Some (request.Sdp job)) = job.sdp ∷ []
 names_of (Some (request.Help named)) = []
 names_of (Some command) = inputs_of (query_of command)
 
--- for `measure`, `series`, `page`, `explain` and `watch`: the job is within its limits, as that of every command line is.
--- For all but `watch` the contents are bytes too, as those of every file are
+-- for `measure`, `series`, `page`, `explain` and `watch`: the job is within its limits, as that of every command line
+-- is. For all but `watch` the contents are bytes too, as those of every file are
 abbrev pub MeasuresBytes : Option Request → List (List ℕ) → Type 0
 MeasuresBytes (Some (request.Measure job)) told = IsCaptureJob job × All AreBytes told
 MeasuresBytes (Some (request.Series job)) told = IsFlowJob job.flow × All AreBytes told

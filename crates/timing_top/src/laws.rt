@@ -52,9 +52,10 @@ pub fn plain_media_by_hand()
 ///
 /// `some`: if the contents of all inputs that the request names are known, and none is lacking, there is an answer. For
 /// `verify-report` this takes the contents of all its captures, though it reads only those that the violations of its
-/// report need. For `measure`, `series`, `page` and `watch` the contents have to be bytes, as those of all files are. `once`:
-/// there aren't two answers. `failed`: without an answer memory ran out, or the status names an input with a count of
-/// faults that rose.
+/// report need. For `measure`, `series`, `page` and `explain` the contents have to be bytes, as those of all files are,
+/// and for these and `watch` the job has to be within its limits, as that of every command line is. `once`: there
+/// aren't two answers. `failed`: without an answer memory ran out, or the status names an input with a count of faults
+/// that rose.
 pub fn one_answer()
     ensures some { (asked : Option Request) (texts : List ℕ → Option (List ℕ))
         (lacking : List ℕ → Bool) (before now : List ℕ → ℕ) (told : List (List ℕ))

@@ -6,6 +6,7 @@ ghost use Rattle.usage_hints.specs.Lines.{ends_line, is_line_byte};
 
 use crate::description::explained;
 use crate::escape::shown;
+use crate::joined::Refusal;
 use crate::sdp::expected;
 use crate::usage::{not_text_lines, usage_hint};
 use sdp_reader::SdpFault;
@@ -32,6 +33,8 @@ pub struct Ending<'a> {
     pub cause: Option<&'a str>,
     /// The contents of that input, if it is an invalid session description and could be read once more.
     pub contents: Option<&'a [u8]>,
+    /// Where flows of joined captures aren't judged any more, if the captures could be read once more.
+    pub refusals: &'a [Refusal<'a>],
 }
 
 /// Returns the session description of a request.
@@ -210,10 +213,42 @@ fn draft_of(request: &Request) -> Option<&FileName> {
     }
 }
 
-/// Returns the line about the end of a `scan --draft` without a video or over a malformed capture,
-/// or an empty text for another command, whose output gives the reason.
-fn unjudged_lines(alloc: Global, words: &[String]) -> Result<String, OutOfMemory> {
-    match read_words(alloc, words) {
+/// Returns the line that names the capture in which a flow of joined captures isn't judged any more.
+fn refusal_line(alloc: Global, refusal: &Refusal<'_>) -> Result<String, OutOfMemory> {
+    let shown = shown(alloc, refusal.capture)?;
+    let media = u64::from(refusal.media) + 1;
+    let (joined, record) = (refusal.joined, refusal.record);
+    let advice = if refusal.is_earlier {
+        "; expected the oldest capture first"
+    } else {
+        ""
+    };
+    format!(in alloc;
+        "{shown}: media {media} isn't judged; record {joined} is record {record} of this capture{advice}\n"
+    )
+}
+
+/// Returns the lines about flows of joined captures that aren't judged, as many as a hint can have.
+fn refusal_lines(alloc: Global, refusals: &[Refusal<'_>]) -> Result<String, OutOfMemory> {
+    let mut text = String::new(alloc);
+    for refusal in refusals {
+        let line = refusal_line(alloc, refusal)?;
+        if text.len().saturating_add(line.len()) > MOST {
+            return Ok(text);
+        }
+        text.push_str(line.as_str())?;
+    }
+    Ok(text)
+}
+
+/// Returns the lines about the end of a run without a verdict on every flow: of joined captures, or of
+/// a `scan --draft` without a video or over a malformed capture. Returns an empty text otherwise, as the
+/// output gives the reason.
+fn unjudged_lines(alloc: Global, ending: Ending<'_>) -> Result<String, OutOfMemory> {
+    if !ending.refusals.is_empty() {
+        return refusal_lines(alloc, ending.refusals);
+    }
+    match read_words(alloc, ending.words) {
         Ok(request) => match draft_of(&request) {
             Some(name) => draft_line(alloc, name.as_str()),
             None => Ok(String::new(alloc)),
@@ -228,7 +263,7 @@ fn lines(alloc: Global, ending: Ending<'_>) -> Result<String, OutOfMemory> {
     match (ending.status, ending.input) {
         (Status::Usage, _) if ending.are_text => usage_hint(alloc, ending.words),
         (Status::Usage, _) => not_text_lines(alloc),
-        (Status::NotAllJudged, _) => unjudged_lines(alloc, ending.words),
+        (Status::NotAllJudged, _) => unjudged_lines(alloc, ending),
         (_, Some(name)) => input_lines(alloc, ending, name),
         _ => Ok(String::new(alloc)),
     }

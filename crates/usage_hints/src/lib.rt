@@ -10,6 +10,7 @@ mod description;
 mod ending;
 mod escape;
 mod fault;
+mod joined;
 mod nearest;
 mod options;
 mod parts;
@@ -19,4 +20,5 @@ mod values;
 
 pub use ending::{Ending, hint, input_name};
 pub use escape::shown;
+pub use joined::{JoinedFlows, Refusal};
 pub use nearest::{nearest_command, nearest_first, nearest_option};

@@ -1,6 +1,6 @@
 //! The output of each command for the plain capture.
 
-use crate::call::{ONE_WAY, PASS, PLAIN, Row};
+use crate::call::{HEADER, NARROW, ONE_WAY, PASS, PLAIN, Row};
 
 pub const WINDOW_LINE: &str = "window --sdp p.sdp --media 1 a.pcap";
 
@@ -57,3 +57,32 @@ pub const FRAMES: Row = Row {
 };
 
 pub const PAGE_LINE: &str = "page --sdp p.sdp a.pcap";
+
+pub const EXPLAINED: Row = Row {
+    line: "explain --sdp p.sdp a.pcap",
+    out: &[
+        "1 239.0.0.1:50000 declared N class narrow: pass\n  pass: N passes: the bucket holds up to 1 of 4 packets, the buffer up to 1 of 8, and each packet could come 0.444 µs later.\n  unlocked: RTP timestamps differ from the media clock by 1663502088 ticks. No limit of ST 2110-21 depends on it.\n  do: lock the sender's RTP clock to PTP if receivers need it.\n",
+    ],
+    ..WINDOW
+};
+
+/// The line of the first frame that `watch` prints.
+pub const FIRST_FRAME: &str =
+    "1 run 1 frames 1 to 1 at 1600000000.019004000 bucket 1 of 4 4 16 gapped 1 to 1 late 0 linear 1 to 1 late 0 N broken 0 NL broken 0 W broken 0\n";
+
+/// That of the second.
+pub const SECOND_FRAME: &str =
+    "1 run 1 frames 2 to 2 at 1600000000.039004000 bucket 1 of 4 4 16 gapped 1 to 1 late 0 linear 1 to 1 late 0 N broken 0 NL broken 0 W broken 0\n";
+
+pub const WATCHED: Row = Row {
+    line: "watch --sdp p.sdp --every 1 a.pcap",
+    out: &[
+        FIRST_FRAME,
+        SECOND_FRAME,
+        "end\n",
+        HEADER,
+        NARROW,
+        "status 0\n",
+    ],
+    ..WINDOW
+};

@@ -4,7 +4,7 @@
 ghost use Rattle.std.specs.Prelude.{◌≡◌, IfSome};
 ghost use Rattle.timing_outside.specs.MemorySources.{faults_of, name_of};
 
-use super::plain::{FRAMES, LISTED, MEASURED, PACKETS, SHAPED, WINDOW};
+use super::plain::{EXPLAINED, FRAMES, LISTED, MEASURED, PACKETS, SHAPED, WATCHED, WINDOW};
 use crate::call::{Outcome, Row, Step, UntoldSource, WHOLE, Watch, answered, shelve};
 use std::process::Abort;
 use std::sync::Wait;
@@ -147,13 +147,25 @@ const SHAPED_ONCE: Changing = Changing {
     ..MEASURED_ONCE
 };
 
-static ONCE: [Changing; 6] = [
+const EXPLAINED_ONCE: Changing = Changing {
+    row: EXPLAINED,
+    ..MEASURED_ONCE
+};
+
+const WATCHED_ONCE: Changing = Changing {
+    row: WATCHED,
+    ..MEASURED_ONCE
+};
+
+static ONCE: [Changing; 8] = [
     MEASURED_ONCE,
     PACKETS_ONCE,
     FRAMES_ONCE,
     WINDOW_ONCE,
     LISTED_ONCE,
     SHAPED_ONCE,
+    EXPLAINED_ONCE,
+    WATCHED_ONCE,
 ];
 
 #[test]

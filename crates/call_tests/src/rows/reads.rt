@@ -1,6 +1,8 @@
 //! Reads of a capture or a report that fail, for each command except `check`.
 
-use super::plain::{FRAMES, LISTED, MEASURED, PACKETS, WINDOW};
+use super::plain::{
+    EXPLAINED, FIRST_FRAME, FRAMES, LISTED, MEASURED, PACKETS, SECOND_FRAME, WATCHED, WINDOW,
+};
 use crate::call::{ONE_WAY, PASS, Reads, Row, Step, WHOLE, hold};
 use std::sync::Wait;
 use std::test::Fail;
@@ -58,6 +60,57 @@ static SERIES_FAILS_LATER: [Row; 2] = [
 #[test]
 fn series_failing_reads_later(rt: HostRuntime) -> Result<(), Fail> {
     hold(&rt, &SERIES_FAILS_LATER)
+}
+
+#[test]
+fn explain_failing_reads(rt: HostRuntime) -> Result<(), Fail> {
+    EXPLAINED.fails_by_reads(&rt, 30, 1000)
+}
+
+// A read fails before the end of the first frame, at byte 1,536: nothing is printed.
+#[test]
+fn watch_failing_reads(rt: HostRuntime) -> Result<(), Fail> {
+    WATCHED.fails_by_reads(&rt, 16, 1000)
+}
+
+// A read fails behind the first frame: its line is printed.
+const WATCH_FAILS_BEHIND_FRAME: Row = Row {
+    reads: Reads {
+        piece: 100,
+        fail: 17,
+        ..WHOLE
+    },
+    status: Status::ReadFault(Input::Capture(0)),
+    out: &[FIRST_FRAME],
+    err: "read fault: capture 1\n",
+    ..WATCHED
+};
+
+// The 30th read has the last bytes, from 2,900 on, and the 31st finds the end of the capture.
+static WATCH_FAILS_LATER: [Row; 3] = [
+    WATCH_FAILS_BEHIND_FRAME,
+    Row {
+        reads: Reads {
+            piece: 100,
+            fail: 30,
+            ..WHOLE
+        },
+        ..WATCH_FAILS_BEHIND_FRAME
+    },
+    Row {
+        reads: Reads {
+            piece: 100,
+            fail: 31,
+            ..WHOLE
+        },
+        out: &[FIRST_FRAME, SECOND_FRAME],
+        ..WATCH_FAILS_BEHIND_FRAME
+    },
+];
+
+#[test]
+fn watch_failing_reads_later(rt: HostRuntime) -> Result<(), Fail> {
+    hold(&rt, &WATCH_FAILS_LATER)
 }
 
 const SCANNED: Row = Row {

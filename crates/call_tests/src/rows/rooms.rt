@@ -1,6 +1,6 @@
 //! Standard output without room for the whole output, for each command except `check`.
 
-use super::plain::{MEASURED, PACKETS, PAGE_LINE};
+use super::plain::{EXPLAINED, MEASURED, PACKETS, PAGE_LINE, WATCHED};
 use crate::call::{ONE_WAY, PASS, Row, SINKS, Sinks, hold};
 use std::test::Fail;
 use timing_report::Status;
@@ -52,6 +52,48 @@ static PAGE_WITHOUT_ROOM: Row = Row {
 #[test]
 fn page_without_room(rt: HostRuntime) -> Result<(), Fail> {
     PAGE_WITHOUT_ROOM.holds(&rt)
+}
+
+static EXPLAIN_WITHOUT_ROOM: Row = Row {
+    sinks: Sinks { room: 17, ..SINKS },
+    status: Status::WriteFault,
+    out: &["1 239.0.0.1:50000"],
+    err: "write fault\n",
+    ..EXPLAINED
+};
+
+#[test]
+fn explain_without_room(rt: HostRuntime) -> Result<(), Fail> {
+    EXPLAIN_WITHOUT_ROOM.holds(&rt)
+}
+
+// The write of the first line fails, of the second, or of the report. A prefix of the text is written.
+const WATCH_WITHOUT_ROOM_FIRST: Row = Row {
+    sinks: Sinks { room: 8, ..SINKS },
+    status: Status::WriteFault,
+    err: "write fault\n",
+    ..WATCHED
+};
+
+const WATCH_WITHOUT_ROOM_SECOND: Row = Row {
+    sinks: Sinks { room: 200, ..SINKS },
+    ..WATCH_WITHOUT_ROOM_FIRST
+};
+
+const WATCH_WITHOUT_ROOM_REPORT: Row = Row {
+    sinks: Sinks { room: 400, ..SINKS },
+    ..WATCH_WITHOUT_ROOM_FIRST
+};
+
+static WATCH_WITHOUT_ROOM: [Row; 3] = [
+    WATCH_WITHOUT_ROOM_FIRST,
+    WATCH_WITHOUT_ROOM_SECOND,
+    WATCH_WITHOUT_ROOM_REPORT,
+];
+
+#[test]
+fn watch_without_room(rt: HostRuntime) -> Result<(), Fail> {
+    hold(&rt, &WATCH_WITHOUT_ROOM)
 }
 
 // No file is fetched.
