@@ -4,7 +4,7 @@
 //! standard streams, and a gate that is always open.
 #![tactic(auto)]
 
-mod explain;
+mod ending;
 mod start;
 mod stream;
 

@@ -8,7 +8,7 @@ ghost use Rattle.timing_steps.specs.Answers.{seen_of};
 ghost use Rattle.timing_steps.specs.Ran.{TellsLine, output_of};
 ghost use Rattle.st2110_timing.specs.Started.{IsStarted};
 
-use crate::explain::{Causes, explain_status};
+use crate::ending::{Causes, explain_status};
 use std::alloc::AllocError as OutOfMemory;
 use std::env;
 use std::io::ErrorKind;

@@ -278,8 +278,18 @@ fn line_text<'a>(lines: &[Line<'a>], number: u32) -> Option<&'a [u8]> {
     None
 }
 
+/// Returns whether contents begin as a capture does: with the magic number of pcap in either byte order,
+/// with microseconds or nanoseconds, or that of pcapng.
+fn is_capture(contents: &[u8]) -> bool {
+    contents.starts_with(b"\xa1\xb2\xc3\xd4")
+        || contents.starts_with(b"\xd4\xc3\xb2\xa1")
+        || contents.starts_with(b"\xa1\xb2\x3c\x4d")
+        || contents.starts_with(b"\x4d\x3c\xb2\xa1")
+        || contents.starts_with(b"\x0a\x0d\x0d\x0a")
+}
+
 /// Returns the text about the fault of a session description with these contents: the invalid line, and
-/// what is wrong on it. Returns `Err` if memory runs out.
+/// what is wrong on it, or that it is a capture. Returns `Err` if memory runs out.
 pub(crate) fn explained(
     alloc: Global,
     contents: &[u8],
@@ -287,6 +297,12 @@ pub(crate) fn explained(
 ) -> Result<String, OutOfMemory> {
     if contents.len() > LARGEST {
         return String::from_str(alloc, expected(fault.what));
+    }
+    if is_capture(contents) {
+        return String::from_str(
+            alloc,
+            "it begins as a capture does; expected a session description",
+        );
     }
     let lines = read_lines(alloc, contents)?;
     let wrong = wrong(alloc, lines.as_slice(), fault)?;
