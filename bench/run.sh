@@ -85,9 +85,15 @@ commands=(
     [list]="$program shape --list --sdp one_flow.sdp --media 1 --type N one_flow.pcap"
     [shape]="$program shape --sdp one_flow.sdp --media 1 --type N one_flow.pcap"
     [skew]="$program skew --sdp one_flow.sdp --media 1 --pair 1 one_flow.pcap one_flow.pcap"
+    [measure]="$program measure --sdp one_flow.sdp one_flow.pcap"
+    [page]="$program page --sdp one_flow.sdp one_flow.pcap"
+    [explain]="$program explain --sdp one_flow.sdp one_flow.pcap"
+    [watch]="$program watch --sdp one_flow.sdp one_flow.pcap"
 )
-time_in_turn check pcapng window list shape skew
-for name in pcapng window list shape skew; do
+others='pcapng window list shape skew measure page explain watch'
+# shellcheck disable=SC2086
+time_in_turn check $others
+for name in $others; do
     printf '%-14s %9s of check --serial\n' "$name" "$(ratio "${least[$name]}" "${least[check]}")"
 done
 
@@ -97,8 +103,12 @@ if command -v valgrind > /dev/null; then
         for frames in 4 8; do
             [ -s "$kind$frames.pcap" ] || ./capture -f "$frames" -b 64 -k "$kind" "$kind$frames.pcap" "$kind$frames.sdp"
         done
-        few=$(instructions_of "$program" check --serial --sdp "${kind}4.sdp" "${kind}4.pcap")
-        many=$(instructions_of "$program" check --serial --sdp "${kind}8.sdp" "${kind}8.pcap")
-        printf '%-14s %9s instructions a packet\n' "$kind" "$(ratio "$((${many//,/} - ${few//,/}))" $((4 * 4320)))"
+        for command in 'check --serial' explain watch; do
+            # shellcheck disable=SC2086
+            few=$(instructions_of "$program" $command --sdp "${kind}4.sdp" "${kind}4.pcap")
+            # shellcheck disable=SC2086
+            many=$(instructions_of "$program" $command --sdp "${kind}8.sdp" "${kind}8.pcap")
+            printf '%-14s %-14s %9s instructions a packet\n' "$kind" "$command" "$(ratio "$((${many//,/} - ${few//,/}))" $((4 * 4320)))"
+        done
     done
 fi

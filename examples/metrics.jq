@@ -21,7 +21,7 @@ def metrics:
   metric("broken_frames"; "gauge"; "Frames of the run so far that break a sender type.";
     .broken // {} | to_entries[] | ",type=\"\(.key)\"} \(.value)"),
   metric("bucket_packets"; "gauge"; "Greatest count of the bucket in the last line."; .bucket // empty | "} \(.)"),
-  metric("last_frame_seconds"; "gauge"; "Capture timestamp of the last line."; .stamp // empty | "} \(. / 1000000000)"),
+  metric("last_frame_seconds"; "gauge"; "Capture timestamp of the last line."; .stamp // empty | "} \((. / 1000000 | floor) / 1000)"),
   metric("gaps_total"; "counter"; "Gaps in the packet numbers."; "} \(.gaps)"),
   metric("refused"; "gauge"; "1 if the flow is not judged any more."; "} \(.refused)");
 
