@@ -15,7 +15,7 @@ use timing_words::{Request, WordFault, read_words};
 use usage_hints::{Ending, JoinedFlows, Refusal, hint, input_name};
 
 /// The greatest size of joined captures that are read once more, in bytes of all of them.
-const MOST: u64 = 1_073_741_824;
+const MOST: u64 = 17_179_869_184;
 
 /// What keeps for a name why it couldn't be opened or read.
 pub(crate) trait Causes {
@@ -73,7 +73,7 @@ fn is_read_again<R: Files>(rt: &R, name: &str) -> bool {
     }
 }
 
-/// Returns whether these captures are regular files, with at most 1,073,741,824 bytes in all.
+/// Returns whether these captures are regular files, with at most 17,179,869,184 bytes in all.
 fn are_read_again<R: Files>(rt: &R, captures: &[FileName]) -> bool {
     let mut room = MOST;
     for capture in captures {

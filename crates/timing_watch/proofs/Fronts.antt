@@ -11,7 +11,7 @@ use Rattle.timing_watch.specs.Watched.{is_second_later, last_told}
 use Rattle.timing_watch.specs.making.Flows.{IsAtOpen, IsAtRun}
 use Rattle.timing_watch.specs.declared.flow.WatchFlow.{WatchFlow}
 
-packet-front : (packets more : List FlowPacket) (i : ℕ) → i < length packets → packet (packets ++ more) i ≡ packet packets i
+pub packet-front : (packets more : List FlowPacket) (i : ℕ) → i < length packets → packet (packets ++ more) i ≡ packet packets i
 packet-front packets more i few = get_or_append_left packets more no_packet i few
 
 cut-front : (packets more : List FlowPacket) (i : ℕ) → i < length packets → is_cut (packets ++ more) i ≡ is_cut packets i
@@ -30,11 +30,11 @@ places-same test other from (suc n) same =
     let before = places-same test other from n (λ i few. same i (omega (arith, few))) in
     ap₂ (λ xs b. xs ++ (if nat_le from n && b then n ∷ [] else [])) before (same n (omega arith))
 
-cuts-front : (packets more : List FlowPacket) (n : ℕ) → n ≤ length packets → cuts (packets ++ more) n ≡ cuts packets n
+pub cuts-front : (packets more : List FlowPacket) (n : ℕ) → n ≤ length packets → cuts (packets ++ more) n ≡ cuts packets n
 cuts-front packets more n few =
     places-same (is_cut (packets ++ more)) (is_cut packets) 0 n (λ i low. cut-front packets more i (omega (arith, low, few)))
 
-markers-front : (packets more : List FlowPacket) (from n : ℕ) → n ≤ length packets → markers (packets ++ more) from n ≡ markers packets from n
+pub markers-front : (packets more : List FlowPacket) (from n : ℕ) → n ≤ length packets → markers (packets ++ more) from n ≡ markers packets from n
 markers-front packets more from n few =
     places-same (has_marker (packets ++ more)) (has_marker packets) from n (λ i low. marker-front packets more i (omega (arith, low, few)))
 

@@ -20,14 +20,14 @@ use Rattle.flow_watch.specs.Watched.{groups_in, open_part}
 -- ---- the open part of a run, by its markers
 
 -- the judged packets of a run with these markers
-abbrev judged_by : List FlowPacket → List ℕ → List FlowPacket
+abbrev pub judged_by : List FlowPacket → List ℕ → List FlowPacket
 judged_by packets marks = slice_range packets (slice_index marks 0 + 1) (last_place marks + 1)
 
 -- its open part before packet `to`
-abbrev open_marked : (number : ℕ) → FlowPacket → List FlowPacket → (shift : Shift) (from to : ℕ) → List ℕ → Option OpenPart
+abbrev pub open_marked : (number : ℕ) → FlowPacket → List FlowPacket → (shift : Shift) (from to : ℕ) → List ℕ → Option OpenPart
 open_marked number first packets shift from to marks = open_by number first (judged_by packets marks) (outcome_of (so_far_by packets shift from to marks))
 
-open-marks : (number : ℕ) (first : FlowPacket) (packets : List FlowPacket) (shift : Shift) (from to : ℕ) → to ≤ length packets
+pub open-marks : (number : ℕ) (first : FlowPacket) (packets : List FlowPacket) (shift : Shift) (from to : ℕ) → to ≤ length packets
     → open_by number first (judged_packets packets from to) (run_outcome packets shift from to)
     ≡ open_marked number first packets shift from to (markers packets from to)
 open-marks number first packets shift from to within =
