@@ -26,8 +26,8 @@ expected_of judge = option_map (own_of judge.counting) (state_expects judge.stat
 abbrev pub IsSpent : {M : Type 0} → FlowJudge M → Type 0
 IsSpent judge = judge.state ≡ Spent
 
--- the judge of the flow with this key, this media and these options was fed exactly these packets, as far as later calls
--- depend on it
+-- the judge of the flow with this key, this media and these options was fed exactly these packets, as far as later
+-- calls depend on it
 pub record StandsFor {M : Type 0} (m : Media) (key : FlowKey) (options : FlowOptions) (judge : FlowJudge M)
     (packets : List FlowPacket) : Type 0 where
   pub key_is : judge.key ≡ key

@@ -1,5 +1,5 @@
--- The text that the takers of flows made and not moved yet. `text` is that of a taker, and `moves` is whether it was moved
--- out of the first, which became the second by nothing else.
+-- The text that the takers of flows made and not moved yet. `text` is that of a taker, and `moves` is whether it was
+-- moved out of the first, which became the second by nothing else.
 use Rattle.std.specs.Prelude.{◌≡◌, ℕ, List}
 use Rattle.std.specs.List.{AllZip, flat_map}
 use Rattle.flow_demux.specs.declared.media_flow.MediaFlow.{MediaFlow}

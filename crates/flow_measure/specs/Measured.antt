@@ -1,5 +1,5 @@
--- The measurements of the judged runs of a flow. Capture timestamps are nanoseconds of TAI, after the shift of the flow.
--- Runs and packet records count from 1. This project's profile.
+-- The measurements of the judged runs of a flow. Capture timestamps are nanoseconds of TAI, after the shift of the
+-- flow. Runs and packet records count from 1. This project's profile.
 use Rattle.std.specs.Prelude.{◌≡◌, ℕ, ⊤, List, [], ◌∷◌, map, Option, Some, None}
 use Rattle.timing_base.specs.Shifts.{Shift}
 use Rattle.timing_base.specs.Flows.{read_or_zeros}

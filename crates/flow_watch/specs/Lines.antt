@@ -50,7 +50,8 @@ broken_text k =
 abbrev pub place_text : LineForm → Stretch → List ℕ
 place_text form s =
     decimal (form.media + 1) ++ (codes " run " ++ (decimal s.run ++ (codes " " ++ (group_name form.interlaced
-    ++ (codes "s " ++ (decimal s.from ++ (codes " to " ++ (decimal s.to ++ (codes " at " ++ seconds_text s.stamp)))))))))
+    ++ (codes "s " ++ (decimal s.from ++ (codes " to " ++ (decimal s.to ++ (codes " at "
+    ++ seconds_text s.stamp)))))))))
 
 -- the line of a stretch, without its end
 abbrev pub stretch_text : LineForm → Stretch → List ℕ

@@ -60,7 +60,8 @@ stretch_object form s =
 abbrev pub gap_object : LineForm → Gap → List ℕ
 gap_object form gap =
     codes "{\"event\":\"gap\",\"expected\":" ++ (decimal gap.expected ++ (codes ",\"got\":" ++ (decimal gap.got
-    ++ (codes ",\"media\":" ++ (decimal (form.media + 1) ++ (codes ",\"record\":" ++ (decimal gap.rec ++ codes "}")))))))
+    ++ (codes ",\"media\":" ++ (decimal (form.media + 1) ++ (codes ",\"record\":"
+    ++ (decimal gap.rec ++ codes "}")))))))
 
 -- a run without a complete frame or field
 abbrev pub waiting_object : LineForm → Waiting → List ℕ

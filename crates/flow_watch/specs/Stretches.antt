@@ -1,8 +1,8 @@
 -- The numbers of a stretch of the frames or fields of a judged run, against the two models of SMPTE ST 2110-21. m is
--- the video, `number` that of the run among all runs of its flow, from 1, and n the packets per frame or field. `stamps`
--- are the capture timestamps of the judged packets of the run so far, in nanoseconds of TAI. Here packets, frames and
--- fields count from 0: a stretch begins with frame or field `from` and ends before `to`. The other numbers are packets,
--- frames or fields. This project's profile: which numbers a stretch has.
+-- the video, `number` that of the run among all runs of its flow, from 1, and n the packets per frame or field.
+-- `stamps` are the capture timestamps of the judged packets of the run so far, in nanoseconds of TAI. Here packets,
+-- frames and fields count from 0: a stretch begins with frame or field `from` and ends before `to`. The other numbers
+-- are packets, frames or fields. This project's profile: which numbers a stretch has.
 use Rattle.std.specs.Prelude.{◌≡◌, ◌≤◌, ◌<◌, ◌+◌, ◌-◌, ◌*◌, ℕ, ℤ, pos, Bool, true, false, List, slice_index}
 use Rattle.timing_base.specs.Media.{Media}
 use Rattle.timing_base.specs.declared.media.Kind.TheVariants.{N, NL, W}

@@ -1,9 +1,9 @@
 -- The lines of the stretches of a flow's judged runs. m is the video, `shift` that of the capture timestamps, `form`
--- the media and how lines are written, and `every` the frames or fields of a complete stretch. Each run begins a stretch
--- of its own; when a run ends, what is left of its last stretch has a line too. Frames and fields count from 0 here.
--- This project's profile: which stretches there are.
-use Rattle.std.specs.Prelude.{◌≡◌, ◌<◌, ◌+◌, ◌-◌, ◌*◌, ◌/◌, ◌%◌, ℕ, zero, suc, List, [], ◌∷◌, ◌++◌, length, Option, Some}
-use Rattle.std.specs.Prelude.{None, string_bytes}
+-- the media and how lines are written, and `every` the frames or fields of a complete stretch. Each run begins a
+-- stretch of its own; when a run ends, what is left of its last stretch has a line too. Frames and fields count from 0
+-- here. This project's profile: which stretches there are.
+use Rattle.std.specs.Prelude.{◌≡◌, ◌<◌, ◌+◌, ◌-◌, ◌*◌, ◌/◌, ◌%◌, ℕ, zero, suc, List, [], ◌∷◌, ◌++◌, length, Option}
+use Rattle.std.specs.Prelude.{Some, None, string_bytes}
 use Rattle.std.specs.Int.{div_ceil}
 use Rattle.std.proofs.Common.{append-nil, ap, refl, subst, sym, ◌∙◌}
 use Rattle.std.proofs.Math.Nat.{zero-div, zero-mod}

@@ -38,7 +38,8 @@ pub record Keeps (pt : ℕ) (shift : Shift) (packets : List FlowPacket) (i : ℕ
     pub sized : IsSized i (markers packets (last_place (0 ∷ places)) i)
     pub rising : (j k : ℕ) → j ≤ k → k < i → (packet packets j).at ≤ (packet packets k).at
     -- the capture timestamps of the open run
-    pub kept : (m : Marks) → w.marks ≡ Some m → AreKept w.asked w.cuts (stamp_behind packets m.first) (i - (m.first + 1))
+    pub kept : (m : Marks) → w.marks ≡ Some m
+        → AreKept w.asked w.cuts (stamp_behind packets m.first) (i - (m.first + 1))
     -- the runs that have ended
     pub done : List FlowRun
     pub runs : (to : ℕ) → runs_between packets shift to 0 places

@@ -91,7 +91,8 @@ NameFirst m n stamps (narrow ∷ narrow_linear ∷ wide ∷ []) =
 NameFirst m n stamps _ = ⊥
 
 -- `values` is a result of run r with these judged packets
-pub record IsJudgedOf (m : Media) (shift : Shift) (r : RunOf) (packets : List FlowPacket) (values : Judged) : Type 0 where
+pub record IsJudgedOf (m : Media) (shift : Shift) (r : RunOf) (packets : List FlowPacket) (values : Judged) :
+    Type 0 where
   pub n_is : values.n ≡ r.n
   pub some : 1 ≤ values.frames
   pub whole : length packets ≡ r.n * values.frames

@@ -59,7 +59,8 @@ buffer_peak judged W = judged.linear_peak
 abbrev pub AreOfSession : List Media → List Row → Type 0
 AreOfSession session rows = All (λ row. row.key.media < length session) rows
 
--- the flows of a job: every media of every capture, or the chosen one; for joined captures every media once, with file 0
+-- the flows of a job: every media of every capture, or the chosen one; for joined captures every media once, with
+-- file 0
 abbrev pub flows_of : CheckJob → List Media → List FlowKey
 flows_of job session = keys_chosen job.media job.joined (length job.captures) session
 
