@@ -1,0 +1,13 @@
+use Rattle.std.proofs.Common.{rules, subst}
+use Rattle.std.specs.Prelude.{All}
+use Rattle.measure_reader.specs.Fits.{IsWord}
+use Rattle.measure_reader.proofs.limits.bins_fit.Goals as goal
+
+pub returns : goal.returns
+returns c = record {
+  above = search rules;
+  below = search rules;
+  counts = subst (All IsWord) c.counts.ensures.value c.words_fit.ensures;
+  limit = search rules;
+  width = search rules;
+}

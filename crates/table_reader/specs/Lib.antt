@@ -1,0 +1,3 @@
+-- the definitions that the public clauses cite
+pub mod Fits
+pub mod Rows
