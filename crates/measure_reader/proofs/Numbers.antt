@@ -16,7 +16,8 @@ use Rattle.flow_measure.specs.report.Told.{ToldGaps}
 use Rattle.report_reader.specs.Pieces.{after, begins_with_digit, either, number}
 use Rattle.report_reader.proofs.Numbers.{begins_decimal, both_true, number_back}
 use Rattle.table_reader.proofs.Fields.{signed_back}
-use Rattle.measure_reader.specs.Fits.{FitsBuffer, FitsGaps, FitsSummary, IsWord}
+use Rattle.measure_reader.specs.Fits.{FitsBuffer, FitsGaps, FitsSummary}
+use Rattle.table_reader.specs.Fits.{IsWord}
 use Rattle.measure_reader.specs.Reading.{buffer, counts, gap_or_none, level, more_counts, step_or_none, summary, summary_and_target, summary_front}
 use Rattle.measure_reader.specs.Told.{ReadBuffer, ReadGap, ReadLevel, ReadStep, ReadSummary, buffer_read, gap_read, level_read, step_read, summary_read}
 

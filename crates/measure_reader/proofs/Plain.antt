@@ -7,7 +7,8 @@ use Rattle.std.proofs.lemmas.List.Elements.{All-cons}
 use Rattle.flow_measure.specs.report.Examples.{kept, one_held, ones_to, bins_within, plain_flow, plain_gaps, plain_numbers, plain_run, zeros}
 use Rattle.flow_measure.specs.report.Told.{ToldBins, ToldKind}
 use Rattle.report_reader.proofs.Numbers.{both_true}
-use Rattle.measure_reader.specs.Fits.{FitsBins, FitsBuffer, FitsFlow, FitsGaps, FitsNumbers, FitsRun, FitsToldKind, IsWord}
+use Rattle.measure_reader.specs.Fits.{FitsBins, FitsBuffer, FitsFlow, FitsGaps, FitsNumbers, FitsRun, FitsToldKind}
+use Rattle.table_reader.specs.Fits.{IsWord}
 
 none : {X : Type 0} (P : X → Type 0) → All P []
 none P = λ k d l. absurd (omega (arith, l))

@@ -19,7 +19,8 @@ use Rattle.flow_measure.specs.report.Json.{bins_text, kind_text, kinds_text, mem
 use Rattle.flow_measure.specs.report.Told.{ToldBins, ToldKind, ToldOffsets, ToldPlace}
 use Rattle.report_reader.specs.Pieces.{after}
 use Rattle.report_reader.proofs.Numbers.{number_back}
-use Rattle.measure_reader.specs.Fits.{FitsBins, FitsOffsets, FitsPlace, FitsToldKind, IsWord}
+use Rattle.measure_reader.specs.Fits.{FitsBins, FitsOffsets, FitsPlace, FitsToldKind}
+use Rattle.table_reader.specs.Fits.{IsWord}
 use Rattle.measure_reader.specs.Reading.{bins, breaks, kind, kinds, member_or_none, outcome, place_or_none, proof, window}
 use Rattle.measure_reader.specs.Told.{ReadBins, ReadKind, bins_read, kind_read, kinds_read, place_read}
 use Rattle.measure_reader.proofs.Numbers.{counts_back}

@@ -1,8 +1,7 @@
 -- Measurements of a judged flow whose numbers are those of their types, as all have: those without a sign have 64 bits,
 -- those with one 128. There are three sender types.
-use Rattle.std.specs.Prelude.{◌≡◌, ◌<◌, ◌^◌, ℕ, ℤ, length, All}
+use Rattle.std.specs.Prelude.{◌≡◌, ◌<◌, ◌^◌, ℕ, length, All}
 use Rattle.std.specs.Option.{IfSome}
-use Rattle.std.specs.Int.Signed.{mag}
 use Rattle.timing_base.specs.Verdicts.{Judged}
 use Rattle.timing_base.specs.declared.media.Kind.TheVariants.{N, NL, W}
 use Rattle.timing_report.specs.Outcomes.{verdict_on}
@@ -11,14 +10,7 @@ use Rattle.flow_measure.specs.declared.numbers.Buffer.{Buffer}
 use Rattle.flow_measure.specs.declared.summary.Summary.{Summary}
 use Rattle.flow_measure.specs.report.Told.{ToldBins, ToldFlow, ToldGaps, ToldKind, ToldNumbers, ToldOffsets, ToldPlace}
 use Rattle.flow_measure.specs.report.Told.{ToldRun}
-
--- a number without a sign
-abbrev pub IsWord : ℕ → Type 0
-IsWord n = n < 2 ^ 64
-
--- a number with a sign
-abbrev pub IsSigned : ℤ → Type 0
-IsSigned z = mag z < 2 ^ 127
+use Rattle.table_reader.specs.Fits.{IsSigned, IsWord}
 
 -- a summary
 pub record FitsSummary (s : Summary) : Type 0 where

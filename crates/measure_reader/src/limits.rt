@@ -6,7 +6,8 @@ ghost use Rattle.std.specs.Prelude.{◌<◌, ◌^◌, All, map};
 ghost use Rattle.flow_measure.specs.report.Told.{bins_told, flow_told, gaps_told, kind_told, numbers_told, offsets_told};
 ghost use Rattle.flow_measure.specs.report.Told.{place_told, run_told};
 ghost use Rattle.measure_reader.specs.Fits.{FitsBins, FitsBuffer, FitsFlow, FitsGaps, FitsNumbers, FitsOffsets};
-ghost use Rattle.measure_reader.specs.Fits.{FitsPlace, FitsRun, FitsSummary, FitsToldKind, IsWord};
+ghost use Rattle.measure_reader.specs.Fits.{FitsPlace, FitsRun, FitsSummary, FitsToldKind};
+ghost use Rattle.table_reader.specs.Fits.{IsWord};
 
 use flow_measure::{
     Bins, Buffer, Gaps, KindNumbers, MeasuredFlow, MeasuredRun, Place, RunNumbers, Summary,

@@ -1,5 +1,6 @@
--- The reader of the tables of `series` (RFC 4180): a header, and a row for each packet, or for each frame or field. A
--- reader of a piece is given what is to be done with its value and the text after it, as in `Pieces` of `report_reader`.
+-- The reader of the tables of `series` (RFC 4180): a header, and a row for each packet, or for each frame or field.
+-- A reader of a piece is given what is to be done with its value and the text after it, as in `Pieces` of
+-- `report_reader`.
 use Rattle.std.specs.Prelude.{ℕ, zero, suc, ℤ, negsuc, pos, List, [], ◌∷◌, length, Option, Some, None, codes}
 use Rattle.std.specs.Prelude.{option_map}
 use Rattle.flow_measure.specs.declared.report.rows.GroupRow.{GroupRow}

@@ -1,6 +1,6 @@
 use Rattle.std.proofs.Common.{rules, subst}
 use Rattle.std.specs.Prelude.{All}
-use Rattle.measure_reader.specs.Fits.{IsWord}
+use Rattle.table_reader.specs.Fits.{IsWord}
 use Rattle.measure_reader.proofs.limits.gaps_fit.Goals as goal
 
 pub returns : goal.returns
